@@ -1,0 +1,10 @@
+pub mod Held
+pub mod KindNames
+pub mod Limits
+pub mod Names
+pub mod Order
+pub mod Roster
+pub mod SignalWords
+pub mod SizeText
+pub mod SplitName
+pub mod TruthWords

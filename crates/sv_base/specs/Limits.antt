@@ -1,0 +1,13 @@
+use Rattle.std.specs.Prelude.{ℕ}
+
+-- the last moment, in milliseconds since 1970-01-01 00:00:00 UTC
+abbrev pub moment_limit : ℕ
+moment_limit = 253000000000000
+
+-- the last deadline: the last moment and the longest wait
+abbrev pub deadline_limit : ℕ
+deadline_limit = 253001000001000
+
+-- the most bytes of one piece of a pipe or a link
+abbrev pub piece_limit : ℕ
+piece_limit = 65536

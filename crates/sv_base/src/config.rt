@@ -1,0 +1,81 @@
+use crate::bytes::Bytes;
+use crate::groups::Groups;
+use crate::items::Items;
+use crate::moment::Moment;
+use crate::spec::LogSpec;
+use crate::state::Level;
+use crate::text::Text;
+
+/// Where a server listens: a host, empty for all interfaces, with a port from 1 on; or the path of a socket.
+#[derive(Debug, Drop)]
+pub enum Place {
+    Inet(Text, u16),
+    Unix(Text),
+}
+
+/// The password that a server asks for, plain or as the SHA-1 of it.
+#[derive(Debug, Drop)]
+pub enum Password {
+    None,
+    Plain(Text),
+    Sha([u8; 20]),
+}
+
+/// A server of the daemon.
+#[derive(Debug, Drop)]
+pub struct ServerSpec {
+    pub place: Place,
+    /// Empty where none is asked for.
+    pub username: Text,
+    pub password: Password,
+}
+
+/// What the client is told of the daemon's server.
+#[derive(Debug, Drop)]
+pub struct ClientSpec {
+    pub url: Text,
+    pub username: Text,
+    pub password: Text,
+}
+
+/// A whole configuration.
+#[derive(Debug, Drop)]
+pub struct Config {
+    /// The name by which the daemon calls itself.
+    pub identifier: Text,
+    /// The main log.
+    pub main: LogSpec,
+    /// Lines of the main log below this level aren't written.
+    pub level: Level,
+    /// The groups in start order.
+    pub groups: Groups,
+    /// The servers in the order of the text.
+    pub servers: Items<ServerSpec>,
+    /// What the client reads.
+    pub client: ClientSpec,
+    /// Whether the methods of `supervisor` are served.
+    pub rpc: bool,
+}
+
+/// The machine that the daemon runs on, as it was when the daemon began.
+#[derive(Debug, Drop)]
+pub struct Host {
+    pub name: Text,
+    /// The directory of the configuration file.
+    pub here: Text,
+    /// The daemon's own process number.
+    pub pid: u32,
+    /// The daemon's environment.
+    pub environment: Items<(Text, Text)>,
+    /// When the daemon began.
+    pub start: Moment,
+}
+
+/// One step in the keeping of a log: bytes added at a file's end, a file renamed over another, a file made
+/// empty.
+#[derive(Debug, Drop)]
+pub enum FileOrder {
+    Append(Text, Bytes),
+    Shift(Text, Text),
+    Fresh(Text),
+}
