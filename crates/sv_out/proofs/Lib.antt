@@ -1,0 +1,2 @@
+mod ListReads
+mod Wrote

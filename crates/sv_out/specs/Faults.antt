@@ -1,0 +1,11 @@
+-- The count of faults that each object of the outside keeps.
+use Rattle.std.specs.Prelude.{ℕ, ◌+◌, ◌-◌, ◌^◌, ◌≤◌, min, OnErr, Result}
+
+-- the count went up, or stands at the end of its range
+abbrev pub Rose : ℕ → ℕ → Type 0
+Rose before now = min (before + 1) (2 ^ 64 - 1) ≤ now
+
+-- the count never falls, and an error comes only where it rose
+pub record HasCause {A E : Type 0} (before now : ℕ) (result : Result A E) : Type 0 where
+  pub later : before ≤ now
+  pub failed : OnErr result (Rose before now)
