@@ -1,0 +1,2 @@
+pub mod CoverCases
+pub mod Lines

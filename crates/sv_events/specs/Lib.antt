@@ -1,0 +1,4 @@
+pub mod Covers
+pub mod EventText
+pub mod OneLine
+pub mod TickSlice
