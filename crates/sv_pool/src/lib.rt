@@ -1,0 +1,9 @@
+//! The event pools of the manual's chapter on events: each event that a pool takes waits, is held by a listener, and is
+//! acknowledged or goes back to the front. An event that a full buffer drops is reported, so none is lost unseen.
+#![tactic(auto)]
+
+pub mod account;
+pub mod pool;
+pub mod taken;
+#[cfg(test)]
+mod tests;
