@@ -1,0 +1,3 @@
+pub mod MainLine
+pub mod Rotation
+pub mod Spans
