@@ -1,0 +1,4 @@
+pub mod Boundaries
+pub mod Index
+pub mod LineCuts
+pub mod Places

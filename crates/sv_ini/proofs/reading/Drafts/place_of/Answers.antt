@@ -1,0 +1,19 @@
+use Rattle.std.proofs.Common.{◌≡◌, ℕ, length, Option, sym, ap, ◌∙◌}
+use Rattle.std.specs.List.{position}
+use Rattle.std.specs.Option.{unwrap_or}
+use Rattle.std.specs.Prelude.{None}
+use Rattle.std.specs.Str.{bytes_eq}
+use Rattle.sv_ini.specs.Sections.{place_of_section}
+use Rattle.sv_ini.specs.declared.section.Section.{Section}
+use Rattle.sv_ini.proofs.Places.{place_from_position}
+use Rattle.sv_ini.proofs.reading.Drafts.place_of.Goals as goal
+
+pub returns-in-None : goal.returns-in-None
+returns-in-None c =
+    let items = c.self.inside.drafts.items in
+    let none : position (λ (s : Section). bytes_eq s.name c.args.name.now) items ≡ None =
+    sym (c.self.invariant c.args.name.now) ∙ sym c.in-None.ensures.value in
+    ap length c.as_slice.ensures.value
+    ∙ ap (λ (r : Option ℕ). unwrap_or r (length items)) (sym none)
+    ∙ place_from_position (λ (s : Section). bytes_eq s.name c.args.name.now) items
+    ∙ ap (place_of_section c.args.name.now) c.self.view_is

@@ -1,0 +1,4 @@
+pub mod Keys
+pub mod Kinds
+pub mod Lines
+pub mod Sections
