@@ -1,0 +1,103 @@
+ghost use Rattle.std.specs.Prelude.{◌≡◌, ◌+◌, ◌<◌, ◌≤◌, IfSome, IsTrue, length, not};
+ghost use Rattle.std.specs.List.{position_from, prefix_len};
+ghost use Rattle.sv_base.specs.Roster.{is_membership};
+ghost use Rattle.sv_child.specs.Moves.{is_at_rest};
+ghost use Rattle.sv_child.specs.declared.child.Child.{Child};
+ghost use Rattle.sv_groups.specs.Changes.{Adds, Removes, stands, starts_before, still_running};
+ghost use Rattle.sv_groups.specs.StartOrder.{first_of, members_at, processes};
+
+use crate::fault::GroupFault;
+use crate::lookup::place_of;
+use crate::roster::{Roster, count, first_members};
+use sv_base::ids::ChildId;
+use sv_base::ranked::start_order;
+use sv_base::spec::GroupSpec;
+use sv_child::child::Child;
+
+impl Roster {
+    /// Adds a group, at its place in the start order; the processes behind it get new ids. `Already` exactly where
+    /// its name stands in the roster. A refusal, `OutOfMemory` too, leaves the roster as it was.
+    #[tactic(auto, using(crate::proofs::Kept::roster_with, crate::proofs::Kept::with_at))]
+    pub fn add_group(&mut self, group: GroupSpec) -> Result<(), GroupFault>
+        requires members { IsTrue (is_membership group.members) }
+        requires groups { length self.old + 1 ≤ 256 }
+        requires processes { length (processes self.old) + length group.members ≤ 1024 }
+        ensures { Adds self.old group self.new result }
+    {
+        if stands(self.groups(), group.name.as_str()) {
+            return Err(GroupFault::Already);
+        }
+        let place = place_for(self.groups(), &group);
+        self.groups.insert(place, group)?;
+        Ok(())
+    }
+
+    /// Removes the group of this name and gives it back; the processes behind it get new ids. The children are those
+    /// of all processes, in start order. `Unknown` exactly where no group has the name, else `StillRunning` exactly
+    /// where a child of the group isn't STOPPED, EXITED or FATAL, with the first such one in start order. A refusal
+    /// leaves the roster as it was.
+    #[tactic(auto, using(crate::proofs::Kept::roster_without))]
+    pub fn remove_group(&mut self, name: &str, children: &[Child]) -> Result<GroupSpec, GroupFault>
+        requires { length children.now ≡ length (processes self.old) }
+        ensures { Removes self.old name.now children.now self.new result }
+    {
+        let Some(place) = place_of(self.groups(), name) else {
+            return Err(GroupFault::Unknown);
+        };
+        if let Some(child) = still_running(self.groups(), place, children) {
+            return Err(GroupFault::StillRunning(ChildId(child as u32)));
+        }
+        Ok(self.groups.remove(place))
+    }
+}
+
+/// Whether one of these groups has this name.
+fn stands(groups: &[GroupSpec], name: &str) -> bool
+    ensures { result ≡ stands name.now groups.now }
+{
+    groups.iter().any(|group| group.name.as_str() == name)
+}
+
+/// How many groups at the front start before this one.
+fn place_for(groups: &[GroupSpec], group: &GroupSpec) -> usize
+    ensures count { result ≡ prefix_len (starts_before group.now) groups.now }
+    ensures within { result ≤ length groups.now }
+{
+    groups
+        .iter()
+        .take_while(|other| start_order(*other, group).is_lt())
+        .count()
+}
+
+/// The first child of the group at this place that isn't at rest.
+#[tactic(auto, using(crate::proofs::Processes::group_within, crate::proofs::Processes::first_within))]
+fn still_running(groups: &[GroupSpec], place: usize, children: &[Child]) -> Option<usize>
+    requires place { place < length groups.now }
+    requires children { length children.now ≡ length (processes groups.now) }
+    requires most { length (processes groups.now) ≤ 1024 }
+    ensures value { result ≡ still_running place groups.now children.now }
+    ensures most { IfSome result (λ child. child < 1024) }
+{
+    let first = count(&groups[..place]);
+    let members = first_members(&groups[place..]).len();
+    let behind = &children[first..];
+    first_running(first, &behind[..members])
+}
+
+/// The place of the first of these children that isn't at rest, where the first one's is `first`.
+fn first_running(first: usize, children: &[Child]) -> Option<usize>
+    requires { first + length children.now ≤ 1024 }
+    ensures value { result ≡ position_from (λ (c : Child). not (is_at_rest c.state)) first children.now }
+    ensures most { IfSome result (λ child. child < 1024) }
+{
+    let mut next = first;
+    let mut left = children;
+    while let [child, rest @ ..] = left {
+        if !child.is_at_rest() {
+            return Some(next);
+        }
+        next += 1;
+        left = rest;
+    }
+    None
+}

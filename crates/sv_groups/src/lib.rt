@@ -1,0 +1,12 @@
+//! Who is in which group, what a name of a command finds, and in which order things start and stop. A roster keeps
+//! its groups in start order by its type, and each call answers what the definitions say of that list; a process is
+//! known by its place in the start order of all.
+#![tactic(auto)]
+
+mod changes;
+pub mod fault;
+pub mod found;
+mod lookup;
+pub mod roster;
+#[cfg(test)]
+mod tests;

@@ -1,0 +1,123 @@
+ghost use Rattle.std.specs.Prelude.{◌≡◌, ◌+◌, ◌≤◌, ◌<◌, ◌^◌, ◌++◌, IfOk, IsTrue, OnOk, length};
+ghost use Rattle.sv_base.specs.Roster.{is_roster};
+ghost use Rattle.sv_groups.specs.StartOrder.{first_members, ids_from, processes, start_order, stop_order};
+
+use std::alloc::{AllocError, Global};
+use std::marker::Model;
+use sv_base::config::Config;
+use sv_base::ids::ChildId;
+use sv_base::spec::{GroupSpec, Spec};
+
+/// The groups of a daemon: at most 256 groups of at most 1,024 processes together, groups and members in start
+/// order, no two groups of one name, and in no group two processes of one name. Contracts see it as the list of
+/// the groups.
+#[derive(Debug, Drop)]
+pub struct Roster {
+    pub(crate) groups: Vec<GroupSpec>,
+}
+
+impl Model for Roster {
+    ghost use Rattle.std.specs.Prelude.{List, IsTrue};
+    ghost use Rattle.sv_base.specs.declared.spec.GroupSpec.{GroupSpec};
+    ghost use Rattle.sv_base.specs.Roster.{is_roster};
+
+    ghost Value = { List GroupSpec };
+
+    ghost view = { λ r. r.groups.items };
+
+    ghost invariant = { λ r. IsTrue (is_roster r.groups.items) };
+}
+
+impl Roster {
+    /// The groups of a configuration.
+    pub fn new(alloc: Global, config: &Config) -> Result<Roster, AllocError>
+        ensures { IfOk result (λ r. r ≡ config.now.groups) }
+    {
+        let source = config.groups.as_slice();
+        let mut groups = Vec::new(alloc);
+        for group in source {
+            groups.push(group.clone()?)?;
+        }
+        Ok(Roster { groups })
+    }
+
+    /// The groups in start order, each with its members in start order.
+    #[tactic(auto, using(crate::proofs::Processes::roster_fits))]
+    pub fn groups(&self) -> &[GroupSpec]
+        ensures value { result.now ≡ self.now }
+        ensures roster { IsTrue (is_roster result.now) }
+        ensures most { length (processes result.now) ≤ 1024 }
+    {
+        self.groups.as_slice()
+    }
+
+    /// All processes in start order.
+    pub fn start_order(&self, alloc: Global) -> Result<Vec<ChildId>, AllocError>
+        ensures { IfOk result (λ ids. ids.items ≡ start_order self.now) }
+    {
+        let mut ids = Vec::new(alloc);
+        let mut next = 0;
+        let mut left = self.groups();
+        while let [group, rest @ ..] = left {
+            let members = group.members.as_slice();
+            push_ids(next, members, &mut ids)?;
+            next += members.len();
+            left = rest;
+        }
+        Ok(ids)
+    }
+
+    /// The processes of the group at this place of the start order, counted from 0, in the order in which they are
+    /// stopped.
+    #[tactic(auto, using(crate::proofs::Processes::first_within, crate::proofs::Processes::group_within))]
+    pub fn stop_order(&self, alloc: Global, group: usize) -> Result<Vec<ChildId>, AllocError>
+        requires { group < length self.now }
+        ensures { IfOk result (λ ids. ids.items ≡ stop_order group self.now) }
+    {
+        let groups = self.groups();
+        let mut ids = Vec::new(alloc);
+        let first = count(&groups[..group]);
+        push_ids(first, first_members(&groups[group..]), &mut ids)?;
+        ids.reverse();
+        Ok(ids)
+    }
+}
+
+/// How many processes these groups have.
+pub(crate) fn count(groups: &[GroupSpec]) -> usize
+    requires { length (processes groups.now) ≤ 1024 }
+    ensures { result ≡ length (processes groups.now) }
+{
+    let mut count = 0;
+    let mut left = groups;
+    while let [group, rest @ ..] = left {
+        count += group.members.as_slice().len();
+        left = rest;
+    }
+    count
+}
+
+/// The processes of the first of these groups.
+pub(crate) fn first_members(groups: &[GroupSpec]) -> &[Spec]
+    ensures { result.now ≡ first_members groups.now }
+{
+    match groups {
+        [group, ..] => group.members.as_slice(),
+        [] => &[],
+    }
+}
+
+/// Adds the ids of these processes, which count up from `first`.
+fn push_ids(first: usize, members: &[Spec], ids: &mut Vec<ChildId>) -> Result<(), AllocError>
+    requires { first + length members.now ≤ 1024 }
+    ensures { OnOk result (ids.new.items ≡ ids.old.items ++ ids_from first members.now) }
+{
+    let mut next = first;
+    let mut left = members;
+    while let [_, rest @ ..] = left {
+        ids.push(ChildId(next as u32))?;
+        next += 1;
+        left = rest;
+    }
+    Ok(())
+}
