@@ -1,0 +1,243 @@
+-- Each line that is read as an input is the line of that input, and the line of each input is read as it.
+use Rattle.std.proofs.Common.{◌≡◌, ℕ, ◌+◌, ◌%◌, ◌^◌, ◌<◌, ◌≤◌, Bool, true, false, cond, List, [], ◌∷◌, ◌++◌, Result, Ok, refl, sym, ap, ◌∙◌, subst, arith, append_assoc, append-nil, IsUtf8}
+use Rattle.std.specs.Prelude.{codes}
+use Rattle.std.specs.Fmt.{decimal}
+use Rattle.std.proofs.lemmas.Fmt.{decimal_by_steps}
+use Rattle.sv_base.specs.Limits.{moment_limit}
+use Rattle.sv_base.specs.declared.ids.Run.{Run}
+use Rattle.sv_base.specs.declared.state.How.{How}
+use Rattle.sv_base.specs.declared.state.How.TheVariants as how_is
+use Rattle.sv_out.specs.declared.input.Input.{Input}
+use Rattle.sv_out.specs.declared.input.Input.TheVariants as input_is
+use Rattle.sv_journal.specs.declared.words.Verb.{Verb}
+use Rattle.sv_journal.specs.declared.words.Verb.TheVariants as verb_is
+use Rattle.sv_journal.specs.declared.words.Ending.{Ending}
+use Rattle.sv_journal.specs.declared.words.Ending.TheVariants as ending_is
+use Rattle.sv_journal.specs.declared.words.Answer.{Answer}
+use Rattle.sv_journal.specs.declared.words.Answer.TheVariants as answer_is
+use Rattle.sv_journal.specs.declared.token.Letters.TheVariants.{OfText}
+use Rattle.sv_journal.specs.Limits.{run_limit}
+use Rattle.sv_journal.specs.Spelling.{token}
+use Rattle.sv_journal.specs.JournalLine.{how_words, FitsHow, input_line, FitsInput}
+use Rattle.sv_journal.specs.Reading.{◌>>=◌, end_at, keyword_at}
+use Rattle.sv_journal.specs.ReadingLines.{verb_word, verbs, ending_word, endings, answer_word, answers, word_then, keyword_then, number_then, text_then, how_at, exit_at, event_of, event_at, answer_of, answer_at, begins_with_digit, input_at}
+use Rattle.sv_journal.proofs.LineParts.{end_takes, word_then_takes, keyword_then_takes, number_then_takes, text_then_takes}
+use Rattle.sv_journal.proofs.Names.{good_text, text_good}
+use Rattle.sv_journal.proofs.NumberLaws.{IsLimit, number_again, digit_from}
+use Rattle.sv_journal.proofs.TokenLaws.{token_again}
+
+pub moment_fits : IsLimit moment_limit
+moment_fits = (omega arith, omega arith)
+
+pub run_fits : IsLimit run_limit
+run_fits = (omega arith, omega arith)
+
+pub code_fits : IsLimit 255
+code_fits = (omega arith, omega arith)
+
+pub signal_fits : IsLimit 64
+signal_fits = (omega arith, omega arith)
+
+record Ended (at : ℕ) (run : Run) (front : List ℕ) (i : Input) : Type 0 where
+  how : How
+  is : i ≡ input_is.Exit at run how
+  fits : FitsHow how
+  same : front ≡ how_words how
+
+how_takes : (at : ℕ) (run : Run) (ending : Ending) (bs : List ℕ) (i : Input) → how_at at run ending bs ≡ Ok i → Ended at run (ending_word ending ++ bs) i
+unfolding how_at
+how_takes at run ending_is.Code bs i e =
+    number_then_takes 0 255 (λ code. end_at (input_is.Exit at run (how_is.Code code))) bs i code_fits e (λ code rest taken e.
+    let end = end_takes (input_is.Exit at run (how_is.Code code)) i rest e in
+    record {
+      how = how_is.Code code;
+      is = sym end.1;
+      fits = taken.high;
+      same = ap (λ (l : List ℕ). codes "code " ++ l) (taken.same ∙ ap (λ (l : List ℕ). decimal code ++ l) end.0 ∙ append-nil (decimal code));
+    })
+how_takes at run ending_is.Signal bs i e =
+    number_then_takes 1 64 (λ signal. end_at (input_is.Exit at run (how_is.Signal signal))) bs i signal_fits e (λ signal rest taken e.
+    let end = end_takes (input_is.Exit at run (how_is.Signal signal)) i rest e in
+    record {
+      how = how_is.Signal signal;
+      is = sym end.1;
+      fits = (taken.low, taken.high);
+      same = ap (λ (l : List ℕ). codes "signal " ++ l) (taken.same ∙ ap (λ (l : List ℕ). decimal signal ++ l) end.0 ∙ append-nil (decimal signal));
+    })
+
+record Meant (line : List ℕ) (i : Input) : Type 0 where
+  same : line ≡ input_line i
+  fits : FitsInput i
+
+exit_takes : (at : ℕ) (bs : List ℕ) (i : Input) → at ≤ moment_limit → exit_at at bs ≡ Ok i → Meant (decimal at ++ (codes " exit " ++ bs)) i
+unfolding exit_at
+exit_takes at bs i fits e =
+    number_then_takes 0 run_limit (λ run. word_then (codes " ") (keyword_then ending_word endings (how_at at (record { 0 = run })))) bs i run_fits e (λ run rest taken e.
+    word_then_takes (codes " ") (keyword_then ending_word endings (how_at at (record { 0 = run }))) rest i e (λ rest2 is2 e.
+    keyword_then_takes ending_word endings (how_at at (record { 0 = run })) rest2 i e (λ ending rest3 is3 e.
+    let h = how_takes at (record { 0 = run }) ending rest3 i e in
+    let whole : bs ≡ decimal run ++ (codes " " ++ how_words h.how) = taken.same ∙ ap (λ (l : List ℕ). decimal run ++ l) (is2 ∙ ap (λ (l : List ℕ). codes " " ++ l) (is3 ∙ h.same)) in
+    record {
+      same = ap (λ (l : List ℕ). decimal at ++ (codes " exit " ++ l)) whole ∙ regroup (decimal at) (codes " exit ") (decimal run) (codes " ") (how_words h.how) ∙ ap input_line (sym h.is);
+      fits = subst FitsInput (sym h.is) (fits, taken.high, h.fits);
+    })))
+  where
+    regroup : (a b c d e : List ℕ) → a ++ (b ++ (c ++ (d ++ e))) ≡ (((a ++ b) ++ c) ++ d) ++ e
+    regroup a b c d e = simp append_assoc
+
+event_of_takes : (at : ℕ) (verb : Verb) (bs : List ℕ) (i : Input) → at ≤ moment_limit → event_of at verb bs ≡ Ok i → Meant (decimal at ++ (codes " " ++ (verb_word verb ++ bs))) i
+unfolding event_of
+event_of_takes at verb_is.Tick bs i fits e =
+    let end = end_takes (input_is.Tick at) i bs e in
+    record {
+      same = ap (λ (l : List ℕ). decimal at ++ (codes " tick" ++ l)) end.0 ∙ ap input_line end.1;
+      fits = subst FitsInput end.1 fits;
+    }
+event_of_takes at verb_is.Exit bs i fits e = exit_takes at bs i fits e
+event_of_takes at verb_is.Start bs i fits e =
+    text_then_takes (λ name. input_is.Start at name) bs i e (λ name taken is.
+    record {
+      same = ap (λ (l : List ℕ). decimal at ++ (codes " start " ++ l)) (taken.same ∙ append-nil (token name)) ∙ sym (append_assoc (decimal at) (codes " start ") (token name)) ∙ ap input_line (sym is);
+      fits = subst FitsInput (sym is) (fits, text_good name taken.good);
+    })
+event_of_takes at verb_is.Stop bs i fits e =
+    text_then_takes (λ name. input_is.Stop at name) bs i e (λ name taken is.
+    record {
+      same = ap (λ (l : List ℕ). decimal at ++ (codes " stop " ++ l)) (taken.same ∙ append-nil (token name)) ∙ sym (append_assoc (decimal at) (codes " stop ") (token name)) ∙ ap input_line (sym is);
+      fits = subst FitsInput (sym is) (fits, text_good name taken.good);
+    })
+
+event_takes : (bs : List ℕ) (i : Input) → event_at bs ≡ Ok i → Meant bs i
+unfolding event_at
+event_takes bs i e =
+    number_then_takes 0 moment_limit (λ at. word_then (codes " ") (keyword_then verb_word verbs (event_of at))) bs i moment_fits e (λ at rest taken e.
+    word_then_takes (codes " ") (keyword_then verb_word verbs (event_of at)) rest i e (λ rest2 is2 e.
+    keyword_then_takes verb_word verbs (event_of at) rest2 i e (λ verb rest3 is3 e.
+    let m = event_of_takes at verb rest3 i taken.high e in
+    record {
+      same = taken.same ∙ ap (λ (l : List ℕ). decimal at ++ l) (is2 ∙ ap (λ (l : List ℕ). codes " " ++ l) is3) ∙ m.same;
+      fits = m.fits;
+    })))
+
+answer_of_takes : (answer : Answer) (bs : List ℕ) (i : Input) → answer_of answer bs ≡ Ok i → Meant (answer_word answer ++ bs) i
+unfolding answer_of
+answer_of_takes answer_is.Pid bs i e =
+    number_then_takes 1 run_limit (λ pid. end_at (input_is.Pid pid)) bs i run_fits e (λ pid rest taken e.
+    let end = end_takes (input_is.Pid pid) i rest e in
+    record {
+      same = ap (λ (l : List ℕ). codes "pid " ++ l) (taken.same ∙ ap (λ (l : List ℕ). decimal pid ++ l) end.0 ∙ append-nil (decimal pid)) ∙ ap input_line end.1;
+      fits = subst FitsInput end.1 (taken.low, taken.high);
+    })
+answer_of_takes answer_is.NoFile bs i e =
+    let end = end_takes input_is.NoFile i bs e in
+    record { same = ap (λ (l : List ℕ). codes "nofile" ++ l) end.0 ∙ ap input_line end.1; fits = subst FitsInput end.1 tt }
+answer_of_takes answer_is.NotExecutable bs i e =
+    let end = end_takes input_is.NotExecutable i bs e in
+    record { same = ap (λ (l : List ℕ). codes "notexec" ++ l) end.0 ∙ ap input_line end.1; fits = subst FitsInput end.1 tt }
+answer_of_takes answer_is.Refused bs i e =
+    text_then_takes (λ reason. input_is.Refused reason) bs i e (λ reason taken is.
+    record {
+      same = ap (λ (l : List ℕ). codes "refused " ++ l) (taken.same ∙ append-nil (token reason)) ∙ ap input_line (sym is);
+      fits = subst FitsInput (sym is) (text_good reason taken.good);
+    })
+
+answer_takes : (bs : List ℕ) (i : Input) → answer_at bs ≡ Ok i → Meant bs i
+unfolding answer_at
+answer_takes bs i e =
+    keyword_then_takes answer_word answers answer_of bs i e (λ answer rest is e.
+    let m = answer_of_takes answer rest i e in
+    record { same = is ∙ m.same; fits = m.fits })
+
+input_means : (bs : List ℕ) (i : Input) → input_at bs ≡ Ok i → Meant bs i
+unfolding input_at
+input_means bs i e = go (begins_with_digit bs) e
+  where
+    go : (t : Bool) → cond t (event_at bs) (answer_at bs) ≡ Ok i → Meant bs i
+    go true e = event_takes bs i e
+    go false e = answer_takes bs i e
+
+pub input_takes : (bs : List ℕ) (i : Input) → input_at bs ≡ Ok i → bs ≡ input_line i
+input_takes bs i e = (input_means bs i e).same
+
+pub input_fits : (bs : List ℕ) (i : Input) → input_at bs ≡ Ok i → FitsInput i
+input_fits bs i e = (input_means bs i e).fits
+
+pub verb_again : (verb : Verb) (rest : List ℕ) → keyword_at verb_word verbs (verb_word verb ++ rest) ≡ Ok (verb, rest)
+verb_again verb_is.Tick rest = refl
+verb_again verb_is.Exit rest = refl
+verb_again verb_is.Start rest = refl
+verb_again verb_is.Stop rest = refl
+
+pub ending_again : (ending : Ending) (rest : List ℕ) → keyword_at ending_word endings (ending_word ending ++ rest) ≡ Ok (ending, rest)
+ending_again ending_is.Code rest = refl
+ending_again ending_is.Signal rest = refl
+
+pub answer_again : (answer : Answer) (rest : List ℕ) → keyword_at answer_word answers (answer_word answer ++ rest) ≡ Ok (answer, rest)
+answer_again answer_is.Pid rest = refl
+answer_again answer_is.NoFile rest = refl
+answer_again answer_is.NotExecutable rest = refl
+answer_again answer_is.Refused rest = refl
+
+pub decimal_begins : (n : ℕ) (rest : List ℕ) → n < 2 ^ 64 → begins_with_digit (decimal n ++ rest) ≡ true
+decimal_begins n rest fits = decimal_by_steps (λ n ds. (rest : List ℕ) → begins_with_digit (ds ++ rest) ≡ true)
+    (λ k small rest. digit_from (48 + k) (omega arith) (omega arith))
+    (λ k ds big ih rest. ap begins_with_digit (append_assoc ds ((48 + k % 10) ∷ []) rest) ∙ ih ((48 + k % 10) ∷ rest))
+    n fits rest
+
+event_again : (at : ℕ) (verb : Verb) (rest : List ℕ) → at ≤ moment_limit → input_at (decimal at ++ (codes " " ++ (verb_word verb ++ rest))) ≡ event_of at verb rest
+unfolding input_at event_at
+event_again at verb rest fits =
+    let line = decimal at ++ (codes " " ++ (verb_word verb ++ rest)) in
+    ap (λ (t : Bool). cond t (event_at line) (answer_at line)) (decimal_begins at _ (omega arith))
+    ∙ ap (λ (r : Result (ℕ × List ℕ) ℕ). r >>= (λ r. word_then (codes " ") (keyword_then verb_word verbs (event_of r.0)) r.1)) (number_again 0 moment_limit at (codes " " ++ (verb_word verb ++ rest)) moment_fits (omega arith) (omega arith) fits refl)
+    ∙ ap (λ (r : Result (Verb × List ℕ) ℕ). r >>= (λ r. event_of at r.0 r.1)) (verb_again verb rest)
+
+end_number : {X : Type 0} (least limit n : ℕ) (value : ℕ → X) → IsLimit limit → least ≤ 1 → least ≤ n → n ≤ limit → number_then least limit (λ n. end_at (value n)) (decimal n) ≡ Ok (value n)
+end_number {X} least limit n value fits one low high =
+    ap (number_then least limit (λ n. end_at (value n))) (sym (append-nil (decimal n)))
+    ∙ ap (λ (r : Result (ℕ × List ℕ) ℕ). r >>= (λ r. end_at (value r.0) r.1)) (number_again least limit n [] fits one low high refl)
+
+end_text : {X : Type 0} (value : List ℕ → X) (v : List ℕ) → IsUtf8 v → text_then value (token v) ≡ Ok (value v)
+end_text {X} value v fits =
+    ap (text_then value) (sym (append-nil (token v)))
+    ∙ ap (λ (r : Result (List ℕ × List ℕ) ℕ). (r >>= (λ r. end_at r.0 r.1)) >>= (λ v. Ok (value v))) (token_again OfText v [] (good_text v fits) refl)
+
+how_again : (at : ℕ) (run : Run) (how : How) → FitsHow how → keyword_then ending_word endings (how_at at run) (how_words how) ≡ Ok (input_is.Exit at run how)
+unfolding how_at
+how_again at run (how_is.Code code) fits =
+    ap (λ (r : Result (Ending × List ℕ) ℕ). r >>= (λ r. how_at at run r.0 r.1)) (ending_again ending_is.Code (decimal code))
+    ∙ end_number 0 255 code (λ code. input_is.Exit at run (how_is.Code code)) code_fits (omega arith) (omega arith) fits
+how_again at run (how_is.Signal signal) fits =
+    ap (λ (r : Result (Ending × List ℕ) ℕ). r >>= (λ r. how_at at run r.0 r.1)) (ending_again ending_is.Signal (decimal signal))
+    ∙ end_number 1 64 signal (λ signal. input_is.Exit at run (how_is.Signal signal)) signal_fits (omega arith) fits.0 fits.1
+
+exit_again : (at : ℕ) (run : Run) (how : How) → run.0 ≤ run_limit → FitsHow how → exit_at at (decimal run.0 ++ (codes " " ++ how_words how)) ≡ Ok (input_is.Exit at run how)
+unfolding exit_at
+exit_again at run how small fits =
+    ap (λ (r : Result (ℕ × List ℕ) ℕ). r >>= (λ r. word_then (codes " ") (keyword_then ending_word endings (how_at at (record { 0 = r.0 }))) r.1)) (number_again 0 run_limit run.0 (codes " " ++ how_words how) run_fits (omega arith) (omega arith) small refl)
+    ∙ how_again at run how fits
+
+answer_then : (answer : Answer) (rest : List ℕ) → input_at (answer_word answer ++ rest) ≡ answer_of answer rest
+unfolding input_at answer_at
+answer_then answer_is.Pid rest = refl
+answer_then answer_is.NoFile rest = refl
+answer_then answer_is.NotExecutable rest = refl
+answer_then answer_is.Refused rest = refl
+
+pub input_again : (i : Input) → FitsInput i → input_at (input_line i) ≡ Ok i
+unfolding event_of answer_of
+input_again (input_is.Tick at) fits = event_again at verb_is.Tick [] fits
+input_again (input_is.Exit at run how) fits =
+    ap input_at (simp append_assoc) ∙ event_again at verb_is.Exit (decimal run.0 ++ (codes " " ++ how_words how)) fits.0 ∙ exit_again at run how fits.1 fits.2
+input_again (input_is.Start at name) fits =
+    ap input_at (append_assoc (decimal at) (codes " start ") (token name)) ∙ event_again at verb_is.Start (token name) fits.0 ∙ end_text (λ name. input_is.Start at name) name fits.1
+input_again (input_is.Stop at name) fits =
+    ap input_at (append_assoc (decimal at) (codes " stop ") (token name)) ∙ event_again at verb_is.Stop (token name) fits.0 ∙ end_text (λ name. input_is.Stop at name) name fits.1
+input_again (input_is.Pid pid) fits = answer_then answer_is.Pid (decimal pid) ∙ end_number 1 run_limit pid (λ pid. input_is.Pid pid) run_fits (omega arith) fits.0 fits.1
+input_again input_is.NoFile fits = answer_then answer_is.NoFile []
+input_again input_is.NotExecutable fits = answer_then answer_is.NotExecutable []
+input_again (input_is.Refused reason) fits = answer_then answer_is.Refused (token reason) ∙ end_text (λ reason. input_is.Refused reason) reason fits
+
+-- the input of a line is what is read from it
+pub read_again : (i : Input) (line : List ℕ) → FitsInput i → line ≡ input_line i → input_at line ≡ Ok i
+read_again i line fits e = ap input_at e ∙ input_again i fits

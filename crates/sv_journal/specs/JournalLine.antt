@@ -1,0 +1,136 @@
+-- The one line of each input, order and header, without its line feed, and which of them a journal may hold.
+use Rattle.std.specs.Prelude.{ℕ, ◌<◌, ◌≤◌, ◌≡◌, List, ◌++◌, length, Bool, true, false, codes, IsUtf8, chars, nat_le}
+use Rattle.std.specs.List.{flat_map, list_all}
+use Rattle.std.specs.Fmt.{decimal}
+use Rattle.sv_base.specs.Limits.{moment_limit}
+use Rattle.sv_base.specs.Names.{signal_name, state_name}
+use Rattle.sv_base.specs.declared.state.How.{How}
+use Rattle.sv_base.specs.declared.state.How.TheVariants.{Code, Signal as BySignal}
+use Rattle.sv_base.specs.declared.state.Autorestart.{Autorestart}
+use Rattle.sv_base.specs.declared.state.Autorestart.TheVariants.{Never, Unexpected, Always}
+use Rattle.sv_out.specs.declared.input.Input.{Input}
+use Rattle.sv_out.specs.declared.input.Input.TheVariants as input_is
+use Rattle.sv_out.specs.declared.order.Order.{Order}
+use Rattle.sv_out.specs.declared.order.Order.TheVariants as order_is
+use Rattle.sv_out.specs.declared.order.SpawnOrder.{SpawnOrder}
+use Rattle.sv_journal.specs.declared.header.Header.{Header}
+use Rattle.sv_journal.specs.declared.header.Header.TheVariants as header_is
+use Rattle.sv_journal.specs.declared.header.Program.{Program}
+use Rattle.sv_journal.specs.Limits.{run_limit, program_limit}
+use Rattle.sv_journal.specs.Spelling.{token, comma_list}
+use Rattle.sv_journal.specs.Tokens.{is_name_letter}
+
+-- a name of a program: characters of which none is a space, a control character, a colon, a slash or an asterisk
+abbrev pub IsName : List ℕ → Type 0
+IsName name = IsUtf8 name × (list_all is_name_letter (chars name) ≡ true) × (0 < length name)
+
+-- how a process ended
+abbrev pub how_words : How → List ℕ
+how_words (Code code) = codes "code " ++ decimal code
+how_words (BySignal signal) = codes "signal " ++ decimal signal
+
+abbrev pub FitsHow : How → Type 0
+FitsHow (Code code) = code ≤ 255
+FitsHow (BySignal signal) = (1 ≤ signal) × (signal ≤ 64)
+
+abbrev pub input_line : Input → List ℕ
+input_line (input_is.Tick at) = decimal at ++ codes " tick"
+input_line (input_is.Exit at run how) = decimal at ++ codes " exit " ++ decimal run.0 ++ codes " " ++ how_words how
+input_line (input_is.Start at name) = decimal at ++ codes " start " ++ token name
+input_line (input_is.Stop at name) = decimal at ++ codes " stop " ++ token name
+input_line (input_is.Pid pid) = codes "pid " ++ decimal pid
+input_line input_is.NoFile = codes "nofile"
+input_line input_is.NotExecutable = codes "notexec"
+input_line (input_is.Refused reason) = codes "refused " ++ token reason
+
+abbrev pub FitsInput : Input → Type 0
+FitsInput (input_is.Tick at) = at ≤ moment_limit
+FitsInput (input_is.Exit at run how) = (at ≤ moment_limit) × (run.0 ≤ run_limit) × FitsHow how
+FitsInput (input_is.Start at name) = (at ≤ moment_limit) × IsUtf8 name
+FitsInput (input_is.Stop at name) = (at ≤ moment_limit) × IsUtf8 name
+FitsInput (input_is.Pid pid) = (1 ≤ pid) × (pid ≤ run_limit)
+FitsInput input_is.NoFile = Unit {0}
+FitsInput input_is.NotExecutable = Unit {0}
+FitsInput (input_is.Refused reason) = IsUtf8 reason
+
+-- a space and a token
+abbrev pub then_token : List ℕ → List ℕ
+then_token bytes = codes " " ++ token bytes
+
+abbrev pub then_pair : List ℕ × List ℕ → List ℕ
+then_pair pair = then_token pair.0 ++ then_token pair.1
+
+-- how many there are, and each of them
+abbrev pub counted_words : List (List ℕ) → List ℕ
+counted_words words = codes " " ++ decimal (length words) ++ flat_map then_token words
+
+abbrev pub counted_pairs : List (List ℕ × List ℕ) → List ℕ
+counted_pairs pairs = codes " " ++ decimal (length pairs) ++ flat_map then_pair pairs
+
+abbrev pub spawn_line : SpawnOrder → List ℕ
+spawn_line spawn =
+    codes "spawn "
+    ++ decimal spawn.run.0
+    ++ then_token spawn.group
+    ++ then_token spawn.name
+    ++ then_token spawn.directory
+    ++ then_token spawn.umask
+    ++ then_token spawn.user
+    ++ counted_words spawn.words
+    ++ counted_pairs spawn.environment
+
+abbrev pub receiver : Bool → List ℕ
+receiver true = codes " group"
+receiver false = codes " child"
+
+abbrev pub order_line : Order → List ℕ
+order_line (order_is.State group name from to) =
+    codes "state" ++ then_token group ++ then_token name ++ codes " " ++ state_name from ++ codes " " ++ state_name to
+order_line (order_is.Spawn spawn) = spawn_line spawn
+order_line (order_is.Kill run signal group) =
+    codes "kill " ++ decimal run.0 ++ codes " " ++ signal_name signal ++ receiver group
+
+abbrev pub autorestart_word : Autorestart → List ℕ
+autorestart_word Never = codes "false"
+autorestart_word Unexpected = codes "unexpected"
+autorestart_word Always = codes "true"
+
+abbrev pub program_line : Program → List ℕ
+program_line program =
+    codes "program "
+    ++ token program.name
+    ++ codes " "
+    ++ decimal program.startsecs
+    ++ codes " "
+    ++ decimal program.startretries
+    ++ codes " "
+    ++ autorestart_word program.autorestart
+    ++ codes " "
+    ++ comma_list program.exitcodes
+    ++ codes " "
+    ++ signal_name program.stopsignal
+    ++ codes " "
+    ++ decimal program.stopwaitsecs
+
+abbrev pub header_line : Header → List ℕ
+header_line (header_is.Journal version) = codes "supervisor-journal " ++ decimal version
+header_line (header_is.Program program) = program_line program
+header_line (header_is.Go at) = codes "go " ++ decimal at
+
+abbrev pub is_exit_code : ℕ → Bool
+is_exit_code code = nat_le code 255
+
+abbrev pub FitsProgram : Program → Type 0
+FitsProgram program =
+    IsName program.name
+    × (program.startsecs ≤ program_limit)
+    × (program.startretries ≤ program_limit)
+    × (0 < length program.exitcodes)
+    × (list_all is_exit_code program.exitcodes ≡ true)
+    × (program.stopwaitsecs ≤ program_limit)
+
+-- the short header is version 0
+abbrev pub FitsHeader : Header → Type 0
+FitsHeader (header_is.Journal version) = version ≡ 0
+FitsHeader (header_is.Program program) = FitsProgram program
+FitsHeader (header_is.Go at) = at ≤ moment_limit

@@ -1,0 +1,152 @@
+-- What the readers of whole lines give, in the terms of the readers of their parts.
+use Rattle.std.specs.Prelude.{ℕ, List, [], ◌∷◌, codes, Bool, if◌then◌else◌, Result, Ok, None, false}
+use Rattle.std.specs.Char.{is_ascii_digit}
+use Rattle.sv_base.specs.Limits.{moment_limit}
+use Rattle.sv_base.specs.Names.{signal_name}
+use Rattle.sv_base.specs.declared.signal.Signal.{Signal}
+use Rattle.sv_base.specs.declared.signal.Signal.TheVariants as signal_is
+use Rattle.sv_base.specs.declared.state.How.TheVariants as how_is
+use Rattle.sv_base.specs.declared.state.Autorestart.{Autorestart}
+use Rattle.sv_base.specs.declared.state.Autorestart.TheVariants as autorestart_is
+use Rattle.sv_base.specs.declared.ids.Run.{Run}
+use Rattle.sv_out.specs.declared.input.Input.{Input}
+use Rattle.sv_out.specs.declared.input.Input.TheVariants as input_is
+use Rattle.sv_journal.specs.declared.header.Header.{Header}
+use Rattle.sv_journal.specs.declared.header.Header.TheVariants as header_is
+use Rattle.sv_journal.specs.declared.words.Verb.{Verb}
+use Rattle.sv_journal.specs.declared.words.Verb.TheVariants as verb_is
+use Rattle.sv_journal.specs.declared.words.Ending.{Ending}
+use Rattle.sv_journal.specs.declared.words.Ending.TheVariants as ending_is
+use Rattle.sv_journal.specs.declared.words.Answer.{Answer}
+use Rattle.sv_journal.specs.declared.words.Answer.TheVariants as answer_is
+use Rattle.sv_journal.specs.declared.words.Opening.{Opening}
+use Rattle.sv_journal.specs.declared.words.Opening.TheVariants as opening_is
+use Rattle.sv_journal.specs.declared.token.Letters.{Letters}
+use Rattle.sv_journal.specs.declared.token.Letters.TheVariants.{OfName}
+use Rattle.sv_journal.specs.JournalLine.{autorestart_word}
+use Rattle.sv_journal.specs.Limits.{run_limit, program_limit}
+use Rattle.sv_journal.specs.Reading.{◌>>=◌, word_at, keyword_at, number_at, token_at, end_at, text_line_at, codes_from}
+
+abbrev pub verb_word : Verb → List ℕ
+verb_word verb_is.Tick = codes "tick"
+verb_word verb_is.Exit = codes "exit "
+verb_word verb_is.Start = codes "start "
+verb_word verb_is.Stop = codes "stop "
+
+abbrev pub verbs : List Verb
+verbs = verb_is.Tick ∷ verb_is.Exit ∷ verb_is.Start ∷ verb_is.Stop ∷ []
+
+abbrev pub ending_word : Ending → List ℕ
+ending_word ending_is.Code = codes "code "
+ending_word ending_is.Signal = codes "signal "
+
+abbrev pub endings : List Ending
+endings = ending_is.Code ∷ ending_is.Signal ∷ []
+
+abbrev pub answer_word : Answer → List ℕ
+answer_word answer_is.Pid = codes "pid "
+answer_word answer_is.NoFile = codes "nofile"
+answer_word answer_is.NotExecutable = codes "notexec"
+answer_word answer_is.Refused = codes "refused "
+
+abbrev pub answers : List Answer
+answers = answer_is.Pid ∷ answer_is.NoFile ∷ answer_is.NotExecutable ∷ answer_is.Refused ∷ []
+
+abbrev pub opening_word : Opening → List ℕ
+opening_word opening_is.Journal = codes "supervisor-journal 0"
+opening_word opening_is.Program = codes "program "
+opening_word opening_is.Go = codes "go "
+
+abbrev pub openings : List Opening
+openings = opening_is.Journal ∷ opening_is.Program ∷ opening_is.Go ∷ []
+
+abbrev pub signals : List Signal
+signals = signal_is.Term ∷ signal_is.Hup ∷ signal_is.Int ∷ signal_is.Quit ∷ signal_is.Kill ∷ signal_is.Usr1 ∷ signal_is.Usr2 ∷ []
+
+abbrev pub autorestarts : List Autorestart
+autorestarts = autorestart_is.Never ∷ autorestart_is.Unexpected ∷ autorestart_is.Always ∷ []
+
+-- a part, and then what reads the rest
+abbrev pub word_then : {X : Type 0} → List ℕ → (List ℕ → Result X ℕ) → List ℕ → Result X ℕ
+word_then word next bs = word_at word bs >>= next
+
+abbrev pub keyword_then : {K X : Type 0} → (K → List ℕ) → List K → (K → List ℕ → Result X ℕ) → List ℕ → Result X ℕ
+keyword_then spelling ks next bs = keyword_at spelling ks bs >>= (λ r. next r.0 r.1)
+
+abbrev pub number_then : {X : Type 0} → ℕ → ℕ → (ℕ → List ℕ → Result X ℕ) → List ℕ → Result X ℕ
+number_then least limit next bs = number_at least limit bs >>= (λ r. next r.0 r.1)
+
+abbrev pub token_then : {X : Type 0} → Letters → (List ℕ → List ℕ → Result X ℕ) → List ℕ → Result X ℕ
+token_then letters next bs = token_at letters bs >>= (λ r. next r.0 r.1)
+
+abbrev pub text_then : {X : Type 0} → (List ℕ → X) → List ℕ → Result X ℕ
+text_then value bs = text_line_at bs >>= (λ text. Ok (value text))
+
+abbrev pub codes_then : {X : Type 0} → (List ℕ → List ℕ → Result X ℕ) → List ℕ → Result X ℕ
+codes_then next bs = codes_from None bs >>= (λ r. next r.0 r.1)
+
+-- inputs
+unfoldable pub how_at : ℕ → Run → Ending → List ℕ → Result Input ℕ
+how_at at run ending_is.Code = number_then 0 255 (λ code. end_at (input_is.Exit at run (how_is.Code code)))
+how_at at run ending_is.Signal = number_then 1 64 (λ signal. end_at (input_is.Exit at run (how_is.Signal signal)))
+
+unfoldable pub exit_at : ℕ → List ℕ → Result Input ℕ
+exit_at at = number_then 0 run_limit (λ run. word_then (codes " ") (keyword_then ending_word endings (how_at at (record { 0 = run }))))
+
+unfoldable pub event_of : ℕ → Verb → List ℕ → Result Input ℕ
+event_of at verb_is.Tick = end_at (input_is.Tick at)
+event_of at verb_is.Exit = exit_at at
+event_of at verb_is.Start = text_then (λ name. input_is.Start at name)
+event_of at verb_is.Stop = text_then (λ name. input_is.Stop at name)
+
+unfoldable pub event_at : List ℕ → Result Input ℕ
+event_at = number_then 0 moment_limit (λ at. word_then (codes " ") (keyword_then verb_word verbs (event_of at)))
+
+unfoldable pub answer_of : Answer → List ℕ → Result Input ℕ
+answer_of answer_is.Pid = number_then 1 run_limit (λ pid. end_at (input_is.Pid pid))
+answer_of answer_is.NoFile = end_at input_is.NoFile
+answer_of answer_is.NotExecutable = end_at input_is.NotExecutable
+answer_of answer_is.Refused = text_then (λ reason. input_is.Refused reason)
+
+unfoldable pub answer_at : List ℕ → Result Input ℕ
+answer_at = keyword_then answer_word answers answer_of
+
+abbrev pub begins_with_digit : List ℕ → Bool
+begins_with_digit [] = false
+begins_with_digit (b ∷ bs) = is_ascii_digit b
+
+-- an event begins with its moment
+unfoldable pub input_at : List ℕ → Result Input ℕ
+input_at bs = if begins_with_digit bs then event_at bs else answer_at bs
+
+-- headers
+unfoldable pub codes_at : List ℕ → ℕ → ℕ → Autorestart → List ℕ → Result Header ℕ
+codes_at name startsecs startretries autorestart =
+    codes_then (λ exitcodes.
+    word_then (codes " ") (keyword_then signal_name signals (λ stopsignal.
+    word_then (codes " ") (number_then 0 program_limit (λ stopwaitsecs.
+    end_at (header_is.Program (record {
+      name = name;
+      startsecs = startsecs;
+      startretries = startretries;
+      autorestart = autorestart;
+      exitcodes = exitcodes;
+      stopsignal = stopsignal;
+      stopwaitsecs = stopwaitsecs;
+    })))))))
+
+unfoldable pub restart_at : List ℕ → ℕ → ℕ → List ℕ → Result Header ℕ
+restart_at name startsecs startretries =
+    keyword_then autorestart_word autorestarts (λ autorestart. word_then (codes " ") (codes_at name startsecs startretries autorestart))
+
+unfoldable pub start_at : List ℕ → List ℕ → Result Header ℕ
+start_at name =
+    number_then 0 program_limit (λ startsecs. word_then (codes " ") (number_then 0 program_limit (λ startretries. word_then (codes " ") (restart_at name startsecs startretries))))
+
+unfoldable pub header_of : Opening → List ℕ → Result Header ℕ
+header_of opening_is.Journal = end_at (header_is.Journal 0)
+header_of opening_is.Program = token_then OfName (λ name. word_then (codes " ") (start_at name))
+header_of opening_is.Go = number_then 0 moment_limit (λ at. end_at (header_is.Go at))
+
+unfoldable pub header_at : List ℕ → Result Header ℕ
+header_at = keyword_then opening_word openings header_of

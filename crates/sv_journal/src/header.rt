@@ -1,0 +1,36 @@
+use sv_base::items::Items;
+use sv_base::moment::Moment;
+use sv_base::number::{Retries, Seconds};
+use sv_base::signal::Signal;
+use sv_base::state::Autorestart;
+use sv_base::text::Text;
+
+/// One line of a journal's header.
+#[derive(Debug, Drop)]
+pub enum Header {
+    /// The first line, with the version of the journal; the short header has version 0.
+    Journal(u8),
+    /// A program, by the keys that a short header gives it.
+    Program(Program),
+    /// The last line, with the moment at which the daemon starts.
+    Go(Moment),
+}
+
+/// A program of a short header, whose command is its name; every other key has its default.
+#[derive(Debug, Drop)]
+pub struct Program {
+    /// Not empty, and without space, control character, colon, slash and asterisk.
+    pub name: Text,
+    /// How long a start has to stay up to count.
+    pub startsecs: Seconds,
+    /// How many failed starts in a row are tried again.
+    pub startretries: Retries,
+    /// When an exited process is started again.
+    pub autorestart: Autorestart,
+    /// The expected exit codes, at least one.
+    pub exitcodes: Items<u8>,
+    /// The signal that asks it to stop.
+    pub stopsignal: Signal,
+    /// How long it may take to stop before it is sent KILL.
+    pub stopwaitsecs: Seconds,
+}

@@ -1,0 +1,119 @@
+ghost use Rattle.std.specs.Prelude.{◌≡◌, ◌≤◌};
+ghost use Rattle.sv_journal.specs.Reading.{Gives};
+ghost use Rattle.sv_journal.specs.ReadingLines.{codes_at, restart_at, start_at, header_of, header_at};
+
+use crate::exit_codes::exit_codes;
+use crate::header::{Header, Program};
+use crate::input_line::moment;
+use crate::number::number;
+use crate::stop::Stop;
+use crate::token::{Letters, token};
+use crate::word::{end, keyword, word};
+use crate::words::{AUTORESTARTS, OPENINGS, Opening, SIGNALS};
+use std::alloc::Global;
+use sv_base::moment::MOMENT_LIMIT;
+use sv_base::number::{Retries, Seconds};
+use sv_base::state::Autorestart;
+use sv_base::text::Text;
+
+/// The most seconds or retries of a program.
+const PROGRAM_LIMIT: u64 = 1_000_000;
+
+/// Reads a header line as the grammar has it, however long it is.
+#[tactic(auto, unfolding(crate::specs::ReadingLines::header_at))]
+pub fn header(alloc: Global, bytes: &[u8]) -> Result<Header, Stop>
+    ensures { Gives (λ x. x) result (header_at bytes.now) }
+{
+    let (opening, rest) = keyword(&OPENINGS, bytes)?;
+    header_of(alloc, opening, rest)
+}
+
+#[tactic(auto, unfolding(crate::specs::ReadingLines::header_of))]
+fn header_of(alloc: Global, opening: Opening, bytes: &[u8]) -> Result<Header, Stop>
+    ensures { Gives (λ x. x) result (header_of opening bytes.now) }
+{
+    match opening {
+        Opening::Journal => end(Header::Journal(0), bytes),
+        Opening::Program => match token(alloc, Letters::OfName, bytes) {
+            Ok((name, rest)) => {
+                let rest = word(b" ", rest)?;
+                start(alloc, name, rest)
+            }
+            Err(stop) => Err(stop),
+        },
+        Opening::Go => {
+            let (milliseconds, rest) = number(0, MOMENT_LIMIT, bytes)?;
+            end(Header::Go(moment(milliseconds)), rest)
+        }
+    }
+}
+
+fn setting(number: u64) -> Seconds
+    requires { number ≤ 1000000 }
+    ensures { result ≡ number }
+{
+    Seconds::new(number as u32).unwrap()
+}
+
+/// Reads a program's keys from `startsecs` on.
+#[tactic(auto, unfolding(crate::specs::ReadingLines::start_at))]
+fn start(alloc: Global, name: Text, bytes: &[u8]) -> Result<Header, Stop>
+    ensures { Gives (λ x. x) result (start_at name bytes.now) }
+{
+    let (startsecs, rest) = number(0, PROGRAM_LIMIT, bytes)?;
+    let rest = word(b" ", rest)?;
+    let (startretries, rest) = number(0, PROGRAM_LIMIT, rest)?;
+    let rest = word(b" ", rest)?;
+    restart(alloc, name, setting(startsecs), setting(startretries), rest)
+}
+
+/// Reads a program's keys from `autorestart` on.
+#[tactic(auto, unfolding(crate::specs::ReadingLines::restart_at))]
+fn restart(
+    alloc: Global,
+    name: Text,
+    startsecs: Seconds,
+    startretries: Retries,
+    bytes: &[u8],
+) -> Result<Header, Stop>
+    ensures { Gives (λ x. x) result (restart_at name startsecs startretries bytes.now) }
+{
+    let (autorestart, rest) = keyword(&AUTORESTARTS, bytes)?;
+    let rest = word(b" ", rest)?;
+    codes(alloc, name, startsecs, startretries, autorestart, rest)
+}
+
+/// Reads a program's keys from `exitcodes` on.
+#[tactic(auto, unfolding(crate::specs::ReadingLines::codes_at))]
+fn codes(
+    alloc: Global,
+    name: Text,
+    startsecs: Seconds,
+    startretries: Retries,
+    autorestart: Autorestart,
+    bytes: &[u8],
+) -> Result<Header, Stop>
+    ensures { Gives (λ x. x) result (codes_at name startsecs startretries autorestart bytes.now) }
+{
+    match exit_codes(alloc, bytes) {
+        Ok((exitcodes, rest)) => {
+            let rest = word(b" ", rest)?;
+            let (stopsignal, rest) = keyword(&SIGNALS, rest)?;
+            let rest = word(b" ", rest)?;
+            let (stopwaitsecs, rest) = number(0, PROGRAM_LIMIT, rest)?;
+            end(
+                Header::Program(Program {
+                    name,
+                    startsecs,
+                    startretries,
+                    autorestart,
+                    exitcodes,
+                    stopsignal,
+                    stopwaitsecs: setting(stopwaitsecs),
+                }),
+                rest,
+            )
+        }
+        Err(stop) => Err(stop),
+    }
+}

@@ -1,0 +1,20 @@
+//! The lines of a journal, read and written: a header line, an input or an order has exactly one line
+//! (`specs/JournalLine.antt`), and reading gives the one value that has the line, or refuses the line exactly where no
+//! value has it. Lines are taken and given without their line feed. Reading takes time linear in the bytes.
+#![tactic(auto)]
+
+mod exit_codes;
+pub mod fault;
+pub mod header;
+mod header_line;
+mod input_line;
+pub mod laws;
+mod number;
+pub mod read;
+mod stop;
+#[cfg(test)]
+mod tests;
+mod token;
+mod word;
+mod words;
+pub mod write;

@@ -1,0 +1,29 @@
+ghost use Rattle.std.specs.Prelude.{◌≡◌};
+ghost use Rattle.sv_journal.specs.declared.stop.Stop.{Stop};
+
+use std::alloc::{AllocError, AllocFailed};
+
+/// Why reading stopped within a line.
+#[derive(Clone, Copy, Debug, PartialEq, Eq)]
+pub enum Stop {
+    /// At the first byte that no line of a journal has there: the number of bytes from it to the line's end.
+    At(usize),
+    /// Out of memory.
+    OutOfMemory,
+}
+
+impl From<AllocError> for Stop {
+    ghost from_gives = { λ error stop. stop ≡ Stop.OutOfMemory };
+
+    fn from(_error: AllocError) -> Stop {
+        Stop::OutOfMemory
+    }
+}
+
+impl<T: Drop> From<AllocFailed<T>> for Stop {
+    ghost from_gives = { λ error stop. stop ≡ Stop.OutOfMemory };
+
+    fn from(_error: AllocFailed<T>) -> Stop {
+        Stop::OutOfMemory
+    }
+}

@@ -1,0 +1,264 @@
+ghost use Rattle.std.specs.Prelude.{◌≡◌, ◌+◌, ◌*◌, ◌<◌, ◌≤◌, IfOk, IsTrue, IsUtf8, IfSome, length};
+ghost use Rattle.std.specs.Option.{SomeIff, option_map};
+ghost use Rattle.sv_journal.specs.declared.token.Letters.{Letters};
+ghost use Rattle.sv_journal.specs.declared.token.Awaits.{Awaits};
+ghost use Rattle.sv_journal.specs.Spelling.{stands_for_itself};
+ghost use Rattle.sv_journal.specs.Tokens.{is_name_letter, allows, after, after_lead, escapes, is_hex, hex_value, may_begin, is_first_digit, is_second_digit};
+ghost use Rattle.sv_journal.specs.Reading.{Gives, Stage, first_digit_at, second_digit_at, escape_at, spelled_byte_at, token_from, is_lone, token_at, text_line_at};
+
+use crate::stop::Stop;
+use crate::word::end;
+use std::alloc::Global;
+use sv_base::text::Text;
+
+/// Which texts a token may spell: any text, or only a name of a program.
+#[derive(Clone, Copy, Debug, PartialEq, Eq)]
+pub enum Letters {
+    OfText,
+    OfName,
+}
+
+/// What a token whose bytes are UTF-8 goes on with: a character, or a byte within a character, from `low` to `high`,
+/// and so many more bytes after it.
+#[derive(Clone, Copy, Debug, PartialEq, Eq)]
+enum Awaits {
+    Character,
+    Continuation { low: u8, high: u8, more: u8 },
+}
+
+pub fn stands_for_itself(byte: u8) -> bool
+    ensures { result ≡ stands_for_itself byte }
+{
+    b'!' <= byte && byte <= b'~' && byte != b'%'
+}
+
+/// Whether a name may have this character of ASCII.
+fn is_name_letter(byte: u8) -> bool
+    requires { byte < 128 }
+    ensures { result ≡ is_name_letter byte }
+{
+    b' ' < byte && byte != 127 && byte != b':' && byte != b'/' && byte != b'*'
+}
+
+impl Awaits {
+    fn allows(self, letters: Letters, byte: u8) -> bool
+        ensures { result ≡ allows letters self byte }
+    {
+        match self {
+            Awaits::Character if byte < 128 => match letters {
+                Letters::OfText => true,
+                Letters::OfName => is_name_letter(byte),
+            },
+            Awaits::Character => 194 <= byte && byte <= 244,
+            Awaits::Continuation { low, high, .. } => low <= byte && byte <= high,
+        }
+    }
+
+    fn after(self, letters: Letters, byte: u8) -> Awaits
+        ensures { result ≡ after letters self byte }
+    {
+        match self {
+            Awaits::Character => after_lead(letters, byte),
+            Awaits::Continuation { more: 0, .. } => Awaits::Character,
+            Awaits::Continuation { more, .. } => Awaits::Continuation {
+                low: 128,
+                high: 191,
+                more: more - 1,
+            },
+        }
+    }
+
+    /// Whether this byte may come and is written as an escape.
+    fn escapes(self, letters: Letters, byte: u8) -> bool
+        ensures { result ≡ escapes letters self byte }
+    {
+        self.allows(letters, byte) && !stands_for_itself(byte)
+    }
+}
+
+fn after_lead(letters: Letters, lead: u8) -> Awaits
+    ensures { result ≡ after_lead letters lead }
+{
+    match lead {
+        0..=127 => Awaits::Character,
+        128..=223 => Awaits::Continuation {
+            low: if letters == Letters::OfName && lead == 194 {
+                160
+            } else {
+                128
+            },
+            high: 191,
+            more: 0,
+        },
+        224..=239 => Awaits::Continuation {
+            low: if lead == 224 { 160 } else { 128 },
+            high: if lead == 237 { 159 } else { 191 },
+            more: 1,
+        },
+        _ => Awaits::Continuation {
+            low: if lead == 240 { 144 } else { 128 },
+            high: if lead == 244 { 143 } else { 191 },
+            more: 2,
+        },
+    }
+}
+
+fn hex_value(digit: u8) -> Option<u8>
+    ensures value { SomeIff result (IsTrue (is_hex digit)) (hex_value digit) }
+    ensures bound { IfSome result (λ value. value < 16) }
+{
+    match digit {
+        b'0'..=b'9' => Some(digit - b'0'),
+        b'A'..=b'F' => Some(digit - b'A' + 10),
+        _ => None,
+    }
+}
+
+/// Whether some byte that may come is an escape with this first digit.
+fn may_begin(letters: Letters, awaits: Awaits, high: u8) -> bool
+    requires { high < 16 }
+    ensures { result ≡ may_begin letters awaits high }
+{
+    const LOW: [u8; 16] = [0, 1, 2, 3, 4, 5, 6, 7, 8, 9, 10, 11, 12, 13, 14, 15];
+    LOW.iter()
+        .any(|low| awaits.escapes(letters, 16 * high + *low))
+}
+
+/// Whether a byte that may come has an escape that begins with this digit.
+fn is_first_digit(letters: Letters, awaits: Awaits, digit: u8) -> bool
+    ensures { result ≡ is_first_digit letters awaits digit }
+{
+    match hex_value(digit) {
+        Some(high) => may_begin(letters, awaits, high),
+        None => false,
+    }
+}
+
+/// Reads the first digit of an escape.
+fn first_digit(letters: Letters, awaits: Awaits, bytes: &[u8]) -> Result<(u8, &[u8]), Stop>
+    ensures value { Gives (λ x. (x.0, x.1.now)) result (first_digit_at letters awaits bytes.now) }
+    ensures shorter { IfOk result (λ x. length x.1.now < length bytes.now) }
+    ensures bound { IfOk result (λ x. x.0 < 16) }
+{
+    let [digit, rest @ ..] = bytes else {
+        return Err(Stop::At(0));
+    };
+    match hex_value(*digit) {
+        Some(high) if may_begin(letters, awaits, high) => Ok((high, rest)),
+        _ => Err(Stop::At(bytes.len())),
+    }
+}
+
+/// Reads the second digit of an escape, and gives the byte.
+fn second_digit(
+    letters: Letters,
+    awaits: Awaits,
+    high: u8,
+    bytes: &[u8],
+) -> Result<(u8, &[u8]), Stop>
+    requires { high < 16 }
+    ensures value { Gives (λ x. (x.0, x.1.now)) result (second_digit_at letters awaits high bytes.now) }
+    ensures shorter { IfOk result (λ x. length x.1.now < length bytes.now) }
+{
+    let [digit, rest @ ..] = bytes else {
+        return Err(Stop::At(0));
+    };
+    match hex_value(*digit) {
+        Some(low) if awaits.escapes(letters, 16 * high + low) => Ok((16 * high + low, rest)),
+        _ => Err(Stop::At(bytes.len())),
+    }
+}
+
+/// Reads what follows the percent sign of an escape, and gives the byte.
+fn escape(letters: Letters, awaits: Awaits, bytes: &[u8]) -> Result<(u8, &[u8]), Stop>
+    ensures value { Gives (λ x. (x.0, x.1.now)) result (escape_at letters awaits bytes.now) }
+    ensures shorter { IfOk result (λ x. length x.1.now < length bytes.now) }
+{
+    let (high, rest) = first_digit(letters, awaits, bytes)?;
+    second_digit(letters, awaits, high, rest)
+}
+
+/// Reads one byte of a token, or gives none where the token ends.
+fn spelled_byte(letters: Letters, awaits: Awaits, bytes: &[u8]) -> Result<Option<(u8, &[u8])>, Stop>
+    ensures value { Gives (option_map (λ x. (x.0, x.1.now))) result (spelled_byte_at letters awaits bytes.now) }
+    ensures shorter { IfOk result (λ o. IfSome o (λ x. length x.1.now < length bytes.now)) }
+{
+    match bytes {
+        [b'%', rest @ ..] => Ok(Some(escape(letters, awaits, rest)?)),
+        [byte, rest @ ..] if stands_for_itself(*byte) && awaits.allows(letters, *byte) => Ok(Some((
+            *byte, rest,
+        ))),
+        _ => match awaits {
+            Awaits::Character => Ok(None),
+            Awaits::Continuation { .. } => Err(Stop::At(bytes.len())),
+        },
+    }
+}
+
+/// Reads the bytes of a token.
+#[tactic(auto, using(crate::proofs::Stages::step_more, crate::proofs::Stages::step_end, crate::proofs::Stages::step_err))]
+fn spelled(alloc: Global, letters: Letters, bytes: &[u8]) -> Result<(Vec<u8>, &[u8]), Stop>
+    ensures { Gives (λ x. (x.0.items, x.1.now)) result (token_from letters (Stage.Between Awaits.Character) bytes.now) }
+{
+    let mut value = Vec::new(alloc);
+    let mut awaits = Awaits::Character;
+    let mut rest = bytes;
+    loop {
+        match spelled_byte(letters, awaits, rest) {
+            Ok(Some((byte, after))) => {
+                value.push(byte)?;
+                awaits = awaits.after(letters, byte);
+                rest = after;
+            }
+            Ok(None) => return Ok((value, rest)),
+            Err(stop) => return Err(stop),
+        }
+    }
+}
+
+/// Whether this follows the percent sign that is the empty text.
+fn is_lone(letters: Letters, bytes: &[u8]) -> bool
+    ensures { result ≡ is_lone letters bytes.now }
+{
+    match (letters, bytes) {
+        (Letters::OfText, [digit, ..]) => !is_first_digit(letters, Awaits::Character, *digit),
+        (Letters::OfText, []) => true,
+        (Letters::OfName, _) => false,
+    }
+}
+
+/// Reads a token.
+pub fn token(alloc: Global, letters: Letters, bytes: &[u8]) -> Result<(Text, &[u8]), Stop>
+    ensures { Gives (λ x. (x.0, x.1.now)) result (token_at letters bytes.now) }
+{
+    match bytes {
+        [] => Err(Stop::At(0)),
+        [b'%', rest @ ..] if is_lone(letters, rest) => Ok((Text::fixed(""), rest)),
+        _ => match spelled(alloc, letters, bytes) {
+            Ok((value, _)) if value.as_slice().is_empty() => Err(Stop::At(bytes.len())),
+            Ok((value, rest)) => Ok((text_of(value), rest)),
+            Err(stop) => Err(stop),
+        },
+    }
+}
+
+/// The text of these bytes, which are UTF-8.
+fn text_of(bytes: Vec<u8>) -> Text
+    requires { IsUtf8 bytes.items }
+    ensures { result ≡ bytes.items }
+{
+    match String::from_utf8(bytes) {
+        Ok(text) => Text::from_string(text),
+        Err(_) => unreachable!(),
+    }
+}
+
+/// Reads a token that ends the line.
+pub fn rest_of_line(alloc: Global, bytes: &[u8]) -> Result<Text, Stop>
+    ensures { Gives (λ x. x) result (text_line_at bytes.now) }
+{
+    match token(alloc, Letters::OfText, bytes) {
+        Ok((text, rest)) => end(text, rest),
+        Err(stop) => Err(stop),
+    }
+}

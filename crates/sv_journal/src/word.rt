@@ -1,0 +1,57 @@
+ghost use Rattle.std.specs.Prelude.{◌≡◌, List, ℕ};
+ghost use Rattle.sv_journal.specs.Reading.{Gives, word_at, keyword_at, end_at};
+
+use crate::stop::Stop;
+
+/// Reads this word, and gives what follows it.
+pub fn word<'a>(wanted: &[u8], bytes: &'a [u8]) -> Result<&'a [u8], Stop>
+    ensures { Gives (λ rest. rest.now) result (word_at wanted.now bytes.now) }
+{
+    let mut left = wanted;
+    let mut rest = bytes;
+    while let [next, more @ ..] = left {
+        match rest {
+            [byte, after @ ..] if *byte == *next => rest = after,
+            _ => return Err(Stop::At(rest.len())),
+        }
+        left = more;
+    }
+    Ok(rest)
+}
+
+/// The line ends here, with this value.
+pub fn end<T: Drop>(value: T, bytes: &[u8]) -> Result<T, Stop>
+    ensures { Gives (λ x. x) result (end_at value bytes.now) }
+{
+    if bytes.is_empty() {
+        Ok(value)
+    } else {
+        Err(Stop::At(bytes.len()))
+    }
+}
+
+/// What a journal spells by one of some fixed words, of which none begins another.
+pub trait Spelled: Copy {
+    ghost spelling_of: { Self → List ℕ };
+
+    /// The word.
+    fn spelling(&self) -> &'static str
+        ensures { result.now ≡ spelling_of self.now };
+}
+
+/// Reads one of these words. Where none stands here, the bad byte is the first that goes on with none of them.
+pub fn keyword<'a, W: Spelled>(words: &[W], bytes: &'a [u8]) -> Result<(W, &'a [u8]), Stop>
+    ensures { Gives (λ x. (x.0, x.1.now)) result (keyword_at W.spelling_of words.now bytes.now) }
+{
+    let mut least = bytes.len();
+    let mut left = words;
+    while let [next, more @ ..] = left {
+        match word(next.spelling().as_bytes(), bytes) {
+            Ok(rest) => return Ok((*next, rest)),
+            Err(Stop::At(bad)) => least = least.min(bad),
+            Err(Stop::OutOfMemory) => return Err(Stop::OutOfMemory),
+        }
+        left = more;
+    }
+    Err(Stop::At(least))
+}
