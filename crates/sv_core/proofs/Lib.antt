@@ -1,0 +1,4 @@
+mod MapOver
+mod OneChild
+mod Standing
+mod Sweeps

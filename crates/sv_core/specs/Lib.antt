@@ -1,0 +1,9 @@
+pub mod World
+pub mod Orders
+pub mod Stimuli
+pub mod Brought
+pub mod Parts
+pub mod Turn
+pub mod MachineState
+pub mod Deeds
+pub mod StandsFor

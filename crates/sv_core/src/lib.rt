@@ -1,0 +1,12 @@
+//! The machine: it takes one input at a time and answers with the orders that the manual's daemon gives. It knows no
+//! file, socket, thread or clock. A turn goes through named steps, in the same order in the model (`specs/Turn.antt`)
+//! and in the code; it stops at a question, and its answer goes on with it.
+#![tactic(auto)]
+
+pub mod machine;
+pub mod member;
+pub mod part;
+pub mod place;
+mod report;
+pub mod sweep;
+mod turn;
