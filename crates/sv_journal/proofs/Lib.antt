@@ -8,6 +8,7 @@ pub mod Letters
 pub mod LineParts
 pub mod Lists
 pub mod Names
+pub mod NoLineFeed
 pub mod NumberLaws
 pub mod Results
 pub mod Sharp

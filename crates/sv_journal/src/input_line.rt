@@ -36,6 +36,7 @@ fn event(alloc: Global, bytes: &[u8]) -> Result<Input, Stop>
     event_of(alloc, moment(milliseconds), verb, rest)
 }
 
+/// The moment of these milliseconds since 1970 UTC.
 pub fn moment(milliseconds: u64) -> Moment
     requires { milliseconds ≤ moment_limit }
     ensures { result ≡ milliseconds }

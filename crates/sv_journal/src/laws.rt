@@ -1,4 +1,5 @@
-ghost use Rattle.std.specs.Prelude.{◌≡◌};
+ghost use Rattle.std.specs.Prelude.{◌≡◌, ◌==◌, false};
+ghost use Rattle.std.specs.List.{list_any};
 ghost use Rattle.sv_out.specs.declared.input.Input.{Input};
 ghost use Rattle.sv_journal.specs.declared.header.Header.{Header};
 ghost use Rattle.sv_journal.specs.JournalLine.{FitsInput, input_line, FitsHeader, header_line};
@@ -13,4 +14,15 @@ pub fn each_line_is_one_input()
 #[tactic(auto, using(crate::proofs::OneMeaning::one_header))]
 pub fn each_line_is_one_header()
     ensures { (one : Header) (other : Header) → FitsHeader one → FitsHeader other → header_line one ≡ header_line other → one ≡ other }
+{}
+
+/// A law: no line of an input holds a line feed, so that lines end where their line feeds are.
+#[tactic(auto, using(crate::proofs::NoLineFeed::plain_input))]
+pub fn no_input_line_holds_a_line_feed()
+    ensures { (i : Input) → FitsInput i → list_any (λ b. b == 10) (input_line i) ≡ false }
+{}
+
+/// A law: no line of a header holds a line feed.
+pub fn no_header_line_holds_a_line_feed()
+    ensures { (h : Header) → FitsHeader h → list_any (λ b. b == 10) (header_line h) ≡ false }
 {}

@@ -11,12 +11,13 @@ use sv_base::text::Text;
 use sv_out::order::{Order, SpawnOrder};
 
 /// Input lines, each with the column at which it breaks; a good line has none.
-const INPUTS: [(&str, Option<usize>); 76] = [
+const INPUTS: [(&str, Option<usize>); 88] = [
     ("0 tick", None),
     ("1499 tick", None),
     ("253000000000000 tick", None),
     ("253000000000001 tick", Some(14)),
     ("2530000000000000 tick", Some(15)),
+    ("18446744073709551616 tick", Some(15)),
     ("00 tick", Some(1)),
     ("01 tick", Some(1)),
     ("+1 tick", Some(0)),
@@ -32,7 +33,10 @@ const INPUTS: [(&str, Option<usize>); 76] = [
     ("0 Tick", Some(2)),
     ("0\ttick", Some(1)),
     ("tick", Some(0)),
+    ("3600000 tick", None),
     ("2000 exit 1 code 0", None),
+    ("0 exit 1 code 0", None),
+    ("6800 exit 4 code 1", None),
     ("0 exit 0 code 255", None),
     ("0 exit 4294967295 code 7", None),
     ("0 exit 4294967296 code 7", Some(16)),
@@ -41,6 +45,10 @@ const INPUTS: [(&str, Option<usize>); 76] = [
     ("0 exit 1 code 00", Some(15)),
     ("0 exit 1 code", Some(13)),
     ("0 exit 1 code -1", Some(14)),
+    ("0 exit 1 code 255 ", Some(17)),
+    ("0 exit 1 code 7 1", Some(15)),
+    ("0 exit  1 code 7", Some(7)),
+    ("0 exit -1 code 7", Some(7)),
     ("0 exit 01 code 1", Some(8)),
     ("0 exit 1 signal 1", None),
     ("5600 exit 1 signal 9", None),
@@ -48,6 +56,8 @@ const INPUTS: [(&str, Option<usize>); 76] = [
     ("0 exit 1 signal 65", Some(17)),
     ("0 exit 1 signal 0", Some(16)),
     ("0 exit 1 signal 100", Some(18)),
+    ("0 exit 1 signal 09", Some(16)),
+    ("0 exit 1 Signal 9", Some(9)),
     ("0 exit 1 stop", Some(10)),
     ("0 exit 1 sigterm", Some(12)),
     ("0 exit x", Some(7)),
@@ -56,6 +66,7 @@ const INPUTS: [(&str, Option<usize>); 76] = [
     ("600 stop x", None),
     ("600 stop x:x", None),
     ("600 stop x:*", None),
+    ("600 stop x:", None),
     ("0 start %", None),
     ("0 start a%20b", None),
     ("0 start %25", None),
@@ -84,19 +95,30 @@ const INPUTS: [(&str, Option<usize>); 76] = [
     ("0 start x%", Some(10)),
     ("0 start %%", Some(9)),
     ("pid 1", None),
+    ("pid 12", None),
     ("pid 4294967295", None),
     ("pid 4294967296", Some(13)),
     ("pid 0", Some(4)),
     ("pid", Some(3)),
 ];
 
-const ANSWERS: [(&str, Option<usize>); 14] = [
+const ANSWERS: [(&str, Option<usize>); 24] = [
     ("nofile", None),
     ("notexec", None),
     ("refused no%20room", None),
     ("refused %", None),
+    ("refused %00%0A%7F", None),
+    ("refused ~!", None),
+    ("refused %7E", Some(10)),
+    ("refused %FF", Some(10)),
+    ("refused %20%", Some(12)),
     ("nofil", Some(5)),
     ("nofile ", Some(6)),
+    ("nofile x", Some(6)),
+    ("notexec ", Some(7)),
+    ("note", Some(4)),
+    ("pid 1 ", Some(5)),
+    ("pid +1", Some(4)),
     ("notfile", Some(3)),
     ("none", Some(2)),
     ("refused", Some(7)),
@@ -108,21 +130,31 @@ const ANSWERS: [(&str, Option<usize>); 14] = [
 ];
 
 /// Header lines, in the same way.
-const HEADERS: [(&str, Option<usize>); 40] = [
+const HEADERS: [(&str, Option<usize>); 62] = [
     ("supervisor-journal 0", None),
     ("supervisor-journal 1", Some(19)),
     ("supervisor-journal 00", Some(20)),
     ("supervisor-journal", Some(18)),
+    ("supervisor-journal 0 ", Some(20)),
+    ("supervisor-journal  0", Some(19)),
     ("supervisor 0", Some(10)),
     ("go 0", None),
+    ("go 3600000", None),
     ("go 253000000000000", None),
     ("go 253000000000001", Some(17)),
     ("go", Some(2)),
     ("go 01", Some(4)),
     ("go 0 ", Some(4)),
+    ("go -1", Some(3)),
+    ("gone", Some(2)),
     ("program x 1 3 unexpected 0 TERM 10", None),
+    ("program x 0 3 unexpected 0 TERM 10", None),
+    ("program x 1 3 false 0 TERM 2", None),
     ("program x 0 0 true 255 KILL 0", None),
     ("program x 1000000 1000000 false 0,1,255 USR2 1000000", None),
+    ("program x 1 3 false 10 INT 10", None),
+    ("program x 1 3 true 25,6 QUIT 10", None),
+    ("program x 1 3 unexpected 0,0 USR1 10", None),
     ("program x 1000001 3 true 0 TERM 10", Some(16)),
     ("program x 1 1000001 true 0 TERM 10", Some(18)),
     ("program x 1 3 true 0 TERM 1000001", Some(32)),
@@ -131,12 +163,20 @@ const HEADERS: [(&str, Option<usize>); 40] = [
     ("program x 1 3 true 0, TERM 10", Some(21)),
     ("program x 1 3 true ,0 TERM 10", Some(19)),
     ("program x 1 3 true 0,00 TERM 10", Some(22)),
+    ("program x 1 3 true 0,1,2, TERM 10", Some(25)),
+    ("program x 1 3 unexpect 0 TERM 10", Some(22)),
     ("program x 1 3 always 0 TERM 10", Some(14)),
     ("program x 1 3 True 0 TERM 10", Some(14)),
     ("program x 1 3 true 0 SIGTERM 10", Some(21)),
     ("program x 1 3 true 0 USR3 10", Some(24)),
     ("program x 1 3 true 0 term 10", Some(21)),
     ("program x 1 3 true 0 TERM", Some(25)),
+    ("program x 1 3 true 0 TE 10", Some(23)),
+    ("program x 1 3 true 0 USR1 00", Some(27)),
+    ("program x 1 3 true 0 TERM 10 11", Some(28)),
+    ("program x  3 true 0 TERM 10", Some(10)),
+    ("program x 1 03 true 0 TERM 10", Some(13)),
+    ("program x", Some(9)),
     ("program x 1 3 true 0 TERM 10 ", Some(28)),
     ("program x 01 3 true 0 TERM 10", Some(11)),
     ("program % 1 3 true 0 TERM 10", Some(9)),
@@ -146,7 +186,11 @@ const HEADERS: [(&str, Option<usize>); 40] = [
     ("program a* 1 3 true 0 TERM 10", Some(9)),
     ("program a%0A 1 3 true 0 TERM 10", Some(10)),
     ("program %C2%9F 1 3 true 0 TERM 10", Some(12)),
+    ("program %C2%80 1 3 true 0 TERM 10", Some(12)),
     ("program %C2%A0 1 3 true 0 TERM 10", None),
+    ("program %7F 1 3 true 0 TERM 10", Some(9)),
+    ("program %C3%A4 1 3 true 0 TERM 10", None),
+    ("program %E2%82%AC 0 0 false 0 INT 0", None),
     ("program a%25b 1 3 unexpected 0 HUP 10", None),
     ("program  x 1 3 true 0 TERM 10", Some(8)),
 ];
@@ -204,37 +248,147 @@ fn lines_are_read_or_break_at_their_column(rt: HostRuntime) {
     }
 }
 
+const STATES: [(State, State, &str); 8] = [
+    (
+        State::Stopped,
+        State::Starting,
+        "state g a%20b STOPPED STARTING",
+    ),
+    (
+        State::Starting,
+        State::Running,
+        "state g a%20b STARTING RUNNING",
+    ),
+    (
+        State::Starting,
+        State::Backoff,
+        "state g a%20b STARTING BACKOFF",
+    ),
+    (State::Backoff, State::Fatal, "state g a%20b BACKOFF FATAL"),
+    (
+        State::Running,
+        State::Stopping,
+        "state g a%20b RUNNING STOPPING",
+    ),
+    (
+        State::Running,
+        State::Exited,
+        "state g a%20b RUNNING EXITED",
+    ),
+    (
+        State::Stopping,
+        State::Stopped,
+        "state g a%20b STOPPING STOPPED",
+    ),
+    (
+        State::Fatal,
+        State::Starting,
+        "state g a%20b FATAL STARTING",
+    ),
+];
+
+const KILLS: [(u32, Signal, bool, &str); 8] = [
+    (1, Signal::Term, false, "kill 1 TERM child"),
+    (2, Signal::Hup, false, "kill 2 HUP child"),
+    (30, Signal::Int, true, "kill 30 INT group"),
+    (400, Signal::Quit, true, "kill 400 QUIT group"),
+    (1, Signal::Kill, true, "kill 1 KILL group"),
+    (1, Signal::Usr1, false, "kill 1 USR1 child"),
+    (0, Signal::Usr2, false, "kill 0 USR2 child"),
+    (
+        4_294_967_295,
+        Signal::Usr2,
+        true,
+        "kill 4294967295 USR2 group",
+    ),
+];
+
+fn texts(rt: &impl Abort, alloc: Global, words: &[&'static str]) -> Items<Text> {
+    let mut items = Items::new(alloc);
+    for word in words {
+        if items.push(Text::fixed(*word)).is_err() {
+            panic!(rt; "out of memory")
+        }
+    }
+    items
+}
+
+fn pairs(
+    rt: &impl Abort,
+    alloc: Global,
+    pairs: &[(&'static str, &'static str)],
+) -> Items<(Text, Text)> {
+    let mut items = Items::new(alloc);
+    for (name, value) in pairs {
+        if items
+            .push((Text::fixed(*name), Text::fixed(*value)))
+            .is_err()
+        {
+            panic!(rt; "out of memory")
+        }
+    }
+    items
+}
+
 #[test]
-fn orders_are_written(rt: HostRuntime) {
+fn reports_and_kills_are_written(rt: HostRuntime) {
     let alloc = rt.alloc();
-    let state = Order::State {
-        group: Text::fixed("x"),
-        name: Text::fixed("a b"),
-        from: State::Stopped,
-        to: State::Starting,
-    };
-    order_is(&rt, alloc, &state, "state x a%20b STOPPED STARTING");
-    let kill = Order::Kill {
-        run: Run(1),
-        signal: Signal::Term,
-        group: false,
-    };
-    order_is(&rt, alloc, &kill, "kill 1 TERM child");
-    let kill = Order::Kill {
-        run: Run(4_294_967_295),
-        signal: Signal::Usr2,
-        group: true,
-    };
-    order_is(&rt, alloc, &kill, "kill 4294967295 USR2 group");
-    let spawn = Order::Spawn(SpawnOrder {
+    for (from, to, line) in &STATES {
+        let state = Order::State {
+            group: Text::fixed("g"),
+            name: Text::fixed("a b"),
+            from: *from,
+            to: *to,
+        };
+        order_is(&rt, alloc, &state, line);
+    }
+    for (run, signal, group, line) in &KILLS {
+        let kill = Order::Kill {
+            run: Run(*run),
+            signal: *signal,
+            group: *group,
+        };
+        order_is(&rt, alloc, &kill, line);
+    }
+}
+
+fn spawn_of_x(words: Items<Text>, environment: Items<(Text, Text)>) -> Order {
+    Order::Spawn(SpawnOrder {
         run: Run(1),
         group: Text::fixed("x"),
         name: Text::fixed("x"),
         directory: Text::fixed(""),
         umask: Text::fixed(""),
         user: Text::fixed(""),
-        words: Items::new(alloc),
-        environment: Items::new(alloc),
-    });
+        words,
+        environment,
+    })
+}
+
+#[test]
+fn spawns_are_written(rt: HostRuntime) {
+    let alloc = rt.alloc();
+    let spawn = spawn_of_x(Items::new(alloc), Items::new(alloc));
     order_is(&rt, alloc, &spawn, "spawn 1 x x % % % 0 0");
+    let environment = [
+        ("SUPERVISOR_ENABLED", "1"),
+        ("SUPERVISOR_GROUP_NAME", "x"),
+        ("SUPERVISOR_PROCESS_NAME", "x"),
+    ];
+    let spawn = spawn_of_x(texts(&rt, alloc, &["x"]), pairs(&rt, alloc, &environment));
+    let line =
+        "spawn 1 x x % % % 1 x 3 SUPERVISOR_ENABLED 1 SUPERVISOR_GROUP_NAME x SUPERVISOR_PROCESS_NAME x";
+    order_is(&rt, alloc, &spawn, line);
+    let spawn = Order::Spawn(SpawnOrder {
+        run: Run(70),
+        group: Text::fixed("g"),
+        name: Text::fixed("web:1"),
+        directory: Text::fixed("/srv/a b"),
+        umask: Text::fixed("022"),
+        user: Text::fixed("nobody"),
+        words: texts(&rt, alloc, &["/bin/sh", "-c", "echo 100%", ""]),
+        environment: pairs(&rt, alloc, &[("A", "1 2"), ("B", "")]),
+    });
+    let line = "spawn 70 g web:1 /srv/a%20b 022 nobody 4 /bin/sh -c echo%20100%25 % 2 A 1%202 B %";
+    order_is(&rt, alloc, &spawn, line);
 }

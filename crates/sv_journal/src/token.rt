@@ -26,6 +26,7 @@ enum Awaits {
     Continuation { low: u8, high: u8, more: u8 },
 }
 
+/// Whether a token has this byte as it is: `!` to `~`, but for the percent sign.
 pub fn stands_for_itself(byte: u8) -> bool
     ensures { result ≡ stands_for_itself byte }
 {
