@@ -1,4 +1,7 @@
+mod Apart
 mod MapOver
 mod OneChild
+mod Reported
 mod Standing
+mod Steps
 mod Sweeps

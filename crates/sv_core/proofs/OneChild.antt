@@ -14,12 +14,10 @@ use Rattle.sv_child.specs.declared.step.Edge.{Edge}
 use Rattle.sv_child.specs.declared.step.Step.{Step}
 use Rattle.sv_core.specs.Brought.{child_brought, step_brought}
 use Rattle.sv_core.specs.Orders.{reports, kill, spawn}
-use Rattle.sv_core.specs.Stimuli.{stimulus_of}
-use Rattle.sv_core.specs.Turn.{Turn, answered, heard, kills, spawns, asks, brings, meets, does, reported, changed}
+use Rattle.sv_core.specs.Turn.{Turn, answered, heard, kills, spawns, asks, brings, does, reported, changed}
 use Rattle.sv_core.specs.World.{World}
 use Rattle.sv_core.specs.declared.member.Member.{Member}
 use Rattle.sv_core.specs.declared.part.Reply.{Reply}
-use Rattle.sv_core.specs.declared.sweep.Sweep.{Sweep}
 use Rattle.sv_out.specs.declared.order.Order.{Order}
 use Rattle.sv_out.specs.declared.order.Order.TheVariants as order
 use Rattle.sv_out.specs.declared.order.SpawnOrder.{SpawnOrder}

@@ -1,12 +1,11 @@
 -- The machine and the state that it stands for go on together.
-use Rattle.std.proofs.Common.{◌≡◌, ℕ, List, [], ◌∷◌, ◌++◌, Bool, true, false, not, ◌&&◌, Option, Some, None, length, drop, refl, sym, ap, ◌∙◌, append-nil, ◌-◌, arith}
+use Rattle.std.proofs.Common.{◌≡◌, ℕ, List, [], ◌∷◌, ◌++◌, Option, Some, None, length, refl, sym, ap, ◌∙◌, append-nil, ◌-◌, arith}
 use Rattle.std.specs.Prelude.{is_some}
 use Rattle.std.proofs.Math.Seq.{drop-append_seam}
-use Rattle.sv_core.specs.MachineState.{Model, hand, now, accepts, next, next_part, orders, turn_of, is_accepted}
+use Rattle.sv_core.specs.MachineState.{Model, hand, now, accepts, next, next_part, orders, turn_of}
 use Rattle.sv_core.specs.Parts.{part_of}
 use Rattle.sv_core.specs.StandsFor.{StandsFor, Takes, rest, swept, shown, turn_after, is_fitting}
 use Rattle.sv_core.specs.Turn.{Turn, asks, answered, come, came, turn, rewinds, sweeps, sweeps_all, after_sweep, world_of, is_asking}
-use Rattle.sv_core.specs.Turn.Turn.{Done, Ask}
 use Rattle.sv_core.specs.World.{World}
 use Rattle.sv_core.specs.declared.machine.Machine.{Machine}
 use Rattle.sv_core.specs.declared.part.Part.{Part}
@@ -32,7 +31,7 @@ came_more t [] reply = refl
 came_more t (r ∷ rs) reply = came_more (come t r) rs reply
 
 -- the turn in hand after an input is what becomes of the turn in hand
-hand_after_part : (m : Model) (part : Part) → hand (next_part m part) ≡ turn_after part (hand m)
+pub hand_after_part : (m : Model) (part : Part) → hand (next_part m part) ≡ turn_after part (hand m)
 hand_after_part m (Begins at sweep) = refl
 hand_after_part m (Answers reply) = came_more (turn_of m.begun m.base) m.answers reply
 

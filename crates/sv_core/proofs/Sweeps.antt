@@ -1,5 +1,5 @@
 -- A sweep, one place after the other.
-use Rattle.std.proofs.Common.{◌≡◌, ℕ, suc, length, Some, None, ◌+◌, ◌-◌, ◌<◌, ◌≤◌, arith, refl, ap, ◌∙◌}
+use Rattle.std.proofs.Common.{◌≡◌, ℕ, suc, length, Some, None, ◌+◌, ◌-◌, ◌<◌, ◌≤◌, arith, ap, ◌∙◌}
 use Rattle.sv_core.specs.StandsFor.{stopped, swept}
 use Rattle.sv_core.specs.Turn.{Turn, asks, sweeps, visits}
 use Rattle.sv_core.specs.World.{World}

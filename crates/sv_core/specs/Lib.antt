@@ -7,3 +7,5 @@ pub mod Turn
 pub mod MachineState
 pub mod Deeds
 pub mod StandsFor
+pub mod Path
+pub mod WorkedJournals

@@ -1,5 +1,5 @@
 -- The machine: its state, which inputs it accepts, and what comes next.
-use Rattle.std.specs.Prelude.{ℕ, List, [], ◌∷◌, ◌++◌, Option, Some, None, Bool, true, ◌&&◌, not, nat_le, nat_lt, length, drop, map}
+use Rattle.std.specs.Prelude.{ℕ, List, [], ◌∷◌, ◌++◌, Option, Some, None, Bool, true, ◌&&◌, not, nat_lt, length, drop, map}
 use Rattle.std.specs.List.{flat_map}
 use Rattle.sv_base.specs.declared.config.Config.{Config}
 use Rattle.sv_base.specs.declared.config.Host.{Host}
@@ -9,7 +9,7 @@ use Rattle.sv_base.specs.declared.state.Mood.TheVariants as mood_is
 use Rattle.sv_child.specs.Moves.{new_child}
 use Rattle.sv_core.specs.Parts.{part_of}
 use Rattle.sv_core.specs.Turn.{Turn, turn, came, world_of, is_asking}
-use Rattle.sv_core.specs.Turn.Turn.{Done, Ask}
+use Rattle.sv_core.specs.Turn.Turn.{Done}
 use Rattle.sv_core.specs.World.{World}
 use Rattle.sv_core.specs.declared.member.Member.{Member}
 use Rattle.sv_core.specs.declared.part.Part.{Part}

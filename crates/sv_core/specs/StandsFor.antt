@@ -1,5 +1,5 @@
 -- What the machine keeps, and which state of the model it stands for.
-use Rattle.std.specs.Prelude.{◌≡◌, ℕ, List, [], ◌++◌, Option, Some, None, Bool, false, not, ◌&&◌, is_some, length, ◌+◌, ◌-◌}
+use Rattle.std.specs.Prelude.{◌≡◌, List, [], ◌++◌, Option, Some, None, Bool, false, not, ◌&&◌, is_some, length, ◌-◌}
 use Rattle.sv_core.specs.MachineState.{Model, hand, is_accepted}
 use Rattle.sv_core.specs.Parts.{part_of}
 use Rattle.sv_core.specs.Turn.{Turn, turn, come, world_of, asks, sweeps, after_sweep}

@@ -3,7 +3,6 @@ use Rattle.std.specs.Prelude.{ℕ, List, Option, Some, None, Bool, true, false, 
 use Rattle.std.specs.Str.{bytes_eq}
 use Rattle.sv_base.specs.declared.ids.Run.{Run}
 use Rattle.sv_base.specs.declared.spec.Spec.{Spec}
-use Rattle.sv_base.specs.declared.state.How.{How}
 use Rattle.sv_child.specs.ChildTable.{Stimulus}
 use Rattle.sv_child.specs.ChildTable.Stimulus.{Ended, Start as Is_to_start, Stop as Is_to_stop, Time as Time_passes}
 use Rattle.sv_child.specs.declared.child.Child.{Child}

@@ -1,6 +1,6 @@
 -- One turn of the machine, in its named steps. A step works on the world and hands it to what comes next; a question
 -- stops the turn until its answer comes.
-use Rattle.std.specs.Prelude.{ℕ, zero, suc, List, [], ◌∷◌, ◌++◌, Option, Some, None, Bool, true, false, ◌+◌, ◌-◌, length, nat_le, map, codes, slice_get, slice_set, if◌then◌else◌}
+use Rattle.std.specs.Prelude.{ℕ, zero, suc, List, [], ◌∷◌, ◌++◌, Option, Some, None, Bool, true, false, ◌+◌, length, nat_le, map, codes, slice_get, slice_set, if◌then◌else◌}
 use Rattle.sv_base.specs.declared.ids.Run.{Run}
 use Rattle.sv_base.specs.declared.signal.Signal.{Signal}
 use Rattle.sv_base.specs.declared.spec.Spec.{Spec}

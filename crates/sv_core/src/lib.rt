@@ -3,10 +3,13 @@
 //! and in the code; it stops at a question, and its answer goes on with it.
 #![tactic(auto)]
 
+pub mod laws;
 pub mod machine;
 pub mod member;
 pub mod part;
 pub mod place;
 mod report;
 pub mod sweep;
+#[cfg(test)]
+mod tests;
 mod turn;

@@ -1,4 +1,4 @@
-use Rattle.std.proofs.Common.{◌≡◌, ◌<◌, length, arith}
+use Rattle.std.proofs.Common.{arith}
 use Rattle.sv_core.proofs.MapOver.{map_over_read}
 use Rattle.sv_core.specs.Turn.{member_rewound}
 use Rattle.sv_core.proofs.turn.rewind_all.Goals as goal

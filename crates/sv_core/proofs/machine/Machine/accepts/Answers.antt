@@ -1,4 +1,4 @@
-use Rattle.std.proofs.Common.{◌≡◌, ◌∙◌}
+use Rattle.std.proofs.Common.{◌∙◌}
 use Rattle.sv_core.proofs.Standing.{accepts_is}
 use Rattle.sv_core.proofs.machine.Machine.accepts.Goals as goal
 

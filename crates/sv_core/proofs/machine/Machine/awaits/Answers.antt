@@ -1,4 +1,4 @@
-use Rattle.std.proofs.Common.{◌≡◌, sym, ap, ◌∙◌}
+use Rattle.std.proofs.Common.{sym, ap, ◌∙◌}
 use Rattle.sv_core.proofs.Standing.{is_asking_rest}
 use Rattle.sv_core.specs.StandsFor.{shown}
 use Rattle.sv_core.specs.Turn.{is_asking}

@@ -1,4 +1,4 @@
-use Rattle.std.proofs.Common.{◌≡◌, arith, vec_len}
+use Rattle.std.proofs.Common.{vec_len}
 use Rattle.sv_core.proofs.Standing.{turn_begun}
 use Rattle.sv_core.specs.StandsFor.{shown}
 use Rattle.sv_core.proofs.machine.Machine.begin.Goals as goal

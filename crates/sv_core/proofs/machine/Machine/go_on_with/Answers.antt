@@ -1,6 +1,6 @@
 use Rattle.std.proofs.Common.{◌≡◌, Some, None, arith, ◌∙◌, ap, sym, vec_len}
 use Rattle.sv_core.proofs.Standing.{turn_answered, nothing_answered}
-use Rattle.sv_core.specs.StandsFor.{shown, rest, turn_after}
+use Rattle.sv_core.specs.StandsFor.{shown, rest}
 use Rattle.sv_core.specs.Turn.{come}
 use Rattle.sv_core.proofs.machine.Machine.go_on_with.Goals as goal
 

@@ -1,6 +1,6 @@
-use Rattle.std.proofs.Common.{◌≡◌, Some, None, arith, sym, ap, ◌∙◌}
+use Rattle.std.proofs.Common.{◌≡◌, Some, arith, sym, ap, ◌∙◌}
 use Rattle.std.proofs.lemmas.Option.{slice_get_read}
-use Rattle.std.specs.List.{slice_get, slice_set}
+use Rattle.std.specs.List.{slice_get}
 use Rattle.sv_core.proofs.OneChild.{nothing_brought, step_taken, reported_there}
 use Rattle.sv_core.specs.StandsFor.{shown, stopped}
 use Rattle.sv_core.specs.Stimuli.{stimulus_of}

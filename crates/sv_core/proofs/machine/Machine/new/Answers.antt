@@ -1,4 +1,4 @@
-use Rattle.std.proofs.Common.{◌≡◌, [], refl}
+use Rattle.std.proofs.Common.{[], refl}
 use Rattle.sv_core.specs.StandsFor.{rest}
 use Rattle.sv_core.proofs.machine.Machine.new.Goals as goal
 

@@ -1,4 +1,4 @@
-use Rattle.std.proofs.Common.{◌≡◌, ℕ, length, arith, rules, ap, ◌∙◌, vec_len}
+use Rattle.std.proofs.Common.{arith, rules, ap, ◌∙◌, vec_len}
 use Rattle.sv_core.proofs.Sweeps.{sweep_stopped, sweep_went_on, sweep_done}
 use Rattle.sv_core.specs.StandsFor.{shown, stopped, swept}
 use Rattle.sv_core.proofs.machine.Machine.sweep.Goals as goal

@@ -1,0 +1,118 @@
+-- In a configuration no two children have one group and one name.
+use Rattle.std.proofs.Common.{◌≡◌, ℕ, zero, suc, List, [], ◌∷◌, ◌++◌, true, false, Some, refl, sym, ap, ◌∙◌}
+use Rattle.std.specs.Prelude.{slice_get}
+use Rattle.std.specs.List.{flat_map, list_all, list_any}
+use Rattle.std.specs.Str.{bytes_eq}
+use Rattle.std.proofs.lemmas.Bool.{and_parts, both_ways, not-true, or_parts}
+use Rattle.std.proofs.lemmas.Option.{same_Some}
+use Rattle.std.proofs.lemmas.Slice.Eq.{bytes_eq-Decides}
+use Rattle.sv_base.specs.Order.{are_distinct, is_rising}
+use Rattle.sv_base.specs.Roster.{are_memberships, is_membership, is_roster}
+use Rattle.sv_base.specs.declared.spec.GroupSpec.{GroupSpec}
+use Rattle.sv_base.specs.declared.spec.Spec.{Spec}
+use Rattle.sv_core.specs.Path.{IsOnlyOne, are_in_own_groups, is_in_own_group}
+
+abbrev pub members_of : List GroupSpec → List Spec
+members_of groups = flat_map (λ (g : GroupSpec). g.members) groups
+
+-- none of these has this one's group and name
+abbrev pub Unlike : Spec → List Spec → Type 0
+Unlike s [] = Unit {0}
+Unlike s (t ∷ ts) = (t.group ≡ s.group → t.name ≡ s.name → ⊥) × Unlike s ts
+
+abbrev pub AllUnlike : List Spec → List Spec → Type 0
+AllUnlike [] ts = Unit {0}
+AllUnlike (s ∷ ss) ts = Unlike s ts × AllUnlike ss ts
+
+abbrev pub Apart : List Spec → Type 0
+Apart [] = Unit {0}
+Apart (s ∷ ss) = Unlike s ss × Apart ss
+
+unlike_at : (s : Spec) (ts : List Spec) (i : ℕ) (t : Spec) → Unlike s ts → slice_get ts i ≡ Some t → t.group ≡ s.group → t.name ≡ s.name → ⊥
+unlike_at s [] i t unlike is group name = cc
+unlike_at s (x ∷ xs) zero t unlike is group name =
+    let same : x ≡ t = same_Some x t is in
+    unlike.0 (ap (λ (y : Spec). y.group) same ∙ group) (ap (λ (y : Spec). y.name) same ∙ name)
+unlike_at s (x ∷ xs) (suc i) t unlike is group name = unlike_at s xs i t unlike.1 is group name
+
+pub only_one : (ss : List Spec) → Apart ss → (i j : ℕ) (s t : Spec) → slice_get ss i ≡ Some s → slice_get ss j ≡ Some t
+    → t.group ≡ s.group → t.name ≡ s.name → j ≡ i
+only_one [] apart i j s t is it group name = cc
+only_one (x ∷ xs) apart zero zero s t is it group name = refl
+only_one (x ∷ xs) apart zero (suc j) s t is it group name =
+    let same : s ≡ x = sym (same_Some x s is) in
+    elim (unlike_at x xs j t apart.0 it (group ∙ ap (λ (y : Spec). y.group) same) (name ∙ ap (λ (y : Spec). y.name) same)) [ ]
+only_one (x ∷ xs) apart (suc i) zero s t is it group name =
+    let same : t ≡ x = sym (same_Some x t it) in
+    elim (unlike_at x xs i s apart.0 is (sym group ∙ ap (λ (y : Spec). y.group) same) (sym name ∙ ap (λ (y : Spec). y.name) same)) [ ]
+only_one (x ∷ xs) apart (suc i) (suc j) s t is it group name = ap suc (only_one xs apart.1 i j s t is it group name)
+
+unlike_append : (s : Spec) (xs ys : List Spec) → Unlike s xs → Unlike s ys → Unlike s (xs ++ ys)
+unlike_append s [] ys left right = right
+unlike_append s (x ∷ xs) ys left right = (left.0, unlike_append s xs ys left.1 right)
+
+apart_append : (xs ys : List Spec) → Apart xs → Apart ys → AllUnlike xs ys → Apart (xs ++ ys)
+apart_append [] ys left right unlike = right
+apart_append (x ∷ xs) ys left right unlike =
+    (unlike_append x xs ys left.0 unlike.0, apart_append xs ys left.1 right unlike.1)
+
+-- ---- the members of one group, told by their names
+
+unlike_names : (s : Spec) (ts : List Spec) → list_any (λ (t : Spec). bytes_eq t.name s.name) ts ≡ false → Unlike s ts
+unlike_names s [] other = tt
+unlike_names s (t ∷ ts) other =
+    let parts = or_parts (bytes_eq t.name s.name) (list_any (λ (y : Spec). bytes_eq y.name s.name) ts) other in
+    (λ group name. both_ways (bytes_eq t.name s.name) parts.0 ((bytes_eq-Decides t.name s.name).1 name), unlike_names s ts parts.1)
+
+apart_names : (ss : List Spec) → are_distinct (λ (s : Spec). s.name) ss ≡ true → Apart ss
+apart_names [] distinct = tt
+apart_names (s ∷ ss) distinct =
+    let parts = and_parts _ (are_distinct (λ (y : Spec). y.name) ss) distinct in
+    (unlike_names s ss (not-true (list_any (λ (y : Spec). bytes_eq y.name s.name) ss) parts.0), apart_names ss parts.1)
+
+-- ---- the members of two groups, told by their groups
+
+unlike_group : (s : Spec) (name : List ℕ) (ts : List Spec) → list_all (λ (t : Spec). bytes_eq t.group name) ts ≡ true
+    → (name ≡ s.group → ⊥) → Unlike s ts
+unlike_group s name [] own other = tt
+unlike_group s name (t ∷ ts) own other =
+    let parts = and_parts (bytes_eq t.group name) (list_all (λ (y : Spec). bytes_eq y.group name) ts) own in
+    (λ group named. other (sym ((bytes_eq-Decides t.group name).0 parts.0) ∙ group), unlike_group s name ts parts.1 other)
+
+unlike_groups : (s : Spec) (gs : List GroupSpec) → are_in_own_groups gs ≡ true
+    → list_any (λ (g : GroupSpec). bytes_eq g.name s.group) gs ≡ false → Unlike s (members_of gs)
+unlike_groups s [] own other = tt
+unlike_groups s (g ∷ gs) own other =
+    let owns = and_parts (is_in_own_group g) (are_in_own_groups gs) own in
+    let others = or_parts (bytes_eq g.name s.group) (list_any (λ (h : GroupSpec). bytes_eq h.name s.group) gs) other in
+    unlike_append s g.members (members_of gs)
+    (unlike_group s g.name g.members owns.0 (λ same. both_ways (bytes_eq g.name s.group) others.0 ((bytes_eq-Decides g.name s.group).1 same)))
+    (unlike_groups s gs owns.1 others.1)
+
+all_unlike : (ss : List Spec) (name : List ℕ) (gs : List GroupSpec) → list_all (λ (s : Spec). bytes_eq s.group name) ss ≡ true
+    → are_in_own_groups gs ≡ true → list_any (λ (g : GroupSpec). bytes_eq g.name name) gs ≡ false → AllUnlike ss (members_of gs)
+all_unlike [] name gs mine own other = tt
+all_unlike (s ∷ ss) name gs mine own other =
+    let parts = and_parts (bytes_eq s.group name) (list_all (λ (y : Spec). bytes_eq y.group name) ss) mine in
+    let same : s.group ≡ name = (bytes_eq-Decides s.group name).0 parts.0 in
+    (unlike_groups s gs own (ap (λ n. list_any (λ (g : GroupSpec). bytes_eq g.name n) gs) same ∙ other), all_unlike ss name gs parts.1 own other)
+
+apart_groups : (gs : List GroupSpec) → are_distinct (λ (g : GroupSpec). g.name) gs ≡ true → are_memberships gs ≡ true
+    → are_in_own_groups gs ≡ true → Apart (members_of gs)
+apart_groups [] distinct members own = tt
+apart_groups (g ∷ gs) distinct members own =
+    let distincts = and_parts _ (are_distinct (λ (h : GroupSpec). h.name) gs) distinct in
+    let each = and_parts (is_membership g.members) (are_memberships gs) members in
+    let owns = and_parts (is_in_own_group g) (are_in_own_groups gs) own in
+    let names = and_parts (is_rising (λ (m : Spec). m.priority) (λ (m : Spec). m.name) g.members) (are_distinct (λ (m : Spec). m.name) g.members) each.0 in
+    apart_append g.members (members_of gs) (apart_names g.members names.1)
+    (apart_groups gs distincts.1 each.1 owns.1)
+    (all_unlike g.members g.name gs owns.0 owns.1 (not-true (list_any (λ (h : GroupSpec). bytes_eq h.name g.name) gs) distincts.0))
+
+pub only_in_roster : (groups : List GroupSpec) (place : ℕ) (spec : Spec) → is_roster groups ≡ true → are_in_own_groups groups ≡ true
+    → slice_get (members_of groups) place ≡ Some spec → IsOnlyOne (members_of groups) place spec
+only_in_roster groups place spec roster own is =
+    let members = and_parts _ (are_memberships groups) roster in
+    let distinct = and_parts _ (are_distinct (λ (g : GroupSpec). g.name) groups) members.0 in
+    let apart = apart_groups groups distinct.1 members.1 own in
+    λ other_place other it group name. only_one (members_of groups) apart place other_place spec other is it group name

@@ -1,0 +1,120 @@
+-- Journals of one program that were worked out by hand, one line for each input, and what the daemon then does.
+-- Moments are in milliseconds; startsecs, startretries, autorestart and stopwaitsecs stand behind `program spec`.
+use Rattle.std.specs.Prelude.{◌≡◌, ℕ, List, [], ◌∷◌, codes}
+use Rattle.sv_base.specs.declared.config.Config.{Config}
+use Rattle.sv_base.specs.declared.config.Host.{Host}
+use Rattle.sv_base.specs.declared.ids.Run.{Run}
+use Rattle.sv_base.specs.declared.signal.Signal.TheVariants as signal_is
+use Rattle.sv_base.specs.declared.spec.GroupSpec.{GroupSpec}
+use Rattle.sv_base.specs.declared.spec.Spec.{Spec}
+use Rattle.sv_base.specs.declared.state.Autorestart.{Autorestart}
+use Rattle.sv_base.specs.declared.state.Autorestart.TheVariants.{Never, Unexpected}
+use Rattle.sv_base.specs.declared.state.How.TheVariants.{Code, Signal}
+use Rattle.sv_base.specs.declared.state.State.{State}
+use Rattle.sv_base.specs.declared.state.State.TheVariants.{Stopped, Starting, Running, Backoff, Stopping, Exited, Fatal}
+use Rattle.sv_child.specs.Examples.{program}
+use Rattle.sv_core.specs.Deeds.{deeds}
+use Rattle.sv_core.specs.MachineState.{opening}
+use Rattle.sv_core.specs.Orders.{spawn}
+use Rattle.sv_out.specs.declared.input.Input.{Input}
+use Rattle.sv_out.specs.declared.input.Input.TheVariants.{Tick, Exit, Stop, Pid}
+use Rattle.sv_out.specs.declared.order.Order.{Order}
+use Rattle.sv_out.specs.declared.order.Order.TheVariants as order
+
+-- what the rest of the configuration, of the group, of the program and of the host is doesn't matter
+pub record Rest : Type 0 where
+  pub config : Config
+  pub group : GroupSpec
+  pub spec : Spec
+  pub host : Host
+
+-- the program x, alone in its group
+abbrev pub x_of : Rest → ℕ → ℕ → Autorestart → ℕ → Spec
+x_of rest startsecs startretries autorestart stopwaitsecs =
+    record (program rest.spec startsecs startretries autorestart stopwaitsecs) { group = codes "x"; name = codes "x" }
+
+abbrev pub alone : Rest → Spec → Config
+alone rest spec = record rest.config { groups = record rest.group { name = codes "x"; members = spec ∷ [] } ∷ [] }
+
+-- what the daemon does for x and these inputs
+abbrev pub done : Rest → Spec → List Input → List Order
+done rest spec inputs = deeds (opening (alone rest spec) rest.host) inputs
+
+abbrev pub run : ℕ → Run
+run number = record { 0 = number }
+
+abbrev pub took : State → State → Order
+took from to = order.State (codes "x") (codes "x") from to
+
+-- it stays up for its second, and then exits
+abbrev pub StartsStaysUpAndExits : Rest → Type 0
+StartsStaysUpAndExits rest =
+    let x = x_of rest 1 3 Unexpected 10 in
+    done rest x
+    (Tick 0
+    ∷ Pid 12
+    ∷ Tick 1000
+    ∷ Exit 2000 (run 1) (Code 0) ∷ [])
+    ≡ took Stopped Starting ∷ order.Spawn (spawn x 1)
+    ∷ took Starting Running
+    ∷ took Running Exited ∷ []
+
+-- the waits grow by a second each, and after three retries it is FATAL
+abbrev pub ThreeRetriesThenFatal : Rest → Type 0
+ThreeRetriesThenFatal rest =
+    let x = x_of rest 1 3 Unexpected 10 in
+    done rest x
+    (Tick 0 ∷ Pid 1 ∷ Exit 500 (run 1) (Code 1)
+    ∷ Tick 1499
+    ∷ Tick 1500 ∷ Pid 2 ∷ Exit 1600 (run 2) (Code 1)
+    ∷ Tick 3599
+    ∷ Tick 3600 ∷ Pid 3 ∷ Exit 3700 (run 3) (Code 1)
+    ∷ Tick 6700 ∷ Pid 4 ∷ Exit 6800 (run 4) (Code 1) ∷ [])
+    ≡ took Stopped Starting ∷ order.Spawn (spawn x 1) ∷ took Starting Backoff
+    ∷ took Backoff Starting ∷ order.Spawn (spawn x 2) ∷ took Starting Backoff
+    ∷ took Backoff Starting ∷ order.Spawn (spawn x 3) ∷ took Starting Backoff
+    ∷ took Backoff Starting ∷ order.Spawn (spawn x 4) ∷ took Starting Backoff
+    ∷ took Backoff Fatal ∷ []
+
+-- with startsecs 0 an exit at once is one of a child that was up
+abbrev pub UpAtOnce : Rest → Type 0
+UpAtOnce rest =
+    let x = x_of rest 0 3 Unexpected 10 in
+    done rest x
+    (Tick 0
+    ∷ Pid 7
+    ∷ Exit 0 (run 1) (Code 0) ∷ [])
+    ≡ took Stopped Starting ∷ order.Spawn (spawn x 1)
+    ∷ took Starting Running
+    ∷ took Running Exited ∷ []
+
+-- the clock goes back by an hour: the deadline goes back too
+abbrev pub ClockGoesBack : Rest → Type 0
+ClockGoesBack rest =
+    let x = x_of rest 1 3 Unexpected 10 in
+    done rest x
+    (Tick 3600000
+    ∷ Pid 7
+    ∷ Exit 500 (run 1) (Code 0) ∷ [])
+    ≡ took Stopped Starting ∷ order.Spawn (spawn x 1)
+    ∷ took Starting Backoff ∷ []
+
+-- it doesn't heed TERM: KILL follows after two seconds, and again after two more
+abbrev pub KillAtEachDeadline : Rest → Type 0
+KillAtEachDeadline rest =
+    let x = x_of rest 1 3 Never 2 in
+    done rest x
+    (Tick 0
+    ∷ Pid 9
+    ∷ Tick 1000
+    ∷ Stop 1500 (codes "x")
+    ∷ Tick 3499
+    ∷ Tick 3500
+    ∷ Tick 5500
+    ∷ Exit 5600 (run 1) (Signal 9) ∷ [])
+    ≡ took Stopped Starting ∷ order.Spawn (spawn x 1)
+    ∷ took Starting Running
+    ∷ took Running Stopping ∷ order.Kill (run 1) signal_is.Term x.stopasgroup
+    ∷ order.Kill (run 1) signal_is.Kill x.killasgroup
+    ∷ order.Kill (run 1) signal_is.Kill x.killasgroup
+    ∷ took Stopping Stopped ∷ []
