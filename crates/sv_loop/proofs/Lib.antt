@@ -1,0 +1,6 @@
+mod Judged
+mod ReadAll
+mod RunSteps
+mod Says
+mod Table
+mod Walks

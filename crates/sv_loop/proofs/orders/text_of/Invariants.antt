@@ -1,0 +1,6 @@
+use Rattle.std.proofs.Common.{◌≡◌, take}
+use Rattle.sv_loop.specs.JournalPlaces.{order_text}
+use Rattle.sv_loop.proofs.orders.text_of.Given as goal
+
+abbrev pub invariant-loop-order : goal.invariant-loop-order
+invariant-loop-order l = l.text.items ≡ order_text (take l.order-index l.orders)

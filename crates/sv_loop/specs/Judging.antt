@@ -1,0 +1,38 @@
+-- What the reader of a journal knows of the place that it has come to, and what it answers of a line there.
+use Rattle.std.specs.Prelude.{◌≡◌, ℕ, List}
+use Rattle.sv_core.specs.StandsFor.{StandsFor}
+use Rattle.sv_loop.specs.JournalPlaces.{Stage, Verdict, Leads, IsMisplaced, IsRefused}
+use Rattle.sv_loop.specs.JournalPlaces.Verdict.{Stands as As_stands, Misplaced as As_misplaced}
+use Rattle.sv_loop.specs.JournalPlaces.Stage.{Fresh as At_title, Named as At_programs, Running as At_inputs}
+use Rattle.sv_out.specs.declared.order.Order.{Order}
+use Rattle.sv_loop.specs.declared.judge.Judged.{Judged}
+use Rattle.sv_loop.specs.declared.judge.Judged.TheVariants.{Stands, Misplaced, Refused, NoMemory}
+use Rattle.sv_loop.specs.declared.judge.Place.{Place}
+use Rattle.sv_loop.specs.declared.judge.Place.TheVariants.{Fresh, Named, Running}
+
+-- the place is this one
+abbrev pub IsPlace : Place → Stage → Type 0
+IsPlace Fresh At_title = Unit {0}
+IsPlace (Named groups) (At_programs kept) = groups ≡ kept
+IsPlace (Running machine) (At_inputs m) = StandsFor machine m
+IsPlace place at = ⊥
+
+-- the line leads to the place and the orders that are answered
+pub record LeadsTo (at : Stage) (text : List ℕ) (place : Place) (orders : List Order) : Type 0 where
+  pub to : Stage
+  pub leads : Leads at text to orders
+  pub is_place : IsPlace place to
+
+-- what the answer says of a header at a place where only headers stand
+abbrev pub JudgedHead : Judged → Verdict → Type 0
+JudgedHead (Stands place orders) verdict = (to : Stage) × (verdict ≡ As_stands to orders.items) × IsPlace place to
+JudgedHead Misplaced verdict = verdict ≡ As_misplaced
+JudgedHead Refused verdict = ⊥
+JudgedHead NoMemory verdict = Unit {0}
+
+-- what the answer says of a line
+abbrev pub JudgedAs : Judged → Stage → List ℕ → Type 0
+JudgedAs (Stands place orders) at text = LeadsTo at text place orders.items
+JudgedAs Misplaced at text = IsMisplaced at text
+JudgedAs Refused at text = IsRefused at text
+JudgedAs NoMemory at text = Unit {0}

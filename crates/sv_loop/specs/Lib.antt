@@ -1,0 +1,7 @@
+pub mod ShortHeader
+pub mod JournalPlaces
+pub mod Judging
+pub mod Reading
+pub mod Replaying
+pub mod Telling
+pub mod WholeJournal

@@ -1,0 +1,87 @@
+-- How far a journal was read: its whole lines, each of which stood at its place, and what is behind them.
+use Rattle.std.specs.Prelude.{◌≡◌, ℕ, List, [], ◌∷◌, ◌++◌, Bool, false, ◌==◌, ◌≤◌, ◌<◌, ◌⊎◌, ◌^◌, length, Option}
+use Rattle.std.specs.Io.KnownBytes.{Appends, Consumes, IsAtEnd}
+use Rattle.std.specs.List.{list_any}
+use Rattle.sv_journal.specs.Limits.{line_limit}
+use Rattle.sv_loop.specs.JournalPlaces.{Line, Stage, walked, journal_text, order_text, AllFit, IsMisplaced, IsRefused}
+use Rattle.sv_loop.specs.JournalPlaces.Stage.{Fresh}
+use Rattle.sv_loop.specs.JournalPlaces.Walked.{Reaches}
+use Rattle.sv_loop.specs.Judging.{IsPlace}
+use Rattle.sv_loop.specs.declared.run.End.{End}
+use Rattle.sv_loop.specs.declared.run.End.TheVariants.{Misplaced, Refused, NoMemory, Unwritten}
+use Rattle.sv_loop.specs.declared.run.Run.{Run}
+use Rattle.sv_out.specs.Written.{AppendsFront}
+use Rattle.sv_out.specs.declared.order.Order.{Order}
+
+abbrev pub has_feed : List ℕ → Bool
+has_feed bytes = list_any (λ byte. byte == 10) bytes
+
+-- the bytes are whole lines that lead to this place with these orders, then a text without a line feed, then a rest
+pub record IsRead (bytes : List ℕ) (given : List Order) (lines : List Line) (at : Stage) (text rest : List ℕ) : Type 0 where
+  pub walks : walked Fresh lines ≡ Reaches at given
+  pub fit : AllFit lines
+  pub spelled : bytes ≡ journal_text lines ++ (text ++ rest)
+  pub unbroken : has_feed text ≡ false
+
+-- the reader has taken these bytes
+pub record IsAt (run : Run) (lines : List Line) (at : Stage) (given : List Order) (bytes : List ℕ) : Type 0 where
+  pub read : IsRead bytes given lines at run.line.items []
+  pub short : length run.line.items ≤ line_limit
+  pub count : run.lines ≡ length lines
+  pub place : IsPlace run.place at
+
+-- the reader has taken these bytes, and the orders that they gave beyond the earlier ones were written
+pub record GoesOn (run : Run) (bytes : List ℕ) (earlier : List Order) (old new : Option (List ℕ)) : Type 0 where
+  pub lines : List Line
+  pub at : Stage
+  pub more : List Order
+  pub is_at : IsAt run lines at (earlier ++ more) bytes
+  pub wrote : Appends old new (order_text more)
+
+-- a line is at fault: it is whole and can't stand at its place, or it is too long
+pub record AtFault (run : Run) (Cause : Stage → List ℕ → List ℕ → Type 0) (bytes : List ℕ) (earlier : List Order) (old new : Option (List ℕ)) : Type 0 where
+  pub lines : List Line
+  pub at : Stage
+  pub more : List Order
+  pub text : List ℕ
+  pub rest : List ℕ
+  pub read : IsRead bytes (earlier ++ more) lines at text rest
+  pub cause : Cause at text rest
+  pub count : run.lines ≡ length lines
+  pub wrote : Appends old new (order_text more)
+
+-- the text is a whole line
+pub record IsWhole (rest : List ℕ) : Type 0 where
+  pub behind : List ℕ
+  pub feed : rest ≡ 10 ∷ behind
+
+abbrev pub OutsideGrammar : Stage → List ℕ → List ℕ → Type 0
+OutsideGrammar at text rest = (IsWhole rest × IsMisplaced at text) ⊎ (line_limit < length text)
+
+abbrev pub NotAccepted : Stage → List ℕ → List ℕ → Type 0
+NotAccepted at text rest = IsWhole rest × IsRefused at text
+
+abbrev pub Anything : Stage → List ℕ → List ℕ → Type 0
+Anything at text rest = Unit {0}
+
+-- the orders of the last whole line couldn't be written
+pub record HalfWritten (bytes : List ℕ) (earlier : List Order) (old new : Option (List ℕ)) : Type 0 where
+  pub lines : List Line
+  pub at : Stage
+  pub more : List Order
+  pub rest : List ℕ
+  pub read : IsRead bytes (earlier ++ more) lines at [] rest
+  pub wrote : AppendsFront old new (order_text more)
+
+-- why the reading stopped at a line
+abbrev pub StopsAt : End → Run → List ℕ → List Order → Option (List ℕ) → Option (List ℕ) → Type 0
+StopsAt Misplaced run bytes earlier old new = AtFault run OutsideGrammar bytes earlier old new
+StopsAt Refused run bytes earlier old new = AtFault run NotAccepted bytes earlier old new
+StopsAt NoMemory run bytes earlier old new = AtFault run Anything bytes earlier old new
+StopsAt Unwritten run bytes earlier old new = HalfWritten bytes earlier old new
+
+-- what a write of orders that failed has left
+abbrev pub Unwrote : End → List ℕ → Option (List ℕ) → Option (List ℕ) → Type 0
+Unwrote NoMemory text old new = Appends old new []
+Unwrote Unwritten text old new = AppendsFront old new text
+Unwrote end text old new = ⊥

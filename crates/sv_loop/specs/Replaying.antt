@@ -1,0 +1,181 @@
+-- What a journal that was replayed has come to, for each status.
+use Rattle.std.specs.Prelude.{◌≡◌, ◌≢◌, ℕ, List, [], ◌∷◌, ◌++◌, Bool, true, false, ◌||◌, ◌+◌, ◌<◌, ◌≤◌, ◌⊎◌, ◌==◌, nat_le, length, Option, codes, IsTrue}
+use Rattle.std.specs.Fmt.{decimal}
+use Rattle.std.specs.Io.KnownBytes.{Appends, Consumes, IsAtEnd, Keeps}
+use Rattle.sv_core.specs.MachineState.{Model}
+use Rattle.sv_loop.specs.JournalPlaces.{Line, Stage, order_text}
+use Rattle.sv_loop.specs.JournalPlaces.Stage.{Fresh, Named, Running}
+use Rattle.sv_loop.specs.Reading.{IsRead, OutsideGrammar, NotAccepted, GoesOn, StopsAt}
+use Rattle.sv_loop.specs.declared.replay.Ending.{Ending}
+use Rattle.sv_loop.specs.declared.replay.Ending.TheVariants as ending
+use Rattle.sv_loop.specs.declared.replay.Status.{Status}
+use Rattle.sv_loop.specs.declared.replay.Status.TheVariants as status
+use Rattle.sv_loop.specs.declared.run.Run.{Run}
+use Rattle.sv_out.specs.Written.{AppendsFront}
+use Rattle.sv_out.specs.declared.order.Order.{Order}
+
+-- the most bytes of a journal
+abbrev pub journal_limit : ℕ
+journal_limit = 67108864
+
+-- the one word of the call
+abbrev pub AreRun : List (List ℕ) → Type 0
+AreRun words = words ≡ codes "run" ∷ []
+
+abbrev pub usage : List ℕ
+usage = codes "Error: usage: sv_replay run or sv_replay gen N" ++ 10 ∷ []
+
+abbrev pub status_number : Status → ℕ
+status_number status.Done = 0
+status_number status.SourceFailed = 1
+status_number status.WordsRefused = 2
+status_number status.NoMemory = 3
+status_number status.SinkFailed = 4
+status_number status.BadLine = 5
+status_number status.NotAccepted = 7
+status_number status.TooLong = 8
+
+-- the line that tells of a fault at a line
+abbrev pub fault_line : List ℕ → ℕ → List ℕ
+fault_line front line = front ++ decimal line ++ 10 ∷ []
+
+abbrev pub bad_line : ℕ → List ℕ
+bad_line line = fault_line (codes "fault 5 line ") line
+
+abbrev pub not_accepted : ℕ → List ℕ
+not_accepted line = fault_line (codes "fault 7 line ") line
+
+abbrev pub source_failed : List ℕ
+source_failed = codes "fault 1" ++ 10 ∷ []
+
+abbrev pub too_long : List ℕ
+too_long = codes "fault 8" ++ 10 ∷ []
+
+-- the place is before `go`
+abbrev pub IsBeforeGo : Stage → Type 0
+IsBeforeGo Fresh = Unit {0}
+IsBeforeGo (Named groups) = Unit {0}
+IsBeforeGo (Running m) = ⊥
+
+-- the source is at its end, and the journal's end alone makes the fault: a line without a line feed, or no `go`
+pub record EndsTooEarly (left : Option (List ℕ)) (at : Stage) (text rest : List ℕ) : Type 0 where
+  pub at_end : IsAtEnd left
+  pub nothing_behind : rest ≡ []
+  pub cause : (0 < length text) ⊎ IsBeforeGo at
+
+-- these bytes were taken, at most as many as a journal may have
+pub record Taken (left left_after : Option (List ℕ)) (bytes : List ℕ) : Type 0 where
+  pub consumed : Consumes left left_after bytes
+  pub within : length bytes ≤ journal_limit
+
+-- a whole journal, read to its end, whose orders were written
+pub record Done (left left_after written written_after : Option (List ℕ)) : Type 0 where
+  pub bytes : List ℕ
+  pub taken : Taken left left_after bytes
+  pub at_end : IsAtEnd left_after
+  pub lines : List Line
+  pub model : Model
+  pub given : List Order
+  pub read : IsRead bytes given lines (Running model) [] []
+  pub wrote : Appends written written_after (order_text given)
+
+-- the whole lines were worked off, and behind their orders stands this closing line
+pub record Closed (left left_after written written_after : Option (List ℕ)) (closing : List Line → List ℕ)
+    (Cause : Stage → List ℕ → List ℕ → Type 0) : Type 0 where
+  pub bytes : List ℕ
+  pub taken : Taken left left_after bytes
+  pub lines : List Line
+  pub at : Stage
+  pub given : List Order
+  pub text : List ℕ
+  pub rest : List ℕ
+  pub read : IsRead bytes given lines at text rest
+  pub cause : Cause at text rest
+  pub wrote : Appends written written_after (order_text given ++ closing lines)
+
+-- a journal of which more bytes are there than one may have: the orders are those of the whole lines within the limit
+pub record Overfull (left left_after written written_after : Option (List ℕ)) : Type 0 where
+  pub bytes : List ℕ
+  pub one_more : ℕ
+  pub consumed : Consumes left left_after (bytes ++ one_more ∷ [])
+  pub size : length bytes ≡ journal_limit
+  pub lines : List Line
+  pub at : Stage
+  pub given : List Order
+  pub text : List ℕ
+  pub read : IsRead bytes given lines at text []
+  pub wrote : Appends written written_after (order_text given ++ too_long)
+
+-- what a closing line may be
+pub data IsClosing : List Line → List ℕ → Type 0 where
+  Nothing_more : (lines : List Line) → IsClosing lines []
+  Of_source : (lines : List Line) → IsClosing lines source_failed
+  Of_length : (lines : List Line) → IsClosing lines too_long
+  Of_line : (lines : List Line) → IsClosing lines (bad_line (length lines + 1))
+  Of_input : (lines : List Line) → IsClosing lines (not_accepted (length lines + 1))
+
+-- a front of the orders of the whole lines, and of a closing line, was written
+pub record HalfTold (left left_after written written_after : Option (List ℕ)) : Type 0 where
+  pub bytes : List ℕ
+  pub consumed : Consumes left left_after bytes
+  pub lines : List Line
+  pub at : Stage
+  pub given : List Order
+  pub text : List ℕ
+  pub rest : List ℕ
+  pub read : IsRead bytes given lines at text rest
+  pub closing : List ℕ
+  pub is_closing : IsClosing lines closing
+  pub wrote : AppendsFront written written_after (order_text given ++ closing)
+
+abbrev pub line_behind : (ℕ → List ℕ) → List Line → List ℕ
+line_behind closing lines = closing (length lines + 1)
+
+-- the table of statuses
+abbrev pub Replays : Status → Option (List ℕ) → Option (List ℕ) → Option (List ℕ) → Option (List ℕ) → Type 0
+Replays status.Done left left_after old new = Done left left_after old new
+Replays status.SourceFailed left left_after old new =
+    Closed left left_after old new (λ lines. source_failed) (λ at text rest. rest ≡ [])
+Replays status.WordsRefused left left_after old new = Keeps left left_after × Appends old new usage
+Replays status.NoMemory left left_after old new =
+    Closed left left_after old new (λ lines. []) (λ at text rest. Unit {0})
+Replays status.SinkFailed left left_after old new = HalfTold left left_after old new
+Replays status.BadLine left left_after old new =
+    Closed left left_after old new (line_behind bad_line)
+    (λ at text rest. OutsideGrammar at text rest ⊎ EndsTooEarly left_after at text rest)
+Replays status.NotAccepted left left_after old new =
+    Closed left left_after old new (line_behind not_accepted) NotAccepted
+Replays status.TooLong left left_after old new = Overfull left left_after old new
+
+-- ---- how the reading ended
+
+-- all but so many bytes of a journal were taken
+pub record ReadsOn (run : Run) (room : ℕ) (left left_after old new : Option (List ℕ)) : Type 0 where
+  pub bytes : List ℕ
+  pub consumed : Consumes left left_after bytes
+  pub size : length bytes + room ≡ journal_limit
+  pub goes : GoesOn run bytes [] old new
+
+pub record ReadOn (run : Run) (left left_after old new : Option (List ℕ)) : Type 0 where
+  pub bytes : List ℕ
+  pub taken : Taken left left_after bytes
+  pub goes : GoesOn run bytes [] old new
+
+abbrev pub Ended : Ending → Run → Option (List ℕ) → Option (List ℕ) → Option (List ℕ) → Option (List ℕ) → Type 0
+Ended ending.Whole run left left_after old new = ReadOn run left left_after old new × IsAtEnd left_after
+Ended ending.Broken run left left_after old new = ReadOn run left left_after old new
+Ended ending.Full run left left_after old new =
+    (bytes : List ℕ) × (one : ℕ) × Consumes left left_after (bytes ++ one ∷ []) × (length bytes ≡ journal_limit) × GoesOn run bytes [] old new
+Ended (ending.Stopped end) run left left_after old new =
+    (bytes : List ℕ) × Taken left left_after bytes × StopsAt end run bytes [] old new
+
+-- the words were refused: nothing was read, and the usage line was written, or a front of it where the sink failed
+abbrev pub Refuses : ℕ → Option (List ℕ) → Option (List ℕ) → Option (List ℕ) → Option (List ℕ) → Type 0
+Refuses got left left_after old new =
+    Keeps left left_after × (((got ≡ 2) × Appends old new usage) ⊎ ((got ≡ 4) × AppendsFront old new usage))
+
+-- the status with this number has its row of the table
+pub record ReplaysAs (got : ℕ) (left left_after old new : Option (List ℕ)) : Type 0 where
+  pub status : Status
+  pub number : got ≡ status_number status
+  pub row : Replays status left left_after old new

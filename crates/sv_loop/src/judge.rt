@@ -1,0 +1,148 @@
+ghost use Rattle.std.specs.Prelude.{◌≡◌, ◌↔◌, IsTrue, IsSome, IfOk, IfSome};
+ghost use Rattle.sv_base.specs.Roster.{is_roster};
+ghost use Rattle.sv_core.specs.MachineState.{Model};
+ghost use Rattle.sv_core.specs.StandsFor.{StandsFor};
+ghost use Rattle.sv_journal.specs.declared.header.Header.TheVariants.{Go};
+ghost use Rattle.sv_loop.specs.JournalPlaces.{Stage, heads, adds};
+ghost use Rattle.sv_loop.specs.ShortHeader.{group_of, placed};
+ghost use Rattle.sv_loop.specs.JournalPlaces.Stage.{Fresh, Named, Running};
+ghost use Rattle.sv_loop.specs.Judging.{IsPlace, JudgedAs, JudgedHead};
+
+use crate::short::{config_of, group_of, host_at, place};
+use std::alloc::{AllocError, Global};
+use sv_base::groups::Groups;
+use sv_base::moment::Moment;
+use sv_core::machine::Machine;
+use sv_journal::fault::LineFault;
+use sv_journal::header::{Header, Program};
+use sv_journal::read::{read_header, read_input};
+use sv_out::order::Order;
+
+/// Where in a journal the next line stands: at the beginning, behind the title and some programs, or behind `go`.
+#[derive(Debug, Drop)]
+pub enum Place {
+    Fresh,
+    Named(Groups),
+    Running(Machine),
+}
+
+/// What is to be said of a line at its place.
+#[derive(Debug, Drop)]
+pub enum Judged {
+    /// It stands, leads to this place and gives these orders.
+    Stands(Place, Vec<Order>),
+    /// It is outside the grammar of its place.
+    Misplaced,
+    /// Its input isn't accepted.
+    Refused,
+    /// Memory was refused.
+    NoMemory,
+}
+
+/// Judges the line at this place.
+pub(crate) fn judge(alloc: Global, place: Place, line: &[u8]) -> Judged
+    ensures { (at : Stage) → IsPlace place at → JudgedAs result at line.now }
+{
+    match place {
+        Place::Fresh => judge_title(alloc, line),
+        Place::Named(groups) => judge_header(alloc, groups, line),
+        Place::Running(machine) => judge_input(alloc, machine, line),
+    }
+}
+
+#[tactic(auto, using(crate::proofs::Judged::judged_by_head))]
+fn judge_title(alloc: Global, line: &[u8]) -> Judged
+    ensures { JudgedAs result Fresh line.now }
+{
+    match read_header(alloc, line) {
+        Ok(header) => judge_first(alloc, &header),
+        Err(LineFault::BadLine(_)) => Judged::Misplaced,
+        Err(LineFault::OutOfMemory) => Judged::NoMemory,
+    }
+}
+
+fn judge_first(alloc: Global, header: &Header) -> Judged
+    ensures { JudgedHead result (heads Fresh header.now) }
+{
+    match header {
+        Header::Journal(_) => Judged::Stands(Place::Named(Groups::none(alloc)), Vec::new(alloc)),
+        _ => Judged::Misplaced,
+    }
+}
+
+#[tactic(auto, using(crate::proofs::Judged::judged_by_head))]
+fn judge_header(alloc: Global, groups: Groups, line: &[u8]) -> Judged
+    ensures { JudgedAs result (Named groups) line.now }
+{
+    match read_header(alloc, line) {
+        Ok(header) => judge_head(alloc, groups, header),
+        Err(LineFault::BadLine(_)) => Judged::Misplaced,
+        Err(LineFault::OutOfMemory) => Judged::NoMemory,
+    }
+}
+
+fn judge_head(alloc: Global, groups: Groups, header: Header) -> Judged
+    ensures { JudgedHead result (heads (Named groups) header) }
+{
+    match header {
+        Header::Journal(_) => Judged::Misplaced,
+        Header::Program(program) => judge_program(alloc, groups, program),
+        Header::Go(start) => judge_go(alloc, groups, start),
+    }
+}
+
+fn judge_program(alloc: Global, groups: Groups, program: Program) -> Judged
+    ensures { JudgedHead result (adds (placed (group_of program) groups)) }
+{
+    match with_program(alloc, groups, program) {
+        Ok(Some(groups)) => Judged::Stands(Place::Named(groups), Vec::new(alloc)),
+        Ok(None) => Judged::Misplaced,
+        Err(AllocError) => Judged::NoMemory,
+    }
+}
+
+/// The groups with one more program, unless a configuration can't hold them.
+fn with_program(
+    alloc: Global,
+    groups: Groups,
+    program: Program,
+) -> Result<Option<Groups>, AllocError>
+    ensures some { IfOk result (λ more. IsSome more ↔ IsTrue (is_roster (placed (group_of program) groups))) }
+    ensures value { IfOk result (λ more. IfSome more (λ g. g ≡ placed (group_of program) groups)) }
+{
+    let group = group_of(alloc, program)?;
+    let mut groups = groups.into_vec();
+    place(&mut groups, group)?;
+    Ok(Groups::new(groups))
+}
+
+fn judge_go(alloc: Global, groups: Groups, start: Moment) -> Judged
+    ensures { JudgedHead result (heads (Named groups) (Go start)) }
+{
+    if groups.as_slice().is_empty() {
+        return Judged::Misplaced;
+    }
+    match Machine::new(alloc, config_of(alloc, groups), &host_at(alloc, start)) {
+        Ok(machine) => Judged::Stands(Place::Running(machine), Vec::new(alloc)),
+        Err(AllocError) => Judged::NoMemory,
+    }
+}
+
+fn judge_input(alloc: Global, machine: Machine, line: &[u8]) -> Judged
+    ensures { (m : Model) → StandsFor machine m → JudgedAs result (Running m) line.now }
+{
+    let mut machine = machine;
+    match read_input(alloc, line) {
+        Ok(input) => {
+            if !machine.accepts(&input) {
+                return Judged::Refused;
+            }
+            match machine.step(alloc, input) {
+                Ok(orders) => Judged::Stands(Place::Running(machine), orders),
+                Err(AllocError) => Judged::NoMemory,
+            }
+        }
+        Err(LineFault::BadLine(_)) => Judged::Misplaced,
+        Err(LineFault::OutOfMemory) => Judged::NoMemory,
+    }
+}

@@ -1,0 +1,10 @@
+//! The top calls: a recorded journal through the daemon's machine.
+#![tactic(auto)]
+
+mod judge;
+mod orders;
+pub mod replay;
+mod run;
+mod short;
+#[cfg(test)]
+mod tests;

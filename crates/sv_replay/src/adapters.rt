@@ -1,0 +1,74 @@
+ghost use Rattle.std.specs.Prelude.{◌≡◌, None};
+
+use std::io::{Read, Write};
+use sv_out::failed::Failed;
+use sv_out::sink::Sink;
+use sv_out::source::Source;
+
+/// A source over a real reader. It counts each error as a fault, and tells nothing of the content.
+#[derive(Drop)]
+pub struct Reading<R> {
+    inner: R,
+    faults: u64,
+}
+
+impl<R: Read> Reading<R> {
+    /// A source that has not failed yet.
+    pub fn new(inner: R) -> Reading<R>
+        ensures { result.faults ≡ 0 }
+    {
+        Reading { inner, faults: 0 }
+    }
+}
+
+impl<R: Read> Source for Reading<R> {
+    ghost left = { λ _. None };
+
+    ghost faults = { λ s. s.faults };
+
+    fn read(&mut self, into: &mut [u8]) -> Result<usize, Failed> {
+        match self.inner.read(into) {
+            Ok(count) => Ok(count),
+            Err(_) => {
+                self.faults = self.faults.saturating_add(1);
+                Err(Failed)
+            }
+        }
+    }
+}
+
+/// A sink over a real writer. It counts each error, and each write that takes nothing, as a fault, and tells nothing of
+/// the content.
+#[derive(Drop)]
+pub struct Writing<W> {
+    inner: W,
+    faults: u64,
+}
+
+impl<W: Write> Writing<W> {
+    /// A sink that has not failed yet.
+    pub fn new(inner: W) -> Writing<W>
+        ensures { result.faults ≡ 0 }
+    {
+        Writing { inner, faults: 0 }
+    }
+}
+
+impl<W: Write> Sink for Writing<W> {
+    ghost written = { λ _. None };
+
+    ghost faults = { λ s. s.faults };
+
+    fn write(&mut self, piece: &[u8]) -> Result<usize, Failed> {
+        if piece.is_empty() {
+            return Ok(0);
+        }
+        match self.inner.write(piece) {
+            Ok(count) if count > 0 => Ok(count),
+            _ => {
+                self.faults = self.faults.saturating_add(1);
+                Err(Failed)
+            }
+        }
+    }
+}
