@@ -411,16 +411,16 @@ impl Source for LongLines {
     ghost faults = { λ _. 0 };
 
     fn read(&mut self, into: &mut [u8]) -> Result<usize, Failed> {
-        let mut count = 0;
+        let mut count: usize = 0;
         for byte in into.iter_mut() {
             if self.at >= self.all {
                 break;
             }
             *byte = self.byte();
             self.at = self.at.saturating_add(1);
-            count += 1;
+            count = count.saturating_add(1);
         }
-        Ok(count)
+        Ok(count.min(into.len()))
     }
 }
 
