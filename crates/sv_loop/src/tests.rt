@@ -490,7 +490,7 @@ fn lines_at_their_limit(rt: HostRuntime) {
         line + 2,
         line + 70,
         5,
-        b"RUNNING\nfault 5 line 6\n",
+        b"PROCESS_NAME x\nfault 5 line 6\n",
     );
     fill(
         &rt,
@@ -498,6 +498,6 @@ fn lines_at_their_limit(rt: HostRuntime) {
         line + 9,
         line + 69,
         5,
-        b"RUNNING\nfault 5 line 6\n",
+        b"PROCESS_NAME x\nfault 5 line 6\n",
     );
 }
