@@ -1,9 +1,9 @@
 -- What is found of a header is found of its line.
-use Rattle.std.proofs.Common.{◌≡◌, ℕ, List, ◌≤◌, length, sym, refl, [], ◌∷◌, Bool, true, false, ◌==◌}
+use Rattle.std.proofs.Common.{◌≡◌, ℕ, List, ◌≤◌, length, sym, refl, [], ◌∷◌, true, false, ◌==◌}
 use Rattle.sv_journal.specs.JournalLine.{header_line, FitsHeader}
 use Rattle.sv_journal.specs.Limits.{line_limit}
 use Rattle.sv_journal.specs.declared.header.Header.{Header}
-use Rattle.sv_loop.specs.JournalPlaces.{Line, FitsLine, line_text, Stage, judged, heads, says, adds, IsMisplaced}
+use Rattle.sv_loop.specs.JournalPlaces.{Line, FitsLine, line_text, Stage, judged, heads, says, adds}
 use Rattle.sv_base.specs.Roster.{is_roster}
 use Rattle.sv_base.specs.declared.spec.GroupSpec.{GroupSpec}
 use Rattle.sv_core.specs.MachineState.{opening}

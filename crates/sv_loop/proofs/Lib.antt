@@ -1,4 +1,5 @@
 mod Judged
+mod OneReading
 mod ReadAll
 mod RunSteps
 mod Says

@@ -1,5 +1,5 @@
 -- The reader of a journal takes one byte more, or stops at it.
-use Rattle.std.proofs.Common.{◌≡◌, ℕ, ◌+◌, List, [], ◌∷◌, ◌++◌, Bool, false, ◌==◌, ◌≤◌, ◌<◌, ◌⊎◌, inl, inr, length, length-append, Option, refl, sym, ap, subst, ◌∙◌, append_assoc, append-nil, arith, take, drop, get_or}
+use Rattle.std.proofs.Common.{◌≡◌, ℕ, ◌+◌, List, [], ◌∷◌, ◌++◌, false, ◌==◌, ◌≤◌, ◌<◌, inl, inr, length, length-append, Option, refl, sym, ap, subst, ◌∙◌, append_assoc, append-nil, arith, take, drop, get_or}
 use Rattle.std.proofs.lemmas.List.{take_more, take-append-drop}
 use Rattle.std.proofs.KnownBytes.{Appends-nil, Appends-trans}
 use Rattle.std.specs.Io.KnownBytes.{Appends}

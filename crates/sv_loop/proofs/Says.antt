@@ -7,14 +7,14 @@ use Rattle.sv_core.specs.Deeds.{after, deeds}
 use Rattle.sv_core.specs.MachineState.{Model, accepts, next, opening, orders}
 use Rattle.sv_journal.specs.declared.header.Header.TheVariants.{Journal, Program, Go}
 use Rattle.sv_journal.specs.declared.header.Program.{Program as Programs_line}
-use Rattle.sv_loop.specs.JournalPlaces.{Line, Stage, Verdict, judged, Walked, behind, walks_on, walked, journal_text, order_text, AllFit}
+use Rattle.sv_loop.specs.JournalPlaces.{Line, Stage, Walked, behind, walks_on, walked, journal_text, order_text, AllFit}
 use Rattle.sv_loop.specs.JournalPlaces.Line.{Head, Said}
 use Rattle.sv_loop.specs.JournalPlaces.Stage.{Fresh, Named, Running}
 use Rattle.sv_loop.specs.JournalPlaces.Verdict.{Stands, Misplaced, Refused}
 use Rattle.sv_loop.specs.JournalPlaces.Walked.{Reaches, Stops}
 use Rattle.sv_loop.specs.Replaying.{Done}
 use Rattle.sv_loop.specs.ShortHeader.{config_of, group_of, host_at, placed}
-use Rattle.sv_loop.specs.WholeJournal.{program_lines, input_lines, journal_lines, groups_of, beginning, AllAccepted, SaysJournal, WritesDeeds}
+use Rattle.sv_loop.specs.WholeJournal.{program_lines, input_lines, groups_of, AllAccepted, SaysJournal, WritesDeeds}
 use Rattle.sv_out.specs.declared.input.Input.{Input}
 use Rattle.sv_out.specs.declared.order.Order.{Order}
 

@@ -1,5 +1,5 @@
 -- What was read and what was told make the table of statuses.
-use Rattle.std.proofs.Common.{◌≡◌, ℕ, zero, suc, ◌+◌, ◌<◌, ◌≤◌, List, [], ◌∷◌, ◌++◌, ◌⊎◌, inl, inr, length, Option, refl, sym, ap, subst, ◌∙◌, append_assoc, append-nil, arith}
+use Rattle.std.proofs.Common.{◌≡◌, ℕ, ◌+◌, ◌<◌, List, [], ◌∷◌, ◌++◌, ◌⊎◌, inl, inr, length, Option, refl, sym, ap, subst, ◌∙◌, append_assoc, append-nil, arith}
 use Rattle.std.proofs.KnownBytes.{Appends-trans}
 use Rattle.std.specs.Io.KnownBytes.{Appends, Consumes, IsAtEnd}
 use Rattle.sv_core.specs.MachineState.{Model}
@@ -7,8 +7,8 @@ use Rattle.sv_loop.proofs.RunSteps.{read_later}
 use Rattle.sv_loop.specs.JournalPlaces.{Line, Stage, order_text}
 use Rattle.sv_loop.specs.JournalPlaces.Stage.{Fresh, Named, Running}
 use Rattle.sv_loop.specs.Judging.{IsPlace}
-use Rattle.sv_loop.specs.Reading.{IsRead, IsAt, GoesOn, AtFault, OutsideGrammar, NotAccepted, Anything, StopsAt}
-use Rattle.sv_loop.specs.Replaying.{bad_line, not_accepted, source_failed, too_long, IsBeforeGo, EndsTooEarly, Taken, Done, Closed, Overfull, IsClosing, HalfTold, line_behind, Replays, ReadOn, Ended}
+use Rattle.sv_loop.specs.Reading.{IsRead, GoesOn, OutsideGrammar, NotAccepted, StopsAt}
+use Rattle.sv_loop.specs.Replaying.{bad_line, not_accepted, source_failed, too_long, IsBeforeGo, EndsTooEarly, Taken, Closed, IsClosing, HalfTold, line_behind, Replays, ReadOn, Ended}
 use Rattle.sv_loop.specs.Replaying.IsClosing.{Nothing_more, Of_source, Of_length, Of_line, Of_input}
 use Rattle.sv_loop.specs.Telling.{IsRunning, Tells, TellsLine, TellsOf, TellsOfLine, TellsOfWhole}
 use Rattle.sv_loop.specs.declared.judge.Place.{Place}

@@ -1,8 +1,7 @@
 -- A list of lines with one more.
-use Rattle.std.proofs.Common.{◌≡◌, ℕ, List, [], ◌∷◌, ◌++◌, Bool, false, ◌==◌, ◌≤◌, ◌||◌, length, refl, sym, ap, ◌∙◌, append_assoc, append-nil}
+use Rattle.std.proofs.Common.{◌≡◌, ℕ, List, [], ◌∷◌, ◌++◌, false, ◌==◌, ◌≤◌, length, refl, sym, ap, ◌∙◌, append_assoc, append-nil}
 use Rattle.std.proofs.lemmas.Grind.{flat_map-append}
 use Rattle.std.proofs.lemmas.List.Folds.{list_any-append}
-use Rattle.std.specs.List.{flat_map, list_any}
 use Rattle.sv_journal.specs.JournalLine.{order_line}
 use Rattle.sv_journal.specs.Limits.{line_limit}
 use Rattle.sv_loop.specs.JournalPlaces.{Line, line_text, FitsLine, Stage, Verdict, judged, Walked, behind, walks_on, walked, journal_text, order_text, AllFit}

@@ -1,6 +1,6 @@
 -- The places of a journal: the title, the program lines, `go`, then the inputs; what a line is at its place, and what a
 -- list of lines leads to.
-use Rattle.std.specs.Prelude.{◌≡◌, ℕ, List, [], ◌∷◌, ◌++◌, Bool, if◌then◌else◌, ◌≤◌, length}
+use Rattle.std.specs.Prelude.{◌≡◌, ℕ, List, [], ◌∷◌, ◌++◌, if◌then◌else◌, ◌≤◌, length}
 use Rattle.std.specs.List.{flat_map}
 use Rattle.sv_base.specs.Roster.{is_roster}
 use Rattle.sv_base.specs.declared.spec.GroupSpec.{GroupSpec}

@@ -1,6 +1,6 @@
 -- How far a journal was read: its whole lines, each of which stood at its place, and what is behind them.
-use Rattle.std.specs.Prelude.{◌≡◌, ℕ, List, [], ◌∷◌, ◌++◌, Bool, false, ◌==◌, ◌≤◌, ◌<◌, ◌⊎◌, ◌^◌, length, Option}
-use Rattle.std.specs.Io.KnownBytes.{Appends, Consumes, IsAtEnd}
+use Rattle.std.specs.Prelude.{◌≡◌, ℕ, List, [], ◌∷◌, ◌++◌, Bool, false, ◌==◌, ◌≤◌, ◌<◌, ◌⊎◌, length, Option}
+use Rattle.std.specs.Io.KnownBytes.{Appends}
 use Rattle.std.specs.List.{list_any}
 use Rattle.sv_journal.specs.Limits.{line_limit}
 use Rattle.sv_loop.specs.JournalPlaces.{Line, Stage, walked, journal_text, order_text, AllFit, IsMisplaced, IsRefused}

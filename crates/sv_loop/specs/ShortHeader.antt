@@ -1,6 +1,6 @@
 -- What the short header of a journal stands for: a configuration without logs, servers and rpcinterface, in which each
 -- program line is a program whose command is its name and whose other keys have their defaults.
-use Rattle.std.specs.Prelude.{ℕ, pos, List, [], ◌∷◌, Option, Some, None, Bool, true, false, codes, insert, length, unwrap_or, position}
+use Rattle.std.specs.Prelude.{ℕ, pos, List, [], ◌∷◌, None, Bool, true, false, codes, insert, length, unwrap_or, position}
 use Rattle.std.specs.Ordering.{is_lt}
 use Rattle.sv_base.specs.Order.{start_order}
 use Rattle.sv_base.specs.declared.config.Config.{Config}

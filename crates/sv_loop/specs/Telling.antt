@@ -1,5 +1,5 @@
 -- What is told of how a journal's reading ended.
-use Rattle.std.specs.Prelude.{◌≡◌, ◌≢◌, ℕ, List, [], ◌∷◌, ◌++◌, ◌+◌, ◌<◌, ◌⊎◌, length, Option}
+use Rattle.std.specs.Prelude.{◌≡◌, ℕ, List, [], ◌∷◌, ◌+◌, ◌⊎◌, Option}
 use Rattle.std.specs.Io.KnownBytes.{Appends, Consumes, IsAtEnd}
 use Rattle.sv_loop.specs.Replaying.{bad_line, not_accepted, source_failed, too_long}
 use Rattle.sv_loop.specs.declared.judge.Place.{Place}

@@ -1,13 +1,16 @@
 -- A whole journal as what it says: the programs, the moment at which the daemon starts, and the inputs.
-use Rattle.std.specs.Prelude.{◌≡◌, ℕ, List, [], ◌∷◌, ◌++◌, true, Option}
+use Rattle.std.specs.Prelude.{◌≡◌, ◌≤◌, ℕ, List, [], ◌∷◌, ◌++◌, true, Option, Some, length}
 use Rattle.std.specs.Io.KnownBytes.{Appends, Consumes, IsAtEnd}
 use Rattle.sv_base.specs.declared.spec.GroupSpec.{GroupSpec}
 use Rattle.sv_core.specs.Deeds.{after, deeds}
 use Rattle.sv_core.specs.MachineState.{Model, accepts, next, opening}
 use Rattle.sv_journal.specs.declared.header.Header.TheVariants as header
 use Rattle.sv_journal.specs.declared.header.Program.{Program}
-use Rattle.sv_loop.specs.JournalPlaces.{Line, journal_text, order_text, AllFit}
+use Rattle.sv_loop.specs.JournalPlaces.{Line, journal_text, order_text, AllFit, walked}
 use Rattle.sv_loop.specs.JournalPlaces.Line.{Head, Said}
+use Rattle.sv_loop.specs.JournalPlaces.Stage.{Fresh, Running}
+use Rattle.sv_loop.specs.JournalPlaces.Walked.{Reaches}
+use Rattle.sv_loop.specs.Replaying.{journal_limit}
 use Rattle.sv_loop.specs.ShortHeader.{config_of, group_of, host_at, placed}
 use Rattle.sv_out.specs.declared.input.Input.{Input}
 use Rattle.sv_out.specs.declared.order.Order.{Order}
@@ -60,3 +63,22 @@ pub record WritesDeeds (left left_after written written_after : Option (List ℕ
   pub at_end : IsAtEnd left_after
   pub accepted : AllAccepted (beginning programs start) inputs
   pub wrote : Appends written written_after (order_text (deeds (beginning programs start) inputs))
+
+-- the source holds a good journal: each line is in the grammar of its place, they lead behind `go`, each input is accepted,
+-- and it has no more bytes than a journal may have
+pub record HoldsGoodJournal (left : Option (List ℕ)) : Type 0 where
+  pub lines : List Line
+  pub model : Model
+  pub given : List Order
+  pub fit : AllFit lines
+  pub walks : walked Fresh lines ≡ Reaches (Running model) given
+  pub short : length (journal_text lines) ≤ journal_limit
+  pub held : left ≡ Some (journal_text lines)
+
+-- the replay was done, or it was hindered: by its source, its words, want of memory or its sink
+pub data IsDoneOrHindered : ℕ → Type 0 where
+  Is_done : IsDoneOrHindered 0
+  Source_failed : IsDoneOrHindered 1
+  Words_refused : IsDoneOrHindered 2
+  No_memory : IsDoneOrHindered 3
+  Sink_failed : IsDoneOrHindered 4

@@ -5,7 +5,7 @@ ghost use Rattle.sv_loop.specs.JournalPlaces.Stage.{Fresh};
 ghost use Rattle.sv_loop.specs.Reading.{IsAt};
 ghost use Rattle.sv_loop.specs.Replaying.{AreRun, Ended, Refuses, Replays, ReplaysAs, bad_line, fault_line, status_number};
 ghost use Rattle.sv_loop.specs.Telling.{IsBehind, IsRunning, Tells, TellsLine, TellsOf, TellsOfLine, TellsOfWhole};
-ghost use Rattle.sv_loop.specs.WholeJournal.{WritesDeeds};
+ghost use Rattle.sv_loop.specs.WholeJournal.{HoldsGoodJournal, IsDoneOrHindered, WritesDeeds};
 ghost use Rattle.sv_loop.specs.declared.replay.Status.{Status};
 ghost use Rattle.sv_out.specs.Faults.{HasCause, Rose};
 
@@ -247,6 +247,7 @@ fn run<R: Source, K: Sink>(alloc: Global, source: &mut R, sink: &mut K) -> Statu
     ensures words { result ≢ Status.WordsRefused }
     ensures deeds { result ≡ Status.Done →
         WritesDeeds (R.left source.old) (R.left source.new) (K.written sink.old) (K.written sink.new) }
+    ensures complete { HoldsGoodJournal (R.left source.old) → IsDoneOrHindered (status_number result) }
     ensures source_failed { result ≡ Status.SourceFailed → Rose (R.faults source.old) (R.faults source.new) }
     ensures sink_failed { result ≡ Status.SinkFailed → Rose (K.faults sink.old) (K.faults sink.new) }
 {
@@ -271,6 +272,7 @@ pub fn replay<R: Source, K: Sink>(alloc: Global, words: &[Text], source: &mut R,
     ensures words { result ≡ 2 → AreRun words.now → ⊥ }
     ensures deeds { AreRun words.now → result ≡ 0 →
         WritesDeeds (R.left source.old) (R.left source.new) (K.written sink.old) (K.written sink.new) }
+    ensures complete { AreRun words.now → HoldsGoodJournal (R.left source.old) → IsDoneOrHindered result }
     ensures source_failed { result ≡ 1 → Rose (R.faults source.old) (R.faults source.new) }
     ensures sink_failed { result ≡ 4 → Rose (K.faults sink.old) (K.faults sink.new) }
 {

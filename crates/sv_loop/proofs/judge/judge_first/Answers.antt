@@ -1,4 +1,4 @@
-use Rattle.std.proofs.Common.{◌≡◌, [], refl}
+use Rattle.std.proofs.Common.{[], refl}
 use Rattle.sv_loop.specs.JournalPlaces.Stage.{Named}
 use Rattle.sv_loop.proofs.judge.judge_first.Goals as goal
 

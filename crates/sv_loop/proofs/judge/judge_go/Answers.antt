@@ -1,4 +1,4 @@
-use Rattle.std.proofs.Common.{◌≡◌, Bool, false, ◌==◌, length, sym, ap, ◌∙◌}
+use Rattle.std.proofs.Common.{◌≡◌, false, ◌==◌, length, sym, ap, ◌∙◌}
 use Rattle.sv_core.specs.MachineState.{opening}
 use Rattle.sv_loop.proofs.Judged.{go_leads}
 use Rattle.sv_loop.specs.JournalPlaces.Stage.{Running}

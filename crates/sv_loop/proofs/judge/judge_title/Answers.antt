@@ -1,6 +1,6 @@
-use Rattle.std.proofs.Common.{◌≡◌, refl}
+use Rattle.std.proofs.Common.{refl}
 use Rattle.sv_loop.proofs.Judged.{judged_by_head}
-use Rattle.sv_loop.specs.JournalPlaces.Stage.{Fresh, Named}
+use Rattle.sv_loop.specs.JournalPlaces.Stage.{Fresh}
 use Rattle.sv_loop.proofs.judge.judge_title.Goals as goal
 
 pub returns-in-Ok : goal.returns-in-Ok

@@ -1,4 +1,4 @@
-use Rattle.std.proofs.Common.{◌≡◌, ◌-◌, ℕ, length, subst, ap, arith}
+use Rattle.std.proofs.Common.{◌-◌, ℕ, subst, arith}
 use Rattle.sv_loop.proofs.ReadAll.{reads_more, read_stops, ended_behind}
 use Rattle.sv_loop.specs.Replaying.{ReadsOn}
 use Rattle.sv_loop.proofs.replay.read_all.Goals as goal

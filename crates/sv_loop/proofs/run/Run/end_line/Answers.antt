@@ -1,4 +1,4 @@
-use Rattle.std.proofs.Common.{◌≡◌, refl}
+use Rattle.std.proofs.Common.{refl}
 use Rattle.sv_loop.proofs.RunSteps.{stood, stopped_at_write, misplaced, refused, no_memory}
 use Rattle.sv_loop.proofs.run.Run.end_line.Goals as goal
 

@@ -1,6 +1,6 @@
-use Rattle.std.proofs.Common.{◌≡◌, refl, arith}
+use Rattle.std.proofs.Common.{refl, arith}
 use Rattle.std.proofs.lemmas.Bool.{ne_eqb}
-use Rattle.sv_loop.proofs.RunSteps.{too_long, no_memory, held_more}
+use Rattle.sv_loop.proofs.RunSteps.{too_long, no_memory}
 use Rattle.sv_loop.proofs.run.Run.take_byte.Goals as goal
 
 pub returns-in-Err-clause-stops : goal.returns-in-Err-clause-stops

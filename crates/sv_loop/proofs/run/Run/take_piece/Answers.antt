@@ -1,4 +1,4 @@
-use Rattle.std.proofs.Common.{◌≡◌, ◌∷◌, [], ◌++◌, List, ℕ, take, drop, get_or, ap, subst, arith, ◌+◌, take_all}
+use Rattle.std.proofs.Common.{◌∷◌, [], ◌++◌, List, ℕ, take, drop, get_or, subst, arith, ◌+◌, take_all}
 use Rattle.sv_loop.proofs.RunSteps.{goes_further, stops_further, byte_more, byte_rest}
 use Rattle.sv_loop.specs.Reading.{GoesOn, StopsAt}
 use Rattle.sv_loop.proofs.run.Run.take_piece.Goals as goal
