@@ -1,0 +1,61 @@
+-- The parts of a text with expansions. A text has one cut into such parts, and its expansion is their joined values.
+use Rattle.std.specs.Prelude.{◌≡◌, ◌==◌, ◌-◌, ℕ, List, [], ◌∷◌, ◌++◌, Bool, true, false, Option, Some, None, encode_utf8, encode_utf8_all, if◌then◌else◌, ⊤}
+use Rattle.sv_expand.specs.declared.names.Names.{Names}
+use Rattle.sv_expand.specs.Expansion.{text_told, number_told, is_width}
+
+pub data Part : Type 0 where
+  Plain : (c : ℕ) → Part
+  Percent : Part
+  Value : (name : List ℕ) → Part
+  Number : (name : List ℕ) → Part
+  Spaced : (name : List ℕ) (digit : ℕ) → Part
+  Zeroed : (name : List ℕ) (digit : ℕ) → Part
+
+-- how a part is written: itself, `%%`, `%(NAME)s`, `%(NAME)d`, `%(NAME)Nd`, `%(NAME)0Nd`
+abbrev pub written : Part → List ℕ
+written (Plain c) = c ∷ []
+written Percent = 37 ∷ 37 ∷ []
+written (Value name) = 37 ∷ 40 ∷ (name ++ 41 ∷ 115 ∷ [])
+written (Number name) = 37 ∷ 40 ∷ (name ++ 41 ∷ 100 ∷ [])
+written (Spaced name digit) = 37 ∷ 40 ∷ (name ++ 41 ∷ digit ∷ 100 ∷ [])
+written (Zeroed name digit) = 37 ∷ 40 ∷ (name ++ 41 ∷ 48 ∷ digit ∷ 100 ∷ [])
+
+abbrev pub written_all : List Part → List ℕ
+written_all [] = []
+written_all (part ∷ parts) = written part ++ written_all parts
+
+-- a name is any text without a closing bracket
+abbrev pub is_name : List ℕ → Bool
+is_name [] = true
+is_name (c ∷ cs) = if c == 41 then false else is_name cs
+
+-- a plain part is no percent sign; the places of a number are from 1 to 9
+abbrev pub IsPart : Part → Type 0
+IsPart (Plain c) = (c == 37) ≡ false
+IsPart Percent = ⊤
+IsPart (Value name) = is_name name ≡ true
+IsPart (Number name) = is_name name ≡ true
+IsPart (Spaced name digit) = (is_name name ≡ true) × (is_width digit ≡ true)
+IsPart (Zeroed name digit) = (is_name name ≡ true) × (is_width digit ≡ true)
+
+abbrev pub AreParts : List Part → Type 0
+AreParts [] = ⊤
+AreParts (part ∷ parts) = IsPart part × AreParts parts
+
+-- the value of a part, where its name has one
+abbrev pub value : Names → Part → Option (List ℕ)
+value names (Plain c) = Some (encode_utf8 c)
+value names Percent = Some (encode_utf8 37)
+value names (Value name) = text_told names (encode_utf8_all name)
+value names (Number name) = number_told names 32 0 (encode_utf8_all name)
+value names (Spaced name digit) = number_told names 32 (digit - 48) (encode_utf8_all name)
+value names (Zeroed name digit) = number_told names 48 (digit - 48) (encode_utf8_all name)
+
+abbrev pub joined : Option (List ℕ) → Option (List ℕ) → Option (List ℕ)
+joined (Some front) (Some back) = Some (front ++ back)
+joined front back = None
+
+-- the joined values of the parts, where each has one
+abbrev pub values : Names → List Part → Option (List ℕ)
+values names [] = Some []
+values names (part ∷ parts) = joined (value names part) (values names parts)

@@ -1,0 +1,16 @@
+//! The three small languages inside the values of a configuration: a command's words, pairs of a name and a
+//! value, and expansions such as `%(program_name)s`.
+#![tactic(auto)]
+
+mod characters;
+pub mod expand;
+mod expanding;
+pub mod fault;
+pub mod laws;
+pub mod names;
+mod pairing;
+pub mod pairs;
+mod split;
+#[cfg(test)]
+mod tests;
+pub mod words;

@@ -1,0 +1,350 @@
+use crate::expand::expand;
+use crate::fault::{ExpandFault, PairFault, WordFault};
+use crate::names::Names;
+use crate::pairs::pairs;
+use crate::words::words;
+use std::alloc::{AllocError, Global};
+use std::process::Abort;
+use sv_base::items::Items;
+use sv_base::text::Text;
+
+/// A text a row, and its words, each ended by a bar, or the fault. In all tables `~` stands for a line feed, `^` for
+/// CR and a backquote for a tab.
+const WORDS: &str = r#" => 
+   => 
+` => 
+~ => 
+ `~ ` => 
+a => a|
+ a  => a|
+a b => a|b|
+a`b => a|b|
+a~b => a|b|
+a  `~ b => a|b|
+a^b => a^b|
+a^ b => a^|b|
+'a' => a|
+"a" => a|
+'' => |
+"" => |
+'' '' => ||
+a '' b => a||b|
+a'' => a|
+''a => a|
+a'b c'd => ab cd|
+a"b c"d => ab cd|
+'a'"b"c => abc|
+'a"b' => a"b|
+"a'b" => a'b|
+'a\b' => a\b|
+'a\' => a\|
+'\\' => \\|
+"a\"b" => a"b|
+"a\\b" => a\b|
+"a\nb" => a\nb|
+"a\'b" => a\'b|
+"a\ b" => a\ b|
+"a\\" => a\|
+"\\\"" => \"|
+"a\" => 1 OpenQuote
+a\ b => a b|
+a\`b => a`b|
+a\~b => a~b|
+\a => a|
+\\ => \|
+\" => "|
+\' => '|
+\"a b => "a|b|
+a\ => 1 OpenQuote
+\ => 1 OpenQuote
+a \ => 1 OpenQuote
+' => 1 OpenQuote
+" => 1 OpenQuote
+'a" => 1 OpenQuote
+a "b => 1 OpenQuote
+'a'b' => 1 OpenQuote
+"a~b" => a~b|
+'a~b`c' => a~b`c|
+/bin/sh -c "a b" 'c d' => /bin/sh|-c|a b|c d|
+äb 'ö ü' => äb|ö ü|
+\ä => ä|
+"\ä" => \ä|
+a=b,c;d#e => a=b,c;d#e|
+"a"  "b" => a|b|"#;
+
+/// A text a row, and its pairs, each ended by a bar, or the fault.
+const PAIRS: &str = r#" => 
+  ` => 
+A=1 => A=1|
+A=1, => A=1|
+A=1,  => A=1|
+A=1,B=2 => A=1|B=2|
+A=1,,B=2 => 1 BadPair 4
+A=1, ,B=2 => 1 BadPair 5
+, => 1 BadPair 0
+ , => 1 BadPair 1
+A="a,b" => A=a,b|
+A='a,b' => A=a,b|
+A='x"y' => A=x"y|
+A="x'y" => A=x'y|
+A="1,2",B=x => A=1,2|B=x|
+=x => 1 BadPair 0
+A => 1 BadPair 0
+ A => 1 BadPair 1
+A= => A=|
+A=,B= => A=|B=|
+A=1,B => 1 BadPair 4
+A=1, B => 1 BadPair 5
+A-B=1 => 1 BadPair 0
+A_B2=1 => A_B2=1|
+az=1,AZ=2,09=3 => az=1|AZ=2|09=3|
+_=1 => _=1|
+1=2 => 1=2|
+A= 1 => A=1|
+A =1 => 1 BadPair 0
+A= "1" => 1 BadPair 0
+A="1" => A=1|
+A="1"  => A=1|
+A="1" ,B=2 => A=1|B=2|
+A="1"x => 1 BadPair 0
+A="1""2" => 1 BadPair 0
+A="1 => 1 BadPair 0
+A='1 => 1 BadPair 0
+A='1" => 1 BadPair 0
+A=1"2 => 1 BadPair 0
+A=1'2 => 1 BadPair 0
+A="" => A=|
+A='' => A=|
+A=" 1 " => A= 1 |
+ A=1 , B=2  => A=1|B=2|
+A=1~,~B=2 => A=1|B=2|
+A=1^~,`B=2^~ => A=1|B=2|
+A=1 2 => A=1 2|
+A=1 `2  => A=1 `2|
+A==1 => A==1|
+A=a=b => A=a=b|
+A=1,A=2 => A=1|A=2|
+A=\, => A=\|
+A="\" => A=\|
+Ä=1 => 1 BadPair 0
+A=ä,B=ö => A=ä|B=ö|
+A=ä,B => 1 BadPair 5
+A=1;B=2 => A=1;B=2|
+A.B=1 => 1 BadPair 0
+A B=1 => 1 BadPair 0
+A=1,B-C=2,D => 1 BadPair 4
+~A=1 => A=1|
+A=%(x)s/% => A=%(x)s/%|
+A=  => A=|
+A= , => A=|
+A="a"~ => A=a|"#;
+
+/// A text a row, and its expansion or the fault.
+const EXPANSIONS: &str = r#" => 
+a => a
+%% => %
+a%%b => a%b
+%%%% => %%
+% => 2 BadForm 0
+a% => 2 BadForm 1
+%%% => 2 BadForm 2
+%x => 2 BadForm 0
+%(x => 2 BadForm 0
+%( => 2 BadForm 0
+%(x) => 2 BadForm 0
+a%(x)b => 2 BadForm 1
+%(x)s => text
+%(ENV_H)s/%% => /r/%
+%(nope)s => 1 Unknown nope
+%()s => 1 Unknown 
+%(nope)x => 2 BadForm 0
+%(n)s => 7
+%(n)d => 7
+%(n)3d =>   7
+%(n)03d => 007
+%(n)1d => 7
+%(n)01d => 7
+%(n)9d =>         7
+%(n)09d => 000000007
+%(big)3d => 123456
+%(big)03d => 123456
+%(big)6d => 123456
+%(big)8d =>   123456
+%(big)08d => 00123456
+%(zero)d => 0
+%(zero)2d =>  0
+%(zero)02d => 00
+%(max)d => 18446744073709551615
+%(max)9d => 18446744073709551615
+%(n)10d => 2 BadForm 0
+%(n)0d => 2 BadForm 0
+%(n)00d => 2 BadForm 0
+%(n)010d => 2 BadForm 0
+%(n)3s => 2 BadForm 0
+%(n)03s => 2 BadForm 0
+%(n)3 => 2 BadForm 0
+%(n)0 => 2 BadForm 0
+%(x)d => 1 Unknown x
+%(x)3d => 1 Unknown x
+%(x)03d => 1 Unknown x
+%(x)10d => 2 BadForm 0
+%(x)0d => 2 BadForm 0
+%(both)s => word
+%(both)d => 1 Unknown both
+%(same)s => first
+%(twice)s => 1
+%(twice)02d => 01
+%(p)s => %(x)s%
+%(x)s%(n)s => text7
+a%(x)s%%b%(n)02dc => atext%b07c
+%(nope)s% => 1 Unknown nope
+%%(x)s => %(x)s
+%(a%(x)s => 1 Unknown a%(x
+%(a(b)s => 1 Unknown a(b
+ä%(x)s => ätext
+ä% => 2 BadForm 2
+%(x)s%z%(nope)s => 2 BadForm 5
+%(X)s => 1 Unknown X
+% (x)s => 2 BadForm 0
+%( x)s => 1 Unknown  x
+%d => 2 BadForm 0
+web_%(n)02d => web_07
+%(x)S => 2 BadForm 0
+%(n)D => 2 BadForm 0
+%(ü)s => ö
+%(n)-3d => 2 BadForm 0
+a~%(x)s => a~text"#;
+
+const TEXTS: [(&str, &str); 7] = [
+    ("ENV_H", "/r"),
+    ("x", "text"),
+    ("p", "%(x)s%"),
+    ("both", "word"),
+    ("same", "first"),
+    ("same", "second"),
+    ("ü", "ö"),
+];
+
+const NUMBERS: [(&str, u64); 8] = [
+    ("n", 7),
+    ("big", 123_456),
+    ("zero", 0),
+    ("both", 5),
+    ("same", 9),
+    ("twice", 1),
+    ("twice", 2),
+    ("max", 18_446_744_073_709_551_615),
+];
+
+/// The text that a cell of a table stands for.
+fn cell(alloc: Global, cell: &str) -> Result<String, AllocError> {
+    let mut text = String::new(alloc);
+    for letter in cell.chars() {
+        text.push(match letter {
+            '~' => '\n',
+            '^' => '\r',
+            '`' => '\t',
+            _ => letter,
+        })?;
+    }
+    Ok(text)
+}
+
+fn told_words(alloc: Global, words: &[Text]) -> Result<String, AllocError> {
+    let mut told = String::new(alloc);
+    for word in words {
+        told.push_str(word.as_str())?;
+        told.push('|')?;
+    }
+    Ok(told)
+}
+
+fn told_pairs(alloc: Global, pairs: &[(Text, Text)]) -> Result<String, AllocError> {
+    let mut told = String::new(alloc);
+    for pair in pairs {
+        told.push_str(pair.0.as_str())?;
+        told.push('=')?;
+        told.push_str(pair.1.as_str())?;
+        told.push('|')?;
+    }
+    Ok(told)
+}
+
+/// What `words` says of a text, as its table writes it.
+fn words_said(alloc: Global, text: &str) -> Result<String, AllocError> {
+    match words(alloc, text) {
+        Ok(words) => told_words(alloc, words.as_slice()),
+        Err(WordFault::OutOfMemory) => Err(AllocError),
+        Err(fault) => format!(in alloc; "{fault}"),
+    }
+}
+
+fn pairs_said(alloc: Global, text: &str) -> Result<String, AllocError> {
+    match pairs(alloc, text) {
+        Ok(pairs) => told_pairs(alloc, pairs.as_slice()),
+        Err(PairFault::OutOfMemory) => Err(AllocError),
+        Err(fault) => format!(in alloc; "{fault}"),
+    }
+}
+
+fn expansion_said(alloc: Global, text: &str, names: &Names) -> Result<String, AllocError> {
+    match expand(alloc, text, names) {
+        Ok(text) => String::from_str(alloc, text.as_str()),
+        Err(ExpandFault::OutOfMemory) => Err(AllocError),
+        Err(fault) => format!(in alloc; "{fault}"),
+    }
+}
+
+fn names(alloc: Global) -> Result<Names, AllocError> {
+    let mut pairs = Items::new(alloc);
+    for (name, text) in TEXTS {
+        pairs.push((Text::fixed(name), Text::fixed(text)))?;
+    }
+    let mut numbers = Items::new(alloc);
+    for (name, number) in NUMBERS {
+        numbers.push((Text::fixed(name), number))?;
+    }
+    Ok(Names { pairs, numbers })
+}
+
+fn word_row(rt: &impl Abort, alloc: Global, row: &str) {
+    let (text, expected) = row.split_once(" => ").expect(rt, "two cells");
+    let text = cell(alloc, text).expect(rt, "ample memory");
+    let expected = cell(alloc, expected).expect(rt, "ample memory");
+    let said = words_said(alloc, text.as_str()).expect(rt, "ample memory");
+    assert_eq!(rt; said.as_str(), expected.as_str(), "the words of {row}");
+}
+
+fn pair_row(rt: &impl Abort, alloc: Global, row: &str) {
+    let (text, expected) = row.split_once(" => ").expect(rt, "two cells");
+    let text = cell(alloc, text).expect(rt, "ample memory");
+    let expected = cell(alloc, expected).expect(rt, "ample memory");
+    let said = pairs_said(alloc, text.as_str()).expect(rt, "ample memory");
+    assert_eq!(rt; said.as_str(), expected.as_str(), "the pairs of {row}");
+}
+
+fn expansion_row(rt: &impl Abort, alloc: Global, names: &Names, row: &str) {
+    let (text, expected) = row.split_once(" => ").expect(rt, "two cells");
+    let text = cell(alloc, text).expect(rt, "ample memory");
+    let expected = cell(alloc, expected).expect(rt, "ample memory");
+    let said = expansion_said(alloc, text.as_str(), names).expect(rt, "ample memory");
+    assert_eq!(rt; said.as_str(), expected.as_str(), "the expansion of {row}");
+}
+
+#[test]
+fn texts_and_what_they_say(rt: HostRuntime) {
+    let alloc = rt.alloc();
+    for row in WORDS.split('\n') {
+        word_row(&rt, alloc, row);
+    }
+    for row in PAIRS.split('\n') {
+        pair_row(&rt, alloc, row);
+    }
+    assert!(rt; WordFault::OpenQuote.number() == Some(1));
+    assert!(rt; PairFault::BadPair(0).number() == Some(1));
+    assert!(rt; ExpandFault::BadForm(0).number() == Some(2));
+    let names = names(alloc).expect(&rt, "ample memory");
+    for row in EXPANSIONS.split('\n') {
+        expansion_row(&rt, alloc, &names, row);
+    }
+}

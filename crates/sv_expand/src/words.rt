@@ -1,0 +1,35 @@
+ghost use Rattle.std.specs.Prelude.{◌≡◌, IfOk, Some, None, Err};
+ghost use Rattle.std.specs.Str.{chars};
+ghost use Rattle.sv_expand.specs.declared.fault.WordFault.TheVariants.{OpenQuote};
+ghost use Rattle.sv_expand.specs.Words.{words_of, after_all, at_start};
+
+use crate::characters::characters_of;
+use crate::fault::WordFault;
+use crate::split::Reading;
+use std::alloc::{AllocError, Global};
+use sv_base::text::Text;
+
+/// The words of a command. Spaces, tabs and line feeds part them; quotes and a backslash keep such characters.
+pub fn words(alloc: Global, text: &str) -> Result<Vec<Text>, WordFault>
+    ensures words { IfOk result (λ words. words_of text.now ≡ Some words.items) }
+    ensures fault { result ≡ Err OpenQuote → words_of text.now ≡ None }
+{
+    let characters = characters_of(alloc, text)?;
+    let reading = read_all(alloc, characters.as_slice())?;
+    match reading.close()? {
+        Some(words) => Ok(words),
+        None => Err(WordFault::OpenQuote),
+    }
+}
+
+fn read_all(alloc: Global, characters: &[char]) -> Result<Reading, AllocError>
+    ensures { IfOk result (λ reading. reading ≡ after_all characters.now at_start) }
+{
+    let mut reading = Reading::new(alloc);
+    let mut rest = characters;
+    while let [c, left @ ..] = rest {
+        reading.read(alloc, *c)?;
+        rest = left;
+    }
+    Ok(reading)
+}
