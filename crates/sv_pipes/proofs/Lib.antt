@@ -1,0 +1,6 @@
+pub mod Captures
+pub mod Digits
+pub mod Fronts
+pub mod Steps
+pub mod Talks
+pub mod Tokens

@@ -1,0 +1,4 @@
+pub mod CaptureCut
+pub mod CapturePlaces
+pub mod Talk
+pub mod TalkPlaces

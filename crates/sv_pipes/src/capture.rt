@@ -1,0 +1,247 @@
+ghost use Rattle.std.specs.Prelude.{◌≡◌, ◌++◌, ◌∷◌, [], List, ℕ, true, take, IfOk, OnOk, OnErr, IsErr};
+ghost use Rattle.sv_pipes.specs.CapturePlaces.{kept, all_kept, logged_part};
+
+use crate::part::{Part, Side};
+use crate::word::is_next;
+use std::alloc::{AllocError, Global};
+use std::collections::VecDeque;
+use std::mem;
+use sv_base::bytes::Bytes;
+
+/// The mark before a message.
+const BEGIN: &[u8] = b"<!--XSUPERVISOR:BEGIN-->";
+
+/// The mark behind a message.
+const END: &[u8] = b"<!--XSUPERVISOR:END-->";
+
+/// A captured stream, of which only undecided bytes are kept: the last bytes of a message that is open, and how many
+/// bytes of the awaited mark came.
+#[derive(Debug, Drop)]
+pub struct Capture {
+    /// The most bytes of a message.
+    limit: u64,
+    side: Side,
+    /// So many bytes of the awaited mark came last.
+    matched: usize,
+    /// The last bytes inside.
+    body: VecDeque<u8>,
+    /// Whether memory was refused.
+    broken: bool,
+}
+
+impl Capture {
+    ghost use Rattle.sv_pipes.specs.CaptureCut.{Decided, IsClosed, grouped};
+    ghost use Rattle.sv_pipes.specs.CapturePlaces.{StandsFor, shown, step, steps, step_outside, step_inside, held_outside};
+
+    /// A capture of a stream that has no bytes yet, whose messages have at most so many bytes.
+    pub fn new(alloc: Global, limit: u64) -> Result<Capture, AllocError>
+        ensures { IfOk result (λ value. (value.limit ≡ limit) × StandsFor value [] []) }
+    {
+        Ok(Capture {
+            limit,
+            side: Side::Outside,
+            matched: 0,
+            body: VecDeque::new(alloc),
+            broken: false,
+        })
+    }
+
+    /// Takes the next bytes of the stream and gives the parts that they decide.
+    ///
+    /// Out of memory leaves a value that stands for no stream, and each later call gives the same answer.
+    pub fn feed(&mut self, alloc: Global, piece: &[u8]) -> Result<Vec<Part>, AllocError>
+        ensures cut { IfOk result (λ parts. (stream : List ℕ) (decided : List Decided) → StandsFor self.old stream decided → (fresh : List Decided) × (parts.items ≡ grouped fresh) × StandsFor self.new (stream ++ piece.now) (decided ++ fresh)) }
+        ensures limit { self.new.limit ≡ self.old.limit }
+        ensures refused { OnErr result (self.new.broken ≡ true) }
+        ensures stays_refused { self.old.broken ≡ true → IsErr result }
+    {
+        if self.broken {
+            return Err(AllocError);
+        }
+        self.broken = true;
+        let mut parts = Vec::new(alloc);
+        let mut logged = Vec::new(alloc);
+        self.take_all(alloc, piece, &mut parts, &mut logged)?;
+        flush(alloc, &mut parts, &mut logged)?;
+        self.broken = false;
+        Ok(parts)
+    }
+
+    /// Gives the parts that the end of the stream decides: a tail outside that is no mark. A message that is open gives
+    /// nothing.
+    ///
+    /// Out of memory leaves a value that stands for no stream, and each later call gives the same answer.
+    pub fn close(&mut self, alloc: Global) -> Result<Vec<Part>, AllocError>
+        ensures closed { IfOk result (λ parts. (stream : List ℕ) (decided : List Decided) → StandsFor self.old stream decided → (fresh : List Decided) × (parts.items ≡ grouped fresh) × IsClosed self.old.limit stream (decided ++ fresh)) }
+        ensures limit { self.new.limit ≡ self.old.limit }
+        ensures refused { OnErr result (self.new.broken ≡ true) }
+        ensures stays_refused { self.old.broken ≡ true → IsErr result }
+    {
+        if self.broken {
+            return Err(AllocError);
+        }
+        self.broken = true;
+        let mut parts = Vec::new(alloc);
+        let mut logged = self.tail(alloc)?;
+        flush(alloc, &mut parts, &mut logged)?;
+        self.broken = false;
+        Ok(parts)
+    }
+
+    /// The bytes outside that are held.
+    fn tail(&self, alloc: Global) -> Result<Vec<u8>, AllocError>
+        ensures { IfOk result (λ tail. tail.items ≡ held_outside self.now.side self.now.matched) }
+    {
+        let mut tail = Vec::new(alloc);
+        match self.side {
+            Side::Outside => push_front(&mut tail, BEGIN, self.matched)?,
+            Side::Inside => {}
+        }
+        Ok(tail)
+    }
+
+    fn take_all(
+        &mut self,
+        alloc: Global,
+        piece: &[u8],
+        parts: &mut Vec<Part>,
+        logged: &mut Vec<u8>,
+    ) -> Result<(), AllocError>
+        ensures steps { OnOk result (shown self.new parts.new.items logged.new.items ≡ steps self.old.limit (shown self.old parts.old.items logged.old.items) piece.now) }
+        ensures limit { self.new.limit ≡ self.old.limit }
+        ensures broken { self.new.broken ≡ self.old.broken }
+    {
+        let mut rest = piece;
+        while let [byte, more @ ..] = rest {
+            self.take(alloc, *byte, parts, logged)?;
+            rest = more;
+        }
+        Ok(())
+    }
+
+    fn take(
+        &mut self,
+        alloc: Global,
+        byte: u8,
+        parts: &mut Vec<Part>,
+        logged: &mut Vec<u8>,
+    ) -> Result<(), AllocError>
+        ensures step { OnOk result (shown self.new parts.new.items logged.new.items ≡ step self.old.limit self.old.side self.old.matched byte self.old.body.items parts.old.items logged.old.items) }
+        ensures limit { self.new.limit ≡ self.old.limit }
+        ensures broken { self.new.broken ≡ self.old.broken }
+    {
+        match self.side {
+            Side::Outside => self.outside(alloc, byte, parts, logged),
+            Side::Inside => self.inside(alloc, byte, parts),
+        }
+    }
+
+    fn outside(
+        &mut self,
+        alloc: Global,
+        byte: u8,
+        parts: &mut Vec<Part>,
+        logged: &mut Vec<u8>,
+    ) -> Result<(), AllocError>
+        requires { self.old.side ≡ Side.Outside }
+        ensures step { OnOk result (shown self.new parts.new.items logged.new.items ≡ step_outside self.old.matched byte self.old.body.items parts.old.items logged.old.items) }
+        ensures limit { self.new.limit ≡ self.old.limit }
+        ensures broken { self.new.broken ≡ self.old.broken }
+    {
+        if is_next(BEGIN, self.matched, byte) {
+            if self.matched == 23 {
+                flush(alloc, parts, logged)?;
+                self.side = Side::Inside;
+                self.matched = 0;
+            } else {
+                self.matched += 1;
+            }
+        } else {
+            push_front(logged, BEGIN, self.matched)?;
+            if byte == b'<' {
+                self.matched = 1;
+            } else {
+                logged.push(byte)?;
+                self.matched = 0;
+            }
+        }
+        Ok(())
+    }
+
+    fn inside(&mut self, alloc: Global, byte: u8, parts: &mut Vec<Part>) -> Result<(), AllocError>
+        requires { self.old.side ≡ Side.Inside }
+        ensures step { (logged : List ℕ) → OnOk result (shown self.new parts.new.items logged ≡ step_inside self.old.limit self.old.matched byte self.old.body.items parts.old.items logged) }
+        ensures limit { self.new.limit ≡ self.old.limit }
+        ensures broken { self.new.broken ≡ self.old.broken }
+    {
+        if is_next(END, self.matched, byte) {
+            if self.matched == 21 {
+                let body = mem::replace(&mut self.body, VecDeque::new(alloc));
+                parts.push(Part::Message(Bytes::from_vec(body.into_vec())))?;
+                self.side = Side::Outside;
+                self.matched = 0;
+            } else {
+                self.matched += 1;
+            }
+        } else {
+            keep_front(&mut self.body, self.limit, END, self.matched)?;
+            if byte == b'<' {
+                self.matched = 1;
+            } else {
+                keep(&mut self.body, self.limit, byte)?;
+                self.matched = 0;
+            }
+        }
+        Ok(())
+    }
+}
+
+/// Makes a part of the outside bytes, where there are some.
+fn flush(alloc: Global, parts: &mut Vec<Part>, logged: &mut Vec<u8>) -> Result<(), AllocError>
+    ensures parts { OnOk result (parts.new.items ≡ parts.old.items ++ logged_part logged.old.items) }
+    ensures logged { OnOk result (logged.new.items ≡ []) }
+{
+    if logged.as_slice().is_empty() {
+        return Ok(());
+    }
+    let bytes = mem::replace(logged, Vec::new(alloc));
+    parts.push(Part::Logged(Bytes::from_vec(bytes)))?;
+    Ok(())
+}
+
+/// Adds the first bytes of a word.
+fn push_front(bytes: &mut Vec<u8>, word: &[u8], count: usize) -> Result<(), AllocError>
+    ensures { OnOk result (bytes.new.items ≡ bytes.old.items ++ take count word.now) }
+{
+    let count = count.min(word.len());
+    bytes.extend_from_slice(&word[..count])
+}
+
+/// Keeps a further byte of a message, of whose bytes only the last ones are kept.
+fn keep(body: &mut VecDeque<u8>, limit: u64, byte: u8) -> Result<(), AllocError>
+    ensures { OnOk result (body.new.items ≡ kept limit body.old.items byte) }
+{
+    body.push_back(byte)?;
+    if body.len() as u64 > limit {
+        body.pop_front();
+    }
+    Ok(())
+}
+
+/// Keeps the first bytes of a word.
+fn keep_front(
+    body: &mut VecDeque<u8>,
+    limit: u64,
+    word: &[u8],
+    count: usize,
+) -> Result<(), AllocError>
+    ensures { OnOk result (body.new.items ≡ all_kept limit body.old.items (take count word.now)) }
+{
+    let count = count.min(word.len());
+    let mut rest = &word[..count];
+    while let [byte, more @ ..] = rest {
+        keep(body, limit, *byte)?;
+        rest = more;
+    }
+    Ok(())
+}

@@ -1,0 +1,259 @@
+ghost use Rattle.std.specs.Prelude.{◌≡◌, ◌↔◌, ◌<◌, ◌++◌, ◌∷◌, [], List, length, IfOk, OnOk, OnErr, IsTrue, IsErr};
+
+use crate::token::{TalkState, Token};
+use crate::word::is_next;
+use std::alloc::{AllocError, Global};
+use std::mem;
+use sv_base::bytes::Bytes;
+
+/// The most bytes of a result.
+const RESULT_LIMIT: u64 = 1_048_576;
+
+/// The most digits of a result's length.
+const MOST_DIGITS: u8 = 7;
+
+/// How far a talk has come.
+#[derive(Clone, Copy, Debug)]
+enum Place {
+    /// So many bytes of `READY` and a line feed were said.
+    Greeting { count: usize },
+    /// An event is still to be sent.
+    Idle,
+    /// So many bytes of `RESULT` and a space were said.
+    Word { count: usize },
+    /// In a result's length: how many digits were said, and their number.
+    Length { count: u8, number: u32 },
+    /// In a result of so many bytes, which isn't empty.
+    Body { number: u32 },
+    /// A byte was outside the talk.
+    Lost,
+    /// Memory was refused.
+    Broken,
+}
+
+/// What a listener said so far, of which only the undecided bytes of a result are kept.
+#[derive(Debug, Drop)]
+pub struct ListenerTalk {
+    place: Place,
+    /// The bytes of a result so far.
+    held: Vec<u8>,
+}
+
+impl ListenerTalk {
+    ghost use Rattle.sv_pipes.specs.TalkPlaces.{StandsFor, state_of, shown, goes, lost, step, steps, after_greeting, after_word, after_digit, after_length, after_body};
+    ghost use Rattle.sv_pipes.specs.Talk.{IsCut, Mark, said};
+    ghost use Rattle.sv_pipes.specs.Talk.Mark.{Sent};
+    ghost use Rattle.sv_pipes.specs.declared.talk.Place.{Place};
+    ghost use Rattle.sv_pipes.specs.declared.token.TalkState.{TalkState};
+    ghost use Rattle.sv_pipes.specs.declared.token.Token.{Token};
+
+    /// The talk of a listener that said nothing yet. It takes no memory.
+    pub fn new(alloc: Global) -> ListenerTalk
+        ensures { StandsFor result [] [] }
+    {
+        ListenerTalk {
+            place: Place::Greeting { count: 0 },
+            held: Vec::new(alloc),
+        }
+    }
+
+    /// The state in which the talk leaves the listener.
+    pub fn state(&self) -> TalkState
+        ensures state { result ≡ state_of self.now.place }
+        ensures cut { (talk : List Mark) (tokens : List Token) → StandsFor self.now talk tokens → IsCut talk tokens result }
+    {
+        match self.place {
+            Place::Greeting { count: _ } => TalkState::Acknowledged,
+            Place::Idle => TalkState::Ready,
+            Place::Word { count: _ } => TalkState::Busy,
+            Place::Length {
+                count: _,
+                number: _,
+            } => TalkState::Busy,
+            Place::Body { number: _ } => TalkState::Busy,
+            Place::Lost => TalkState::Unknown,
+            Place::Broken => TalkState::Unknown,
+        }
+    }
+
+    /// Puts the mark of an event that was sent.
+    pub fn sent(&mut self)
+        requires { state_of self.old.place ≡ TalkState.Ready }
+        ensures { (talk : List Mark) (tokens : List Token) → StandsFor self.old talk tokens → StandsFor self.new (talk ++ Sent ∷ []) tokens }
+    {
+        self.place = Place::Word { count: 0 };
+    }
+
+    /// Takes the next bytes of the listener's standard output and gives the tokens that they end.
+    ///
+    /// Out of memory leaves a value that stands for no talk, and each later call gives the same answer.
+    pub fn feed(&mut self, alloc: Global, piece: &[u8]) -> Result<Vec<Token>, AllocError>
+        ensures cut { IfOk result (λ told. (talk : List Mark) (tokens : List Token) → StandsFor self.old talk tokens → StandsFor self.new (talk ++ said piece.now) (tokens ++ told.items)) }
+        ensures refused { OnErr result (self.new.place ≡ Place.Broken) }
+        ensures none { OnErr result ((talk : List Mark) (tokens : List Token) → StandsFor self.new talk tokens → ⊥) }
+        ensures stays_refused { self.old.place ≡ Place.Broken → IsErr result }
+    {
+        if self.is_broken() {
+            return Err(AllocError);
+        }
+        let mut tokens = Vec::new(alloc);
+        match self.take_all(alloc, piece, &mut tokens) {
+            Ok(()) => Ok(tokens),
+            Err(refusal) => {
+                self.place = Place::Broken;
+                Err(refusal)
+            }
+        }
+    }
+
+    fn is_broken(&self) -> bool
+        ensures { IsTrue result ↔ (self.now.place ≡ Place.Broken) }
+    {
+        match self.place {
+            Place::Broken => true,
+            _ => false,
+        }
+    }
+
+    fn take_all(
+        &mut self,
+        alloc: Global,
+        piece: &[u8],
+        tokens: &mut Vec<Token>,
+    ) -> Result<(), AllocError>
+        ensures { OnOk result (shown self.new tokens.new.items ≡ steps (shown self.old tokens.old.items) piece.now) }
+    {
+        let mut rest = piece;
+        while let [byte, more @ ..] = rest {
+            self.take(alloc, *byte, tokens)?;
+            rest = more;
+        }
+        Ok(())
+    }
+
+    fn take(&mut self, alloc: Global, byte: u8, tokens: &mut Vec<Token>) -> Result<(), AllocError>
+        ensures { OnOk result (shown self.new tokens.new.items ≡ step self.old.place byte self.old.held.items tokens.old.items) }
+    {
+        match self.place {
+            Place::Greeting { count } => self.greeting(byte, count, tokens),
+            Place::Idle => self.lose(tokens),
+            Place::Word { count } => self.word(byte, count, tokens),
+            Place::Length { count, number } if byte.is_ascii_digit() => {
+                self.digit(
+                    count,
+                    u64::from(number) * 10 + u64::from(byte - b'0'),
+                    tokens,
+                )
+            }
+            Place::Length { count, number } if byte == b'\n' => self.length(
+                alloc, count, number, tokens,
+            ),
+            Place::Length {
+                count: _,
+                number: _,
+            } => self.lose(tokens),
+            Place::Body { number } => self.body(alloc, byte, number, tokens),
+            Place::Lost | Place::Broken => Ok(()),
+        }
+    }
+
+    fn greeting(
+        &mut self,
+        byte: u8,
+        count: usize,
+        tokens: &mut Vec<Token>,
+    ) -> Result<(), AllocError>
+        ensures { OnOk result (shown self.new tokens.new.items ≡ after_greeting count byte self.old.held.items tokens.old.items) }
+    {
+        if !is_next(b"READY\n", count, byte) {
+            return self.lose(tokens);
+        }
+        if count == 5 {
+            tokens.push(Token::Ready)?;
+            self.place = Place::Idle;
+        } else {
+            self.place = Place::Greeting { count: count + 1 };
+        }
+        Ok(())
+    }
+
+    fn word(&mut self, byte: u8, count: usize, tokens: &mut Vec<Token>) -> Result<(), AllocError>
+        ensures { OnOk result (shown self.new tokens.new.items ≡ after_word count byte self.old.held.items tokens.old.items) }
+    {
+        if !is_next(b"RESULT ", count, byte) {
+            return self.lose(tokens);
+        }
+        if count == 6 {
+            self.place = Place::Length {
+                count: 0,
+                number: 0,
+            };
+        } else {
+            self.place = Place::Word { count: count + 1 };
+        }
+        Ok(())
+    }
+
+    fn digit(&mut self, count: u8, number: u64, tokens: &mut Vec<Token>) -> Result<(), AllocError>
+        ensures { OnOk result (shown self.new tokens.new.items ≡ after_digit count number self.old.held.items tokens.old.items) }
+    {
+        if count < MOST_DIGITS && number <= RESULT_LIMIT {
+            self.place = Place::Length {
+                count: count + 1,
+                number: number as u32,
+            };
+            Ok(())
+        } else {
+            self.lose(tokens)
+        }
+    }
+
+    fn length(
+        &mut self,
+        alloc: Global,
+        count: u8,
+        number: u32,
+        tokens: &mut Vec<Token>,
+    ) -> Result<(), AllocError>
+        ensures { OnOk result (shown self.new tokens.new.items ≡ after_length count number self.old.held.items tokens.old.items) }
+    {
+        if count == 0 {
+            return self.lose(tokens);
+        }
+        if number == 0 {
+            tokens.push(Token::Result(Bytes::from_vec(Vec::new(alloc))))?;
+            self.place = Place::Greeting { count: 0 };
+        } else {
+            self.place = Place::Body { number };
+        }
+        Ok(())
+    }
+
+    fn body(
+        &mut self,
+        alloc: Global,
+        byte: u8,
+        number: u32,
+        tokens: &mut Vec<Token>,
+    ) -> Result<(), AllocError>
+        ensures { OnOk result (shown self.new tokens.new.items ≡ after_body number (self.old.held.items ++ byte ∷ []) tokens.old.items) }
+    {
+        self.held.push(byte)?;
+        if self.held.as_slice().len() < number as usize {
+            self.place = Place::Body { number };
+        } else {
+            let body = mem::replace(&mut self.held, Vec::new(alloc));
+            tokens.push(Token::Result(Bytes::from_vec(body)))?;
+            self.place = Place::Greeting { count: 0 };
+        }
+        Ok(())
+    }
+
+    fn lose(&mut self, tokens: &mut Vec<Token>) -> Result<(), AllocError>
+        ensures { OnOk result (shown self.new tokens.new.items ≡ lost self.old.held.items tokens.old.items) }
+    {
+        tokens.push(Token::Wrong)?;
+        self.place = Place::Lost;
+        Ok(())
+    }
+}
