@@ -5,16 +5,18 @@ mod adapters;
 
 use adapters::{Reading, Writing};
 use std::alloc::{AllocError, Global};
+use std::io::ErrorKind;
 use std::process::ExitCode;
 use std::{env, io};
 use sv_base::text::Text;
 use sv_loop::replay::replay;
 
 fn main(rt: HostRuntime) -> ExitCode {
-    let Ok(arguments) = env::args(&rt) else {
-        return ExitCode::from(2);
+    let words = match env::args(&rt) {
+        Ok(arguments) => words_of(rt.alloc(), arguments),
+        Err(fault) => words_untold(rt.alloc(), fault.kind()),
     };
-    let Ok(words) = words_of(rt.alloc(), arguments) else {
+    let Ok(words) = words else {
         return ExitCode::from(3);
     };
     let mut source = Reading::new(rt.reader());
@@ -29,4 +31,12 @@ fn words_of(alloc: Global, arguments: env::Args<Global>) -> Result<Vec<Text>, Al
         words.push(Text::from_string(argument))?;
     }
     Ok(words)
+}
+
+/// Words that can't be read, not being UTF-8, are none, and so refused; unless memory was.
+fn words_untold(alloc: Global, kind: ErrorKind) -> Result<Vec<Text>, AllocError> {
+    match kind {
+        ErrorKind::OutOfMemory => Err(AllocError),
+        _ => Ok(Vec::new(alloc)),
+    }
 }
