@@ -42,4 +42,6 @@ pub enum Order {
         signal: Signal,
         group: bool,
     },
+    /// The daemon ends: every group is at rest.
+    Halt,
 }
