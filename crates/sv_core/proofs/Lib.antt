@@ -1,7 +1,9 @@
 mod Apart
 mod MapOver
+mod Named
 mod OneChild
 mod Reported
 mod Standing
 mod Steps
+mod Stopped
 mod Sweeps

@@ -23,7 +23,8 @@ use Rattle.sv_core.specs.Deeds.{after, deeds}
 use Rattle.sv_core.specs.MachineState.{Model, accepts, hand, new_member, next, now, opening, orders, specs_of}
 use Rattle.sv_core.specs.Orders.{reports, kill, spawn}
 use Rattle.sv_core.specs.Path.{IsOnlyOne, edge_told, edges_told, state_at, state_of}
-use Rattle.sv_core.specs.Turn.{member_rewound, said}
+use Rattle.sv_core.specs.Moves.{said}
+use Rattle.sv_core.specs.Turn.{member_rewound}
 use Rattle.sv_core.specs.World.{World}
 use Rattle.sv_core.specs.declared.member.Member.{Member}
 use Rattle.sv_out.specs.declared.input.Input.{Input}
@@ -173,7 +174,7 @@ goes_steps = record {
     added = refl;
     walk = λ place spec is only.
         moved_walk w.members c place m (record m { child = answer.child }) answer.step.edges spec there
-        (walk_row stimulus m.child.state m.spec m.child w.mood w.moment refl) is only;
+        (walk_row stimulus m.child.state m.spec m.child w.course.mood w.moment refl) is only;
   };
   killed = λ m signal group w. record {
     kept = refl;
@@ -187,6 +188,8 @@ goes_steps = record {
     added = refl;
     walk = λ place told is only. refl;
   };
+  steered = λ course w. record { kept = refl; more = []; added = sym (append-nil w.given); walk = λ place spec is only. refl };
+  ended = λ w. record { kept = refl; more = order.Halt ∷ []; added = refl; walk = λ place spec is only. refl };
 }
 
 -- ---- all inputs
@@ -211,19 +214,19 @@ joined m (i ∷ is) goes =
       by_test true taken left = taken
       by_test false taken left = left
 
-pub all_given : (config : Config) (host : Host) (inputs : List Input)
-    → (now (after (opening config host) inputs)).given ≡ deeds (opening config host) inputs
-all_given config host inputs = joined (opening config host) inputs tt
+pub all_given : (config : Config) (sizes : List (List ℕ × ℕ)) (host : Host) (inputs : List Input)
+    → (now (after (opening config sizes host) inputs)).given ≡ deeds (opening config sizes host) inputs
+all_given config sizes host inputs = joined (opening config sizes host) inputs tt
 
-pub path : (config : Config) (host : Host) (inputs : List Input) (place : ℕ) (spec : Spec)
+pub path : (config : Config) (sizes : List (List ℕ × ℕ)) (host : Host) (inputs : List Input) (place : ℕ) (spec : Spec)
     → slice_get (specs_of config) place ≡ Some spec → IsOnlyOne (specs_of config) place spec
-    → IsWalk Stopped (edges_told spec.group spec.name (deeds (opening config host) inputs)) (state_at (now (after (opening config host) inputs)) place)
-path config host inputs place spec is only =
-    let goes : Goes (now (opening config host)) (now (after (opening config host) inputs)) =
-    kept_after Goes goes_steps (opening config host) inputs tt in
-    let opened : specs (now (opening config host)) ≡ specs_of config = specs_new (specs_of config) in
-    let told : goes.more ≡ deeds (opening config host) inputs = sym goes.added ∙ all_given config host inputs in
+    → IsWalk Stopped (edges_told spec.group spec.name (deeds (opening config sizes host) inputs)) (state_at (now (after (opening config sizes host) inputs)) place)
+path config sizes host inputs place spec is only =
+    let goes : Goes (now (opening config sizes host)) (now (after (opening config sizes host) inputs)) =
+    kept_after Goes goes_steps (opening config sizes host) inputs tt in
+    let opened : specs (now (opening config sizes host)) ≡ specs_of config = specs_new (specs_of config) in
+    let told : goes.more ≡ deeds (opening config sizes host) inputs = sym goes.added ∙ all_given config sizes host inputs in
     let walk = goes.walk place spec (ap (λ ss. slice_get ss place) opened ∙ is) (subst (λ ss. IsOnlyOne ss place spec) (sym opened) only) in
-    subst (λ from. IsWalk from (edges_told spec.group spec.name (deeds (opening config host) inputs)) (state_at (now (after (opening config host) inputs)) place))
+    subst (λ from. IsWalk from (edges_told spec.group spec.name (deeds (opening config sizes host) inputs)) (state_at (now (after (opening config sizes host) inputs)) place))
     (state_new (specs_of config) place)
-    (subst (λ given. IsWalk (state_at (now (opening config host)) place) (edges_told spec.group spec.name given) (state_at (now (after (opening config host) inputs)) place)) told walk)
+    (subst (λ given. IsWalk (state_at (now (opening config sizes host)) place) (edges_told spec.group spec.name given) (state_at (now (after (opening config sizes host) inputs)) place)) told walk)

@@ -1,22 +1,29 @@
 -- The machine and the state that it stands for go on together.
-use Rattle.std.proofs.Common.{◌≡◌, ℕ, List, [], ◌∷◌, ◌++◌, Option, Some, None, length, refl, sym, ap, ◌∙◌, append-nil, ◌-◌, arith}
-use Rattle.std.specs.Prelude.{is_some}
+use Rattle.std.proofs.Common.{◌≡◌, ℕ, List, [], ◌∷◌, ◌++◌, Option, Some, None, Bool, true, false, ◌&&◌, length, drop, refl, sym, ap, ◌∙◌, append-nil, ◌-◌, ◌+◌, ◌≤◌, arith}
+use Rattle.std.specs.Prelude.{is_some, map, nat_lt, not, slice_get}
+use Rattle.std.specs.List.{list_all}
 use Rattle.std.proofs.Math.Seq.{drop-append_seam}
-use Rattle.sv_core.specs.MachineState.{Model, hand, now, accepts, next, next_part, orders, turn_of}
+use Rattle.sv_core.proofs.Named.{names_fresh, names_failed}
+use Rattle.sv_core.specs.Failure.{behind, can_fail, failure_of, replies_of}
+use Rattle.sv_core.specs.MachineState.{Model, can_be_named, failure_named, hand, is_accepted, now, accepts, next, next_part, orders, turn_of}
 use Rattle.sv_core.specs.Parts.{part_of}
-use Rattle.sv_core.specs.StandsFor.{StandsFor, Takes, rest, swept, shown, turn_after, is_fitting}
-use Rattle.sv_core.specs.Turn.{Turn, asks, answered, come, came, turn, rewinds, sweeps, sweeps_all, after_sweep, world_of, is_asking}
+use Rattle.sv_core.specs.StandsFor.{StandsFor, Takes, Names, Notes, can_name, failure_kept, is_above, rest, swept, shown, turn_after, is_fitting}
+use Rattle.sv_core.specs.Sweeps.{Turn, asks, sweeps}
+use Rattle.sv_core.specs.Turn.{applies, come, came, passes, turn, rewinds, after_sweep, world_of, is_asking}
+use Rattle.sv_core.specs.Moves.{answered}
 use Rattle.sv_core.specs.World.{World}
+use Rattle.sv_core.specs.declared.failure.Failure.{Failure}
 use Rattle.sv_core.specs.declared.machine.Machine.{Machine}
+use Rattle.sv_core.specs.declared.numbers.Numbers.{Numbers}
+use Rattle.sv_core.specs.declared.part.Cause.{Cause}
 use Rattle.sv_core.specs.declared.part.Part.{Part}
-use Rattle.sv_core.specs.declared.part.Part.TheVariants.{Begins, Answers}
+use Rattle.sv_core.specs.declared.part.Part.TheVariants.{Begins, Answers, Fails}
 use Rattle.sv_core.specs.declared.part.Reply.{Reply}
 use Rattle.sv_core.specs.declared.place.Place.{Place}
-use Rattle.sv_core.specs.declared.sweep.Sweep.{Sweep}
 use Rattle.sv_out.specs.declared.input.Input.{Input}
 use Rattle.sv_out.specs.declared.order.Order.{Order}
 
-world_of_rest : (place : Option Place) (w : World) → world_of (rest place w) ≡ w
+pub world_of_rest : (place : Option Place) (w : World) → world_of (rest place w) ≡ w
 unfolding rest swept asks
 world_of_rest None w = refl
 world_of_rest (Some place) w = refl
@@ -26,60 +33,101 @@ unfolding rest swept asks
 is_asking_rest None w = refl
 is_asking_rest (Some place) w = refl
 
-came_more : (t : Turn) (replies : List Reply) (reply : Reply) → came t (replies ++ reply ∷ []) ≡ come (came t replies) reply
-came_more t [] reply = refl
-came_more t (r ∷ rs) reply = came_more (come t r) rs reply
+pub came_more : (t : Turn) (replies more : List Reply) → came t (replies ++ more) ≡ came (came t replies) more
+came_more t [] more = refl
+came_more t (r ∷ rs) more = came_more (come t r) rs more
 
 -- the turn in hand after an input is what becomes of the turn in hand
-pub hand_after_part : (m : Model) (part : Part) → hand (next_part m part) ≡ turn_after part (hand m)
-hand_after_part m (Begins at sweep) = refl
-hand_after_part m (Answers reply) = came_more (turn_of m.begun m.base) m.answers reply
+pub hand_after_part : (x : Numbers) (m : Model) (part : Part) → ((number : ℕ) → failure_kept x number ≡ failure_named m number)
+    → hand (next_part m part) ≡ turn_after x part (hand m)
+hand_after_part x m (Begins at cause) same = refl
+hand_after_part x m (Answers reply) same = came_more (turn_of m.begun m.base) m.answers (reply ∷ [])
+hand_after_part x m (Fails number) same =
+    came_more (turn_of m.begun m.base) m.answers (replies_of (failure_named m number))
+    ∙ ap (λ found. came (hand m) (replies_of found)) (sym (same number))
+
+-- the world of the state is the one that the machine shows
+pub now_is : (x : Machine) (m : Model) (s : StandsFor x m) → now m ≡ shown x s.older
+now_is x m s = ap world_of s.hand_is ∙ world_of_rest x.hand.place (shown x s.older)
+
+pub given_is : (x : Machine) (m : Model) (s : StandsFor x m) → (now m).given ≡ s.older
+given_is x m s = ap (λ (w : World). w.given) (now_is x m s) ∙ rw s.idle (append-nil s.older)
+
+pub failure_is : (x : Machine) (m : Model) (s : StandsFor x m) (number : ℕ) → failure_kept x.numbers number ≡ failure_named m number
+failure_is x m s number = rw (given_is x m s, s.names.failures, s.names.first) refl
 
 hand_next : (x y : Machine) (m : Model) (input : Input) (given : List Order) (s : StandsFor x m) → Takes x input given y
-    → hand (next m input) ≡ rest y.place (shown y (s.older ++ given))
+    → hand (next m input) ≡ rest y.hand.place (shown y (s.older ++ given))
 hand_next x y m input given s takes =
-    hand_after_part m (part_of input) ∙ ap (turn_after (part_of input)) s.hand_is ∙ takes.turn s.older s.idle
+    hand_after_part x.numbers m (part_of input) (failure_is x m s)
+    ∙ ap (turn_after x.numbers (part_of input)) s.hand_is ∙ takes.turn s.older s.idle
 
-pub step_stands : (x y : Machine) (m : Model) (input : Input) (given : List Order) → StandsFor x m → Takes x input given y
+-- a number that can be named is above those that were
+named_above : (x : Machine) (m : Model) (number : ℕ) → StandsFor x m → can_be_named m number ≡ true → is_above x.numbers.last number ≡ true
+named_above x m number s can = sym (s.names.above number) ∙ both_true (can_fail (failure_named m number)) (list_all (λ n. nat_lt n number) m.named) can where
+  both_true : (a b : Bool) → (a && b) ≡ true → b ≡ true
+  both_true true b is = is
+  both_true false b is = cc
+
+names_next : (x y : Machine) (m : Model) (part : Part) (given : List Order) (s : StandsFor x m)
+    → is_accepted part (is_asking (hand m)) (now m).next_run (can_be_named m) ≡ true
+    → Notes x.numbers y.numbers part given
+    → Names y.numbers (next_part m part).since (next_part m part).named (s.older ++ given)
+names_next x y m (Begins at cause) given s accepted notes = names_fresh x.numbers y.numbers m.since m.named (length (now m).given) s.older given s.names (ap length (given_is x m s)) notes.first notes.failures notes.last
+names_next x y m (Answers reply) given s accepted notes = names_fresh x.numbers y.numbers m.since m.named (length (now m).given) s.older given s.names (ap length (given_is x m s)) notes.first notes.failures notes.last
+names_next x y m (Fails number) given s accepted notes =
+    names_failed x.numbers y.numbers m.since m.named number s.older given s.names (named_above x m number s accepted) notes.first notes.failures notes.last
+
+behind_not : (a b : Bool) → (a && b) ≡ true → b ≡ true
+behind_not true b is = is
+behind_not false b is = cc
+
+pub step_stands : (x y : Machine) (m : Model) (input : Input) (given : List Order) → StandsFor x m → accepts m input ≡ true → Takes x input given y
     → StandsFor y (next m input)
-step_stands x y m input given s takes = record {
+step_stands x y m input given s accepted takes = record {
   whole = takes.whole ∙ s.whole;
   idle = takes.idle;
   older = s.older ++ given;
   hand_is = hand_next x y m input given s takes;
+  names = names_next x y m (part_of input) given s (behind_not _ _ accepted) takes.notes;
 }
 
 pub step_orders : (x y : Machine) (m : Model) (input : Input) (given : List Order) → StandsFor x m → Takes x input given y
     → given ≡ orders m input
 step_orders x y m input given s takes =
-    let before : (now m).given ≡ s.older =
-    ap (λ (w : World). w.given) (ap world_of s.hand_is ∙ world_of_rest x.place (shown x s.older)) ∙ rw s.idle (append-nil s.older) in
     let behind : (now (next m input)).given ≡ s.older ++ given =
-    ap (λ (w : World). w.given) (ap world_of (hand_next x y m input given s takes) ∙ world_of_rest y.place (shown y (s.older ++ given)))
+    ap (λ (w : World). w.given) (ap world_of (hand_next x y m input given s takes) ∙ world_of_rest y.hand.place (shown y (s.older ++ given)))
     ∙ rw takes.idle (append-nil (s.older ++ given)) in
-    rw (before, behind) (sym (drop-append_seam s.older given))
+    rw (given_is x m s, behind) (sym (drop-append_seam s.older given))
+
+-- what is accepted of a part depends on the numbers that can be named only one by one
+accepted_same : (part : Part) (asking : Bool) (next_run : ℕ) (f g : ℕ → Bool) → ((number : ℕ) → f number ≡ g number)
+    → is_accepted part asking next_run f ≡ is_accepted part asking next_run g
+accepted_same (Begins at cause) asking next_run f g same = refl
+accepted_same (Answers reply) asking next_run f g same = refl
+accepted_same (Fails number) asking next_run f g same = same number
+
+can_name_is : (x : Machine) (m : Model) (number : ℕ) → StandsFor x m → can_name x.numbers number ≡ can_be_named m number
+can_name_is x m number s = rw (failure_is x m s number, s.names.above number) refl
 
 pub accepts_is : (x : Machine) (m : Model) (input : Input) → StandsFor x m → is_fitting x input ≡ accepts m input
 accepts_is x m input s =
-    let asking : is_asking (hand m) ≡ is_some x.place = ap is_asking s.hand_is ∙ is_asking_rest x.place (shown x s.older) in
-    let runs : (now m).next_run ≡ x.next_run =
-    ap (λ (w : World). w.next_run) (ap world_of s.hand_is ∙ world_of_rest x.place (shown x s.older)) in
-    rw (s.whole, asking, runs) refl
+    let asking : is_asking (hand m) ≡ is_some x.hand.place = ap is_asking s.hand_is ∙ is_asking_rest x.hand.place (shown x s.older) in
+    rw (s.whole, asking, now_is x m s)
+    (ap (λ b. not x.course.halted && b)
+    (accepted_same (part_of input) (is_some x.hand.place) x.numbers.next_run (can_name x.numbers) (can_be_named m) (λ number. can_name_is x m number s)))
 
 -- a turn begins
-pub turn_begun : (sweep : Sweep) (at n : ℕ) (place : Option Place) (w v : World) (t : Turn) → v ≡ rewinds at w → n ≡ length v.members
-    → sweeps sweep (n - 0) 0 v (after_sweep sweep) ≡ t → turn_after (Begins at sweep) (rest place w) ≡ t
-turn_begun sweep at n place w v t is_v size goes =
-    ap (turn sweep at) (world_of_rest place w)
-    ∙ ap (λ u. sweeps_all sweep u (after_sweep sweep)) (sym is_v)
-    ∙ ap (λ count. sweeps sweep count 0 v (after_sweep sweep)) (omega (arith, size))
-    ∙ goes
+pub turn_begun : (cause : Cause) (at : ℕ) (place : Option Place) (w v : World) (t : Turn) → v ≡ rewinds at w
+    → applies cause v passes ≡ t → turn cause at (world_of (rest place w)) ≡ t
+turn_begun cause at place w v t is_v goes =
+    ap (turn cause at) (world_of_rest place w) ∙ ap (λ u. applies cause u passes) (sym is_v) ∙ goes
 
 -- a turn goes on with the answer of its question
 pub turn_answered : (place : Place) (reply : Reply) (n : ℕ) (w v : World) (t : Turn)
     → v ≡ answered place.stop.asked.child place.stop.asked.run reply w → n ≡ length w.members
     → sweeps place.sweep (n - place.stop.next) place.stop.next v (after_sweep place.sweep) ≡ t
-    → turn_after (Answers reply) (rest (Some place) w) ≡ t
+    → come (rest (Some place) w) reply ≡ t
 unfolding rest swept asks
 turn_answered place reply n w v t is_v size goes =
     ap (λ u. sweeps place.sweep (length w.members - place.stop.next) place.stop.next u (after_sweep place.sweep)) (sym is_v)
@@ -87,6 +135,6 @@ turn_answered place reply n w v t is_v size goes =
     ∙ goes
 
 -- no question stands: nothing comes of an answer
-pub nothing_answered : (reply : Reply) (w : World) → turn_after (Answers reply) (rest None w) ≡ rest None w
+pub nothing_answered : (reply : Reply) (w : World) → come (rest None w) reply ≡ rest None w
 unfolding rest
 nothing_answered reply w = refl

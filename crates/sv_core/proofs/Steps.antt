@@ -1,29 +1,41 @@
 -- One walk through the turn, for a relation between two worlds that each of its small steps keeps.
-use Rattle.std.proofs.Common.{◌≡◌, ℕ, zero, suc, ◌+◌, List, [], ◌∷◌, Bool, true, false, Option, Some, None, refl, subst, sym, if◌then◌else◌}
+use Rattle.std.proofs.Common.{◌≡◌, ℕ, zero, suc, ◌+◌, ◌++◌, List, [], ◌∷◌, Bool, true, false, ◌&&◌, ◌||◌, Option, Some, None, refl, subst, sym, if◌then◌else◌}
 use Rattle.std.specs.Prelude.{length, nat_le, codes, slice_get}
 use Rattle.sv_base.specs.declared.ids.Run.{Run}
 use Rattle.sv_base.specs.declared.signal.Signal.{Signal}
 use Rattle.sv_base.specs.declared.spec.Spec.{Spec}
+use Rattle.sv_base.specs.declared.state.Mood.TheVariants as mood_is
 use Rattle.sv_child.specs.ChildTable.{Stimulus}
+use Rattle.sv_child.specs.ChildTable.Stimulus.{Stop as Is_to_stop}
+use Rattle.sv_child.specs.Moves.{is_running}
 use Rattle.sv_child.specs.declared.step.ChildDeed.{ChildDeed}
 use Rattle.sv_child.specs.declared.step.ChildDeed.TheVariants.{Spawn, Kill}
-use Rattle.sv_core.proofs.Standing.{hand_after_part}
+use Rattle.sv_core.proofs.Standing.{came_more}
 use Rattle.sv_core.specs.Deeds.{after}
-use Rattle.sv_core.specs.MachineState.{Model, hand, now, next, accepts}
+use Rattle.sv_core.specs.Failure.{replies_of}
+use Rattle.sv_core.specs.MachineState.{Model, hand, failure_named, now, next, next_part, turn_of, accepts}
+use Rattle.sv_core.specs.Moves.{answered, fails, heard, kills, moves, orders_spawn, said, tells}
 use Rattle.sv_core.specs.Parts.{part_of}
-use Rattle.sv_core.specs.Stimuli.{stimulus_of, child_at}
-use Rattle.sv_core.specs.StandsFor.{turn_after}
-use Rattle.sv_core.specs.Turn.{Turn, answered, after_sweep, asks, brings, come, does, fails, heard, kills, meets, moves, orders_spawn, rewinds, said, spawns, sweeps, sweeps_all, tells, turn, visits, world_of}
-use Rattle.sv_core.specs.Turn.Turn.{Done, Ask}
+use Rattle.sv_core.specs.Shutdown.{drops_group, follows_plan, halts, halts_behind, has_come_to_rest, heeds, in_mood, is_at_rest, is_ending, moves_on, tells_group}
+use Rattle.sv_core.specs.Stimuli.{is_meant, stimulus_of}
+use Rattle.sv_core.specs.Stops.{signals, stops, stops_member, stops_first, stops_all}
+use Rattle.sv_core.specs.Sweeps.{Turn, asks, brings, does, meets, spawns, sweeps, sweeps_all}
+use Rattle.sv_core.specs.Sweeps.Turn.{Done, Ask}
+use Rattle.sv_core.specs.Turn.{applies, came, come, ends, passes, rewinds, turn, world_of}
 use Rattle.sv_core.specs.World.{World}
+use Rattle.sv_core.specs.declared.course.Course.{Course}
 use Rattle.sv_core.specs.declared.member.Member.{Member}
+use Rattle.sv_core.specs.declared.part.Cause.{Cause}
+use Rattle.sv_core.specs.declared.part.Cause.TheVariants as cause_is
 use Rattle.sv_core.specs.declared.part.Part.{Part}
-use Rattle.sv_core.specs.declared.part.Part.TheVariants.{Begins, Answers}
+use Rattle.sv_core.specs.declared.part.Part.TheVariants.{Begins, Answers, Fails}
 use Rattle.sv_core.specs.declared.part.Reply.{Reply}
 use Rattle.sv_core.specs.declared.part.Reply.TheVariants.{NotStarted}
 use Rattle.sv_core.specs.declared.sweep.Sweep.{Sweep}
 use Rattle.sv_core.specs.declared.sweep.Sweep.TheVariants as sweep_is
+use Rattle.sv_core.specs.declared.target.Target.{Target}
 use Rattle.sv_out.specs.declared.input.Input.{Input}
+use Rattle.sv_out.specs.declared.order.Order.TheVariants as order
 
 -- each answer leads to a stop that is related to the world in which it came
 abbrev pub Onward : (World → World → Type 0) → Turn → Type 0
@@ -42,6 +54,8 @@ pub record Steps (R : World → World → Type 0) : Type 0 where
   pub moved : (c : ℕ) (m : Member) (stimulus : Stimulus) (w : World) → slice_get w.members c ≡ Some m → R w (moves c m (said m stimulus w) w)
   pub killed : (m : Member) (signal : Signal) (group : Bool) (w : World) → R w (kills (Some m) signal group w)
   pub ordered : (spec : Spec) (w : World) → R w (orders_spawn spec w)
+  pub steered : (course : Course) (w : World) → R w (record w { course = course })
+  pub ended : (w : World) → R w (record w { given = w.given ++ order.Halt ∷ [] })
 
 module _ (R : World → World → Type 0) (s : Steps R) where
   pub leads : (w v : World) (t : Turn) → R w v → From R v t → From R w t
@@ -88,14 +102,10 @@ module _ (R : World → World → Type 0) (s : Steps R) where
   kept_meets sweep None c w k is goes = goes w
   kept_meets sweep (Some m) c w k is goes = kept_brings (stimulus_of sweep m.spec m.child) c m w k is goes
 
-  pub kept_visits : (sweep : Sweep) (place : ℕ) (w : World) (k : World → Turn) → ((v : World) → From R v (k v)) → From R w (visits sweep place w k)
-  kept_visits sweep place w k goes =
-      let c = child_at sweep (length w.members) place in kept_meets sweep (slice_get w.members c) c w k refl goes
-
   pub kept_sweeps : (sweep : Sweep) (left place : ℕ) (w : World) (k : World → Turn) → ((v : World) → From R v (k v)) → From R w (sweeps sweep left place w k)
   kept_sweeps sweep zero place w k goes = goes w
   kept_sweeps sweep (suc left) place w k goes =
-      kept_visits sweep place w (λ v. sweeps sweep left (place + 1) v k) (λ v. kept_sweeps sweep left (place + 1) v k goes)
+      kept_meets sweep (slice_get w.members place) place w (λ v. sweeps sweep left (place + 1) v k) refl (λ v. kept_sweeps sweep left (place + 1) v k goes)
 
   pub kept_sweeps_all : (sweep : Sweep) (w : World) (k : World → Turn) → ((v : World) → From R v (k v)) → From R w (sweeps_all sweep w k)
   kept_sweeps_all sweep w k goes = kept_sweeps sweep (length w.members) 0 w k goes
@@ -103,32 +113,114 @@ module _ (R : World → World → Type 0) (s : Steps R) where
   pub kept_done : (w : World) → From R w (Done w)
   kept_done w = (s.same w, tt)
 
-  pub kept_after_sweep : (sweep : Sweep) (w : World) → From R w (after_sweep sweep w)
-  unfolding after_sweep
-  kept_after_sweep sweep_is.Time w = kept_done w
-  kept_after_sweep sweep w = kept_sweeps_all sweep_is.Time w (λ v. Done v) kept_done
+  -- a test, and either way the relation holds
+  by_test : (b : Bool) (w one other : World) → R w one → R w other → R w (if b then one else other)
+  by_test true w one other yes_holds no_holds = yes_holds
+  by_test false w one other yes_holds no_holds = no_holds
 
-  pub kept_turn : (sweep : Sweep) (at : ℕ) (w : World) → From R w (turn sweep at w)
-  kept_turn sweep at w =
-      leads w (rewinds at w) (turn sweep at w) (s.rewound at w) (kept_sweeps_all sweep (rewinds at w) (after_sweep sweep) (kept_after_sweep sweep))
+  kept_signals : (deed : Option ChildDeed) (c : ℕ) (w : World) → R w (signals deed c w)
+  kept_signals (Some (Kill signal group)) c w = kept_kills (slice_get w.members c) signal group w
+  kept_signals (Some Spawn) c w = s.same w
+  kept_signals None c w = s.same w
+
+  kept_stops_member : (c : ℕ) (m : Member) (w : World) → slice_get w.members c ≡ Some m → R w (stops_member c m w)
+  kept_stops_member c m w is =
+      let answer = said m Is_to_stop w in
+      s.follow w (moves c m answer w) (stops_member c m w) (s.moved c m Is_to_stop w is) (kept_signals answer.step.deed c (moves c m answer w))
+
+  kept_stops : (target : Target) (found : Option Member) (c : ℕ) (w : World) → slice_get w.members c ≡ found → R w (stops target found c w)
+  kept_stops target None c w is = s.same w
+  kept_stops target (Some m) c w is = by_test (is_meant target m.spec) w (stops_member c m w) w (kept_stops_member c m w is) (s.same w)
+
+  kept_stops_first : (target : Target) (left : ℕ) (w : World) → R w (stops_first target left w)
+  kept_stops_first target zero w = s.same w
+  kept_stops_first target (suc c) w =
+      let v = stops target (slice_get w.members c) c w in
+      s.follow w v (stops_first target c v) (kept_stops target (slice_get w.members c) c w refl) (kept_stops_first target c v)
+
+  kept_stops_all : (target : Target) (w : World) → R w (stops_all target w)
+  kept_stops_all target w = kept_stops_first target (length w.members) w
+
+  kept_tells_group : (found : Option Target) (w : World) → R w (tells_group found w)
+  kept_tells_group None w = s.same w
+  kept_tells_group (Some group) w =
+      let told = record w { course = record w.course { is_told = true } } in
+      by_test (w.course.is_told || is_at_rest group w.members) w w (stops_all group told) (s.same w)
+      (s.follow w told (stops_all group told) (s.steered (record w.course { is_told = true }) w) (kept_stops_all group told))
+
+  kept_moves_on : (left : ℕ) (w : World) → R w (moves_on left w)
+  kept_moves_on zero w = s.same w
+  kept_moves_on (suc left) w =
+      let group = slice_get w.groups left in
+      let told = tells_group group w in
+      let dropped = drops_group left told in
+      by_test (has_come_to_rest group told) w (moves_on left dropped) told
+      (s.follow w told (moves_on left dropped) (kept_tells_group group w)
+      (s.follow told dropped (moves_on left dropped) (s.steered dropped.course told) (kept_moves_on left dropped)))
+      (kept_tells_group group w)
+
+  kept_follows_plan : (w : World) → R w (follows_plan w)
+  kept_follows_plan w = by_test (is_running w.course.mood) w w (moves_on w.course.left w) (s.same w) (kept_moves_on w.course.left w)
+
+  kept_halts : (w : World) → R w (halts w)
+  kept_halts w = by_test (is_running w.course.mood) w w (halts_behind w.course.left w) (s.same w) (kept_behind w.course.left w) where
+    kept_behind : (left : ℕ) (v : World) → R v (halts_behind left v)
+    kept_behind zero v =
+        let ended = record v { given = v.given ++ order.Halt ∷ [] } in
+        s.follow v ended (halts_behind zero v) (s.ended v) (s.steered (record v.course { halted = true }) ended)
+    kept_behind (suc left) v = s.same v
+
+  kept_heeds : (signal : Signal) (w : World) → R w (heeds signal w)
+  kept_heeds signal w =
+      by_test (is_ending signal && is_running w.course.mood) w (in_mood mood_is.Shutdown w) w
+      (s.steered (record w.course { mood = mood_is.Shutdown }) w) (s.same w)
+
+  kept_ends : (w : World) → From R w (ends w)
+  kept_ends w = (s.follow w (follows_plan w) (halts (follows_plan w)) (kept_follows_plan w) (kept_halts (follows_plan w)), tt)
+
+  kept_passes : (w : World) → From R w (passes w)
+  kept_passes w = kept_sweeps_all sweep_is.Time w ends kept_ends
+
+  kept_start : (b : Bool) (target : Target) (w : World) → From R w (if b then sweeps_all (sweep_is.Start target) w passes else passes w)
+  kept_start true target w = kept_sweeps_all (sweep_is.Start target) w passes kept_passes
+  kept_start false target w = kept_passes w
+
+  kept_applies : (cause : Cause) (w : World) → From R w (applies cause w passes)
+  kept_applies cause_is.Tick w = kept_passes w
+  kept_applies (cause_is.Exit run how) w = kept_sweeps_all (sweep_is.Exit run how) w passes kept_passes
+  kept_applies (cause_is.Start target) w = kept_start (is_running w.course.mood) target w
+  kept_applies (cause_is.Stop target) w = leads w (stops_all target w) (passes (stops_all target w)) (kept_stops_all target w) (kept_passes (stops_all target w))
+  kept_applies (cause_is.Signal signal) w = leads w (heeds signal w) (passes (heeds signal w)) (kept_heeds signal w) (kept_passes (heeds signal w))
+
+  kept_turn : (cause : Cause) (at : ℕ) (w : World) → From R w (turn cause at w)
+  kept_turn cause at w = leads w (rewinds at w) (turn cause at w) (s.rewound at w) (kept_applies cause (rewinds at w))
 
   pub kept_come : (t : Turn) (reply : Reply) → Onward R t → From R (world_of t) (come t reply)
   kept_come (Done w) reply goes = kept_done w
   kept_come (Ask w k) reply goes = goes w reply
 
-  pub kept_part : (part : Part) (t : Turn) → Onward R t → From R (world_of t) (turn_after part t)
-  kept_part (Begins at sweep) t goes = kept_turn sweep at (world_of t)
-  kept_part (Answers reply) t goes = kept_come t reply goes
+  kept_came : (t : Turn) (replies : List Reply) → Onward R t → From R (world_of t) (came t replies)
+  kept_came t [] goes = (s.same (world_of t), goes)
+  kept_came t (reply ∷ replies) goes =
+      let step = kept_come t reply goes in
+      leads (world_of t) (world_of (come t reply)) (came (come t reply) replies) step.0 (kept_came (come t reply) replies step.1)
+
+  kept_part : (m : Model) (part : Part) → Onward R (hand m) → From R (now m) (hand (next_part m part))
+  kept_part m (Begins at cause) goes = kept_turn cause at (now m)
+  kept_part m (Answers reply) goes =
+      subst (λ t. From R (now m) t) (sym (came_more (turn_of m.begun m.base) m.answers (reply ∷ []))) (kept_come (hand m) reply goes)
+  kept_part m (Fails number) goes =
+      let replies = replies_of (failure_named m number) in
+      subst (λ t. From R (now m) t) (sym (came_more (turn_of m.begun m.base) m.answers replies)) (kept_came (hand m) replies goes)
 
   pub kept_next : (m : Model) (input : Input) → Onward R (hand m) → From R (now m) (hand (next m input))
-  kept_next m input goes =
-      subst (λ t. From R (now m) t) (sym (hand_after_part m (part_of input))) (kept_part (part_of input) (hand m) goes)
+  kept_next m input goes = kept_part m (part_of input) goes
 
   pub kept_after : (m : Model) (inputs : List Input) → Onward R (hand m) → R (now m) (now (after m inputs))
   kept_after m [] goes = s.same (now m)
   kept_after m (i ∷ is) goes =
       let step = kept_next m i goes in
-      by_test (accepts m i) (s.follow (now m) (now (next m i)) (now (after (next m i) is)) step.0 (kept_after (next m i) is step.1)) (kept_after m is goes) where
-        by_test : (b : Bool) → R (now m) (now (after (next m i) is)) → R (now m) (now (after m is)) → R (now m) (now (if b then after (next m i) is else after m is))
-        by_test true taken left = taken
-        by_test false taken left = left
+      by_acceptance (accepts m i) (s.follow (now m) (now (next m i)) (now (after (next m i) is)) step.0 (kept_after (next m i) is step.1)) (kept_after m is goes) where
+        by_acceptance : (b : Bool) → R (now m) (now (after (next m i) is)) → R (now m) (now (after m is)) → R (now m) (now (if b then after (next m i) is else after m is))
+        by_acceptance true taken left = taken
+        by_acceptance false taken left = left

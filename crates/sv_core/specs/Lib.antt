@@ -1,7 +1,13 @@
+pub mod Sizes
 pub mod World
 pub mod Orders
 pub mod Stimuli
 pub mod Brought
+pub mod Moves
+pub mod Stops
+pub mod Sweeps
+pub mod Shutdown
+pub mod Failure
 pub mod Parts
 pub mod Turn
 pub mod MachineState

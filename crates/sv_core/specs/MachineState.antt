@@ -1,39 +1,46 @@
 -- The machine: its state, which inputs it accepts, and what comes next.
-use Rattle.std.specs.Prelude.{ℕ, List, [], ◌∷◌, ◌++◌, Option, Some, None, Bool, true, ◌&&◌, not, nat_lt, length, drop, map}
-use Rattle.std.specs.List.{flat_map}
+use Rattle.std.specs.Prelude.{ℕ, List, [], ◌∷◌, ◌++◌, Option, Some, None, Bool, true, false, ◌&&◌, not, nat_lt, length, drop, map, slice_get, ◌^◌, ◌%◌}
+use Rattle.std.specs.List.{flat_map, list_all}
 use Rattle.sv_base.specs.declared.config.Config.{Config}
 use Rattle.sv_base.specs.declared.config.Host.{Host}
 use Rattle.sv_base.specs.declared.spec.GroupSpec.{GroupSpec}
 use Rattle.sv_base.specs.declared.spec.Spec.{Spec}
 use Rattle.sv_base.specs.declared.state.Mood.TheVariants as mood_is
 use Rattle.sv_child.specs.Moves.{new_child}
+use Rattle.sv_core.specs.Failure.{behind, can_fail, failure_of, replies_of}
 use Rattle.sv_core.specs.Parts.{part_of}
-use Rattle.sv_core.specs.Turn.{Turn, turn, came, world_of, is_asking}
-use Rattle.sv_core.specs.Turn.Turn.{Done}
+use Rattle.sv_core.specs.Sweeps.{Turn}
+use Rattle.sv_core.specs.Sweeps.Turn.{Done}
+use Rattle.sv_core.specs.Turn.{turn, came, world_of, is_asking}
 use Rattle.sv_core.specs.World.{World}
+use Rattle.sv_core.specs.declared.failure.Failure.{Failure}
 use Rattle.sv_core.specs.declared.member.Member.{Member}
+use Rattle.sv_core.specs.declared.part.Cause.{Cause}
+use Rattle.sv_core.specs.declared.part.Cause.TheVariants as cause_is
 use Rattle.sv_core.specs.declared.part.Part.{Part}
-use Rattle.sv_core.specs.declared.part.Part.TheVariants.{Begins, Answers}
+use Rattle.sv_core.specs.declared.part.Part.TheVariants.{Begins, Answers, Fails}
 use Rattle.sv_core.specs.declared.part.Reply.{Reply}
-use Rattle.sv_core.specs.declared.sweep.Sweep.{Sweep}
-use Rattle.sv_core.specs.declared.sweep.Sweep.TheVariants as sweep_is
+use Rattle.sv_core.specs.declared.target.Target.{Target}
 use Rattle.sv_out.specs.declared.input.Input.{Input}
 use Rattle.sv_out.specs.declared.order.Order.{Order}
 
--- what begins a turn: its moment, and the sweep that brings its stimulus
+-- what begins a turn: its moment and its cause
 pub record Begin : Type 0 where
   pub at : ℕ
-  pub sweep : Sweep
+  pub cause : Cause
 
--- the state: the world when the turn in hand began, what began it, and the answers that came since
+-- the state: the world when the turn in hand began, what began it, and the answers that came since; how many orders had
+-- been given before the last input that wasn't a failed order; and the numbers of the orders that failed since
 pub record Model : Type 0 where
   pub base : World
   pub begun : Option Begin
   pub answers : List Reply
+  pub since : ℕ
+  pub named : List ℕ
 
 abbrev pub turn_of : Option Begin → World → Turn
 turn_of None w = Done w
-turn_of (Some begin) w = turn begin.sweep begin.at w
+turn_of (Some begin) w = turn begin.cause begin.at w
 
 -- the turn in hand, worked out again from its beginning
 abbrev pub hand : Model → Turn
@@ -50,36 +57,56 @@ specs_of config = flat_map (λ (g : GroupSpec). g.members) config.groups
 abbrev pub new_member : Spec → Member
 new_member spec = record { spec = spec; child = new_child }
 
+-- a group as a whole
+abbrev pub whole_group : GroupSpec → Target
+whole_group group = record { group = group.name; member = None }
+
 -- the state in which the daemon begins
-abbrev pub opening : Config → Host → Model
-opening config host = record {
+abbrev pub opening : Config → List (List ℕ × ℕ) → Host → Model
+opening config sizes host = record {
   base = record {
     members = map new_member (specs_of config);
-    mood = mood_is.Running;
+    groups = map whole_group config.groups;
+    course = record { mood = mood_is.Running; left = length config.groups; is_told = false; halted = false };
     next_run = 1;
     moment = host.start;
+    sizes = sizes;
     given = [];
   };
   begun = None;
   answers = [];
+  since = 0;
+  named = [];
 }
 
--- the run that a sweep names was issued
-abbrev pub is_issued : Sweep → ℕ → Bool
-is_issued (sweep_is.Exit run how) next_run = nat_lt 0 run.0 && nat_lt run.0 next_run
-is_issued sweep next_run = true
+-- the failure of the order of this number, where it was given since the last input that wasn't a failed order
+abbrev pub failure_named : Model → ℕ → Option Failure
+failure_named m number = slice_get (map failure_of (drop m.since (now m).given)) (behind (m.since % 2 ^ 64) number)
 
-abbrev pub is_accepted : Part → Bool → ℕ → Bool
-is_accepted (Begins at sweep) asking next_run = not asking && is_issued sweep next_run
-is_accepted (Answers reply) asking next_run = asking
+-- the order of this number can be named now: it is one of those, it can fail, and its number is above each that failed
+abbrev pub can_be_named : Model → ℕ → Bool
+can_be_named m number = can_fail (failure_named m number) && list_all (λ n. nat_lt n number) m.named
 
--- an answer is accepted while a question stands, and nothing else then; a run must have been issued
+-- the run that a cause names was issued
+abbrev pub is_issued : Cause → ℕ → Bool
+is_issued (cause_is.Exit run how) next_run = nat_lt 0 run.0 && nat_lt run.0 next_run
+is_issued cause next_run = true
+
+-- a turn begins while no question stands; a run must have been issued; an answer is accepted while a question stands
+abbrev pub is_accepted : Part → Bool → ℕ → (ℕ → Bool) → Bool
+is_accepted (Begins at cause) asking next_run named = not asking && is_issued cause next_run
+is_accepted (Answers reply) asking next_run named = asking
+is_accepted (Fails number) asking next_run named = named number
+
+-- after the halt nothing is accepted
 abbrev pub accepts : Model → Input → Bool
-accepts m input = is_accepted (part_of input) (is_asking (hand m)) (now m).next_run
+accepts m input = not (now m).course.halted && is_accepted (part_of input) (is_asking (hand m)) (now m).next_run (can_be_named m)
 
 abbrev pub next_part : Model → Part → Model
-next_part m (Begins at sweep) = record { base = now m; begun = Some (record { at = at; sweep = sweep }); answers = [] }
-next_part m (Answers reply) = record m { answers = m.answers ++ reply ∷ [] }
+next_part m (Begins at cause) =
+    record { base = now m; begun = Some (record { at = at; cause = cause }); answers = []; since = length (now m).given; named = [] }
+next_part m (Answers reply) = record m { answers = m.answers ++ reply ∷ []; since = length (now m).given; named = [] }
+next_part m (Fails number) = record m { answers = m.answers ++ replies_of (failure_named m number); named = number ∷ m.named }
 
 -- the state after an accepted input
 abbrev pub next : Model → Input → Model

@@ -1,13 +1,18 @@
 -- What the machine keeps, and which state of the model it stands for.
-use Rattle.std.specs.Prelude.{◌≡◌, List, [], ◌++◌, Option, Some, None, Bool, false, not, ◌&&◌, is_some, length, ◌-◌}
+use Rattle.std.specs.Prelude.{◌≡◌, ◌≤◌, ℕ, List, [], ◌∷◌, ◌++◌, Option, Some, None, Bool, true, false, not, ◌&&◌, is_some, nat_lt, length, drop, map, slice_get, ◌-◌, ◌+◌, ◌^◌, ◌%◌}
+use Rattle.std.specs.List.{list_all}
+use Rattle.sv_core.specs.Failure.{behind, can_fail, failure_of, replies_of}
 use Rattle.sv_core.specs.MachineState.{Model, hand, is_accepted}
 use Rattle.sv_core.specs.Parts.{part_of}
-use Rattle.sv_core.specs.Turn.{Turn, turn, come, world_of, asks, sweeps, after_sweep}
-use Rattle.sv_core.specs.Turn.Turn.{Done}
+use Rattle.sv_core.specs.Sweeps.{Turn, asks, sweeps}
+use Rattle.sv_core.specs.Sweeps.Turn.{Done}
+use Rattle.sv_core.specs.Turn.{turn, come, came, world_of, after_sweep}
 use Rattle.sv_core.specs.World.{World}
+use Rattle.sv_core.specs.declared.failure.Failure.{Failure}
 use Rattle.sv_core.specs.declared.machine.Machine.{Machine}
+use Rattle.sv_core.specs.declared.numbers.Numbers.{Numbers}
 use Rattle.sv_core.specs.declared.part.Part.{Part}
-use Rattle.sv_core.specs.declared.part.Part.TheVariants.{Begins, Answers}
+use Rattle.sv_core.specs.declared.part.Part.TheVariants.{Begins, Answers, Fails}
 use Rattle.sv_core.specs.declared.place.Asked.{Asked}
 use Rattle.sv_core.specs.declared.place.Place.{Place}
 use Rattle.sv_core.specs.declared.place.Stop.{Stop}
@@ -19,10 +24,12 @@ use Rattle.sv_out.specs.declared.order.Order.{Order}
 abbrev pub shown : Machine → List Order → World
 shown x older = record {
   members = x.members.items;
-  mood = x.mood;
-  next_run = x.next_run;
-  moment = x.moment;
-  given = older ++ x.given.items;
+  groups = x.groups.items;
+  course = x.course;
+  next_run = x.numbers.next_run;
+  moment = x.hand.moment;
+  sizes = x.sizes.items;
+  given = older ++ x.hand.given.items;
 }
 
 -- a step that stopped at a question, or went on
@@ -41,24 +48,68 @@ unfoldable pub rest : Option Place → World → Turn
 rest None w = Done w
 rest (Some place) w = swept place.sweep (Some place.stop) w (after_sweep place.sweep)
 
+-- the number is above the last one that failed
+abbrev pub is_above : Option ℕ → ℕ → Bool
+is_above None number = true
+is_above (Some last) number = nat_lt last number
+
+-- what is kept of the orders that can still be named
+pub record Names (x : Numbers) (since : ℕ) (named : List ℕ) (older : List Order) : Type 0 where
+  pub within : since ≤ length older
+  pub first : x.first ≡ since % 2 ^ 64
+  pub failures : x.failures.items ≡ map failure_of (drop since older)
+  pub above : (number : ℕ) → list_all (λ n. nat_lt n number) named ≡ is_above x.last number
+
 -- a machine that isn't broken stands for a state where its half-done turn is the turn in hand
 pub record StandsFor (x : Machine) (m : Model) : Type 0 where
   pub whole : x.broken ≡ false
-  pub idle : x.given.items ≡ []
+  pub idle : x.hand.given.items ≡ []
   pub older : List Order
-  pub hand_is : hand m ≡ rest x.place (shown x older)
+  pub hand_is : hand m ≡ rest x.hand.place (shown x older)
+  pub names : Names x.numbers m.since m.named older
+
+-- what the machine knows of the order of this number
+abbrev pub failure_kept : Numbers → ℕ → Option Failure
+failure_kept x number = slice_get x.failures.items (behind x.first number)
 
 -- what becomes of the turn in hand
-abbrev pub turn_after : Part → Turn → Turn
-turn_after (Begins at sweep) t = turn sweep at (world_of t)
-turn_after (Answers reply) t = come t reply
+abbrev pub turn_after : Numbers → Part → Turn → Turn
+turn_after x (Begins at cause) t = turn cause at (world_of t)
+turn_after x (Answers reply) t = come t reply
+turn_after x (Fails number) t = came t (replies_of (failure_kept x number))
+
+-- what is kept of earlier orders once an input is heard: nothing, but behind a failed order
+abbrev pub first_after : Part → Numbers → ℕ
+first_after (Fails number) x = x.first
+first_after part x = (x.first + length x.failures.items) % 2 ^ 64
+
+abbrev pub failures_after : Part → Numbers → List Failure
+failures_after (Fails number) x = x.failures.items
+failures_after part x = []
+
+abbrev pub last_after : Part → Option ℕ
+last_after (Fails number) = Some number
+last_after part = None
+
+-- what a machine keeps of its orders behind an input that gave these
+pub record Notes (x y : Numbers) (part : Part) (given : List Order) : Type 0 where
+  pub first : y.first ≡ first_after part x
+  pub failures : y.failures.items ≡ failures_after part x ++ map failure_of given
+  pub last : y.last ≡ last_after part
 
 -- what a machine does with an input, and which orders that gives
 pub record Takes (x : Machine) (input : Input) (given : List Order) (y : Machine) : Type 0 where
   pub whole : y.broken ≡ x.broken
-  pub idle : y.given.items ≡ []
-  pub turn : (older : List Order) → x.given.items ≡ [] → turn_after (part_of input) (rest x.place (shown x older)) ≡ rest y.place (shown y (older ++ given))
+  pub idle : y.hand.given.items ≡ []
+  pub notes : Notes x.numbers y.numbers (part_of input) given
+  pub turn : (older : List Order) → x.hand.given.items ≡ []
+      → turn_after x.numbers (part_of input) (rest x.hand.place (shown x older)) ≡ rest y.hand.place (shown y (older ++ given))
+
+-- the order of this number can be named now
+abbrev pub can_name : Numbers → ℕ → Bool
+can_name x number = can_fail (failure_kept x number) && is_above x.last number
 
 -- the machine accepts the input
 abbrev pub is_fitting : Machine → Input → Bool
-is_fitting x input = not x.broken && is_accepted (part_of input) (is_some x.place) x.next_run
+is_fitting x input =
+    not x.broken && (not x.course.halted && is_accepted (part_of input) (is_some x.hand.place) x.numbers.next_run (can_name x.numbers))

@@ -1,14 +1,14 @@
--- What an input is to each child: which of them it concerns, in which order, and as which stimulus.
-use Rattle.std.specs.Prelude.{ℕ, List, Option, Some, None, Bool, true, false, ◌&&◌, ◌-◌, ◌+◌, not, nat_eq, if◌then◌else◌}
+-- What a sweep is to each child: which of them it concerns, and as which stimulus.
+use Rattle.std.specs.Prelude.{ℕ, List, Option, Some, None, Bool, true, false, ◌&&◌, not, nat_eq, if◌then◌else◌}
 use Rattle.std.specs.Str.{bytes_eq}
 use Rattle.sv_base.specs.declared.ids.Run.{Run}
 use Rattle.sv_base.specs.declared.spec.Spec.{Spec}
 use Rattle.sv_child.specs.ChildTable.{Stimulus}
-use Rattle.sv_child.specs.ChildTable.Stimulus.{Ended, Start as Is_to_start, Stop as Is_to_stop, Time as Time_passes}
+use Rattle.sv_child.specs.ChildTable.Stimulus.{Ended, Start as Is_to_start, Time as Time_passes}
 use Rattle.sv_child.specs.declared.child.Child.{Child}
 use Rattle.sv_core.specs.declared.sweep.Sweep.{Sweep}
-use Rattle.sv_core.specs.declared.sweep.Sweep.TheVariants.{Time, Exit, Start, Stop}
-use Rattle.sv_core.specs.declared.sweep.Target.{Target}
+use Rattle.sv_core.specs.declared.sweep.Sweep.TheVariants.{Time, Exit, Start}
+use Rattle.sv_core.specs.declared.target.Target.{Target}
 
 -- this name means the child: its group and, unless the whole group is meant, its own name
 abbrev pub is_member_meant : Option (List ℕ) → List ℕ → Bool
@@ -31,9 +31,3 @@ abbrev pub stimulus_of : Sweep → Spec → Child → Option Stimulus
 stimulus_of Time spec child = Some Time_passes
 stimulus_of (Exit run how) spec child = if is_living_run run child then Some (Ended how) else None
 stimulus_of (Start target) spec child = if is_meant target spec then Some Is_to_start else None
-stimulus_of (Stop target) spec child = if is_meant target spec then Some Is_to_stop else None
-
--- the child to which a sweep over so many comes in this place: a stop goes from the last to the first
-abbrev pub child_at : Sweep → ℕ → ℕ → ℕ
-child_at (Stop target) count place = count - (place + 1)
-child_at sweep count place = place

@@ -1,140 +1,67 @@
 -- One turn of the machine, in its named steps. A step works on the world and hands it to what comes next; a question
 -- stops the turn until its answer comes.
-use Rattle.std.specs.Prelude.{ℕ, zero, suc, List, [], ◌∷◌, ◌++◌, Option, Some, None, Bool, true, false, ◌+◌, length, nat_le, map, codes, slice_get, slice_set, if◌then◌else◌}
-use Rattle.sv_base.specs.declared.ids.Run.{Run}
-use Rattle.sv_base.specs.declared.signal.Signal.{Signal}
-use Rattle.sv_base.specs.declared.spec.Spec.{Spec}
-use Rattle.sv_child.specs.ChildTable.{Stimulus, happens}
-use Rattle.sv_child.specs.ChildTable.Stimulus.{Spawned, Spawn_failed}
-use Rattle.sv_child.specs.Moves.{Answer}
+use Rattle.std.specs.Prelude.{ℕ, List, [], ◌∷◌, Bool, true, false, map, if◌then◌else◌}
+use Rattle.sv_child.specs.Moves.{is_running}
 use Rattle.sv_child.specs.Rewind.{rewound}
-use Rattle.sv_child.specs.declared.child.Child.{Child}
-use Rattle.sv_child.specs.declared.step.ChildDeed.{ChildDeed}
-use Rattle.sv_child.specs.declared.step.ChildDeed.TheVariants.{Spawn, Kill}
-use Rattle.sv_child.specs.declared.step.Edge.{Edge}
-use Rattle.sv_core.specs.Orders.{reports, kill, spawn}
-use Rattle.sv_core.specs.Stimuli.{stimulus_of, child_at}
+use Rattle.sv_core.specs.Shutdown.{heeds, follows_plan, halts}
+use Rattle.sv_core.specs.Stops.{stops_all}
+use Rattle.sv_core.specs.Sweeps.{Turn, sweeps_all}
+use Rattle.sv_core.specs.Sweeps.Turn.{Done, Ask}
 use Rattle.sv_core.specs.World.{World}
 use Rattle.sv_core.specs.declared.member.Member.{Member}
+use Rattle.sv_core.specs.declared.part.Cause.{Cause}
+use Rattle.sv_core.specs.declared.part.Cause.TheVariants as cause_is
 use Rattle.sv_core.specs.declared.part.Reply.{Reply}
-use Rattle.sv_core.specs.declared.part.Reply.TheVariants.{Started, NotStarted}
 use Rattle.sv_core.specs.declared.sweep.Sweep.{Sweep}
 use Rattle.sv_core.specs.declared.sweep.Sweep.TheVariants as sweep_is
-use Rattle.sv_out.specs.declared.order.Order.TheVariants as order
 
--- a turn that is done, or that stopped at a question and goes on with its answer, in the world as it is then
-pub data Turn : Type 0 where
-  Done : World → Turn
-  Ask : World → (World → Reply → Turn) → Turn
+-- step 0, in the first turn the event that the daemon runs: no pool is built yet
+abbrev pub announces : World → World
+announces w = w
 
--- ---- one child
-
--- the member with its child rewound
+-- step 1, the turn's moment has come: each child is rewound to it
 abbrev pub member_rewound : ℕ → Member → Member
 member_rewound at m = record m { child = rewound m.spec m.child at }
 
--- the turn's moment has come: each child is rewound to it
 abbrev pub rewinds : ℕ → World → World
 rewinds at w = record w { members = map (member_rewound at) w.members; moment = at }
 
--- what the table says of a child, at the moment and in the mood of the turn
-abbrev pub said : Member → Stimulus → World → Answer
-said m stimulus w = happens m.spec m.child stimulus w.mood w.moment
+-- step 2, the stimulus: what began the turn is applied. While the daemon ends, the console starts nothing.
+abbrev pub applies : Cause → World → (World → Turn) → Turn
+applies cause_is.Tick w k = k w
+applies (cause_is.Exit run how) w k = sweeps_all (sweep_is.Exit run how) w k
+applies (cause_is.Start target) w k = if is_running w.course.mood then sweeps_all (sweep_is.Start target) w k else k w
+applies (cause_is.Stop target) w k = k (stops_all target w)
+applies (cause_is.Signal signal) w k = k (heeds signal w)
 
--- the edges that a child took are reported
-abbrev pub reported : Spec → List (Option Edge) → World → World
-reported spec edges w = record w { given = w.given ++ reports spec edges }
+-- step 3, the ticks of the clock: no pool is built yet
+abbrev pub ticks : World → World
+ticks w = w
 
--- the child is behind its step
-abbrev pub changed : ℕ → Member → Child → World → World
-changed c m child w = record w { members = slice_set w.members c (record m { child = child }) }
+-- step 5, the links: none is built yet
+abbrev pub serves_links : World → World
+serves_links w = w
 
--- the child is behind its step, and its edges are reported
-abbrev pub moves : ℕ → Member → Answer → World → World
-moves c m answer w = reported m.spec answer.step.edges (changed c m answer.child w)
+-- step 7, the pools hand out: none is built yet
+abbrev pub hands_out : World → World
+hands_out w = w
 
--- the run of a child is sent a signal
-abbrev pub kills : Option Member → Signal → Bool → World → World
-kills None signal group w = w
-kills (Some m) signal group w = record w { given = w.given ++ kill m.child.run signal group }
+-- steps 5 to 8, behind the pass: the links, the stop plan, the pools, and the halt
+abbrev pub ends : World → Turn
+ends w = Done (halts (hands_out (follows_plan (serves_links w))))
 
--- a spawn is ordered, and the run numbered
-abbrev pub orders_spawn : Spec → World → World
-orders_spawn spec w = record w { given = w.given ++ order.Spawn (spawn spec w.next_run) ∷ []; next_run = w.next_run + 1 }
+-- steps 3 to 8: the ticks, and one pass over all children, for which time goes on
+abbrev pub passes : World → Turn
+passes w = sweeps_all sweep_is.Time (ticks w) ends
 
--- the stimulus of a spawn's answer
-abbrev pub heard : Run → Reply → Stimulus
-heard run (Started pid) = Spawned run pid
-heard run (NotStarted fault) = Spawn_failed fault
-
--- a child is told a stimulus behind which nothing is to be done
-abbrev pub tells : Option Member → ℕ → Stimulus → World → World
-tells None c stimulus w = w
-tells (Some m) c stimulus w = moves c m (said m stimulus w) w
-
--- the spawn of a child is answered
-abbrev pub answered : ℕ → Run → Reply → World → World
-answered c run reply w = tells (slice_get w.members c) c (heard run reply) w
-
--- no number is left for a run: the spawn fails by itself
-abbrev pub fails : ℕ → World → World
-fails c w = answered c (record { 0 = 0 }) (NotStarted (codes "failed")) w
-
-unfoldable pub asks : ℕ → Run → World → (World → Turn) → Turn
-asks c run w k = Ask w (λ v reply. k (answered c run reply v))
-
--- the spawn of a child is ordered, while a number is left for its run
-abbrev pub spawns : Option Member → ℕ → World → (World → Turn) → Turn
-spawns None c w k = k w
-spawns (Some m) c w k =
-    if nat_le w.next_run 4294967295
-    then asks c (record { 0 = w.next_run }) (orders_spawn m.spec w) k
-    else k (fails c w)
-
--- what is to be done for a child behind its step
-abbrev pub does : Option ChildDeed → ℕ → World → (World → Turn) → Turn
-does None c w k = k w
-does (Some (Kill signal group)) c w k = k (kills (slice_get w.members c) signal group w)
-does (Some Spawn) c w k = spawns (slice_get w.members c) c w k
-
--- the child takes its step
-abbrev pub acts : ℕ → Member → Answer → World → (World → Turn) → Turn
-acts c m answer w k = does answer.step.deed c (moves c m answer w) k
-
-abbrev pub brings : Option Stimulus → ℕ → Member → World → (World → Turn) → Turn
-brings None c m w k = k w
-brings (Some stimulus) c m w k = acts c m (said m stimulus w) w k
-
-abbrev pub meets : Sweep → Option Member → ℕ → World → (World → Turn) → Turn
-meets sweep None c w k = k w
-meets sweep (Some m) c w k = brings (stimulus_of sweep m.spec m.child) c m w k
-
--- ---- all children
-
--- a sweep comes to the child of one place
-abbrev pub visits : Sweep → ℕ → World → (World → Turn) → Turn
-visits sweep place w k =
-    let c = child_at sweep (length w.members) place in meets sweep (slice_get w.members c) c w k
-
--- a sweep over the places that are left
-abbrev pub sweeps : Sweep → ℕ → ℕ → World → (World → Turn) → Turn
-sweeps sweep zero place w k = k w
-sweeps sweep (suc left) place w k = visits sweep place w (λ v. sweeps sweep left (place + 1) v k)
-
--- a whole sweep
-abbrev pub sweeps_all : Sweep → World → (World → Turn) → Turn
-sweeps_all sweep w k = sweeps sweep (length w.members) 0 w k
-
--- ---- the turn
-
--- what comes after a sweep: the pass of time, and after that nothing
+-- what comes behind a sweep: behind that of time the end of the turn, behind a stimulus the pass
 unfoldable pub after_sweep : Sweep → World → Turn
-after_sweep sweep_is.Time w = Done w
-after_sweep sweep w = sweeps_all sweep_is.Time w (λ v. Done v)
+after_sweep sweep_is.Time w = ends w
+after_sweep sweep w = passes w
 
--- the stimulus of an input goes to the children that it concerns, then time goes to all; a tick has no other stimulus
-abbrev pub turn : Sweep → ℕ → World → Turn
-turn sweep at w = sweeps_all sweep (rewinds at w) (after_sweep sweep)
+-- the whole turn
+abbrev pub turn : Cause → ℕ → World → Turn
+turn cause at w = applies cause (rewinds at (announces w)) passes
 
 -- an answer comes to a turn
 abbrev pub come : Turn → Reply → Turn

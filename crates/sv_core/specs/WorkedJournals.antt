@@ -21,11 +21,12 @@ use Rattle.sv_out.specs.declared.input.Input.TheVariants.{Tick, Exit, Stop, Pid}
 use Rattle.sv_out.specs.declared.order.Order.{Order}
 use Rattle.sv_out.specs.declared.order.Order.TheVariants as order
 
--- what the rest of the configuration, of the group, of the program and of the host is doesn't matter
+-- what the rest of the configuration, of the group, of the program, of the sizes and of the host is doesn't matter
 pub record Rest : Type 0 where
   pub config : Config
   pub group : GroupSpec
   pub spec : Spec
+  pub sizes : List (List ℕ × ℕ)
   pub host : Host
 
 -- the program x, alone in its group
@@ -38,7 +39,7 @@ alone rest spec = record rest.config { groups = record rest.group { name = codes
 
 -- what the daemon does for x and these inputs
 abbrev pub done : Rest → Spec → List Input → List Order
-done rest spec inputs = deeds (opening (alone rest spec) rest.host) inputs
+done rest spec inputs = deeds (opening (alone rest spec) rest.sizes rest.host) inputs
 
 abbrev pub run : ℕ → Run
 run number = record { 0 = number }

@@ -17,18 +17,18 @@ ghost use Rattle.sv_out.specs.declared.input.Input.{Input};
 /// with. In a configuration as its type keeps it, where each child also says the name of its own group, that is each
 /// child.
 pub fn reports_are_a_path()
-    ensures only_one { (config : Config) (host : Host) (inputs : List Input) (place : ℕ) (spec : Spec) →
+    ensures only_one { (config : Config) (sizes : List (List ℕ × ℕ)) (host : Host) (inputs : List Input) (place : ℕ) (spec : Spec) →
         slice_get (specs_of config) place ≡ Some spec → IsOnlyOne (specs_of config) place spec →
-        IsWalk Stopped (edges_told spec.group spec.name (deeds (opening config host) inputs)) (state_at (now (after (opening config host) inputs)) place) }
-    ensures roster { (config : Config) (host : Host) (inputs : List Input) (place : ℕ) (spec : Spec) →
+        IsWalk Stopped (edges_told spec.group spec.name (deeds (opening config sizes host) inputs)) (state_at (now (after (opening config sizes host) inputs)) place) }
+    ensures roster { (config : Config) (sizes : List (List ℕ × ℕ)) (host : Host) (inputs : List Input) (place : ℕ) (spec : Spec) →
         IsTrue (is_roster config.groups) → IsTrue (are_in_own_groups config.groups) → slice_get (specs_of config) place ≡ Some spec →
-        IsWalk Stopped (edges_told spec.group spec.name (deeds (opening config host) inputs)) (state_at (now (after (opening config host) inputs)) place) }
+        IsWalk Stopped (edges_told spec.group spec.name (deeds (opening config sizes host) inputs)) (state_at (now (after (opening config sizes host) inputs)) place) }
 {}
 
 /// The orders are only ever added to: the deeds of the inputs are all that was given in the end.
 pub fn orders_are_only_added()
-    ensures { (config : Config) (host : Host) (inputs : List Input) →
-        (now (after (opening config host) inputs)).given ≡ deeds (opening config host) inputs }
+    ensures { (config : Config) (sizes : List (List ℕ × ℕ)) (host : Host) (inputs : List Input) →
+        (now (after (opening config sizes host) inputs)).given ≡ deeds (opening config sizes host) inputs }
 {}
 
 /// Journals that were worked out by hand give the deeds that they should.

@@ -17,7 +17,7 @@ pub struct Member {
 }
 
 impl Member {
-    ghost use Rattle.sv_core.specs.Turn.{heard};
+    ghost use Rattle.sv_core.specs.Moves.{heard};
 
     /// The spawn of the child, as this run, is answered.
     pub(crate) fn answer(&mut self, run: Run, reply: Reply, now: Moment) -> Step

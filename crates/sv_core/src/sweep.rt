@@ -1,41 +1,16 @@
 ghost use Rattle.std.specs.Prelude.{◌≡◌, Some, None};
-ghost use Rattle.sv_core.specs.Stimuli.{is_meant, is_member_meant, is_living_run, is_run, stimulus_of, child_at};
 ghost use Rattle.sv_core.specs.Brought.{child_brought, step_brought};
+ghost use Rattle.sv_core.specs.Stimuli.{is_living_run, is_run, stimulus_of};
 
+use crate::target::Target;
 use sv_base::ids::Run;
 use sv_base::moment::Moment;
 use sv_base::spec::Spec;
 use sv_base::state::{How, Mood};
-use sv_base::text::Text;
 use sv_child::child::Child;
 use sv_child::step::Step;
 
-/// What a name of the console means: a child of a group, or with no member the whole group.
-#[derive(Debug, Drop)]
-pub struct Target {
-    pub group: Text,
-    pub member: Option<Text>,
-}
-
-impl Target {
-    /// Whether the name means this child.
-    pub(crate) fn means(&self, spec: &Spec) -> bool
-        ensures { result ≡ is_meant self.now spec.now }
-    {
-        self.group == spec.group && is_member_meant(&self.member, &spec.name)
-    }
-}
-
-fn is_member_meant(member: &Option<Text>, name: &Text) -> bool
-    ensures { result ≡ is_member_meant member.now name.now }
-{
-    match member {
-        Some(member) => member == name,
-        None => true,
-    }
-}
-
-/// One stimulus on its way over the children.
+/// One stimulus on its way over the children, in start order.
 #[derive(Debug, Drop)]
 pub enum Sweep {
     /// Time has passed, for each.
@@ -44,21 +19,9 @@ pub enum Sweep {
     Exit(Run, How),
     /// The console asks for starts.
     Start(Target),
-    /// The console asks for stops, from the last child to the first.
-    Stop(Target),
 }
 
 impl Sweep {
-    /// The child to which the sweep comes in this place.
-    pub(crate) fn child_at(&self, count: usize, place: usize) -> usize
-        ensures { result ≡ child_at self.now count place }
-    {
-        match self {
-            Sweep::Stop(_) => count.saturating_sub(place.saturating_add(1)),
-            _ => place,
-        }
-    }
-
     /// Brings the stimulus to a child, where it concerns it, and answers the step that the child took.
     pub(crate) fn bring(
         &self,
@@ -76,7 +39,6 @@ impl Sweep {
                 spec, *how, now,
             )),
             Sweep::Start(target) if target.means(spec) => Some(child.want_start(spec, now)),
-            Sweep::Stop(target) if target.means(spec) => Some(child.want_stop(spec, now)),
             _ => None,
         }
     }

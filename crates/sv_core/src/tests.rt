@@ -110,7 +110,7 @@ fn machine(rt: &impl Abort, alloc: Global) -> Machine {
         environment: Items::new(alloc),
         start: Moment::zero(),
     };
-    Machine::new(alloc, config(rt, alloc), &host).expect(rt, "memory")
+    Machine::new(alloc, config(rt, alloc), Vec::new(alloc), &host).expect(rt, "memory")
 }
 
 fn moment(rt: &impl Abort, milliseconds: u64) -> Moment {

@@ -5,4 +5,4 @@ use Rattle.sv_core.specs.Turn.{is_asking}
 use Rattle.sv_core.proofs.machine.Machine.awaits.Goals as goal
 
 pub returns : goal.returns
-returns c = λ m s. c.is_some.ensures ∙ sym (ap is_asking s.hand_is ∙ is_asking_rest c.args.self.now.place (shown c.args.self.now s.older))
+returns c = λ m s. c.is_some.ensures ∙ sym (ap is_asking s.hand_is ∙ is_asking_rest c.args.self.now.hand.place (shown c.args.self.now s.older))

@@ -6,10 +6,10 @@ use Rattle.sv_core.proofs.machine.Machine.sweep.Goals as goal
 pub returns-in-Some-clause-sweeps : goal.returns-in-Some-clause-sweeps
 returns-in-Some-clause-sweeps c = λ older k.
     c.loop-place.invariant.goes older k
-    ∙ sweep_stopped c.args.sweep.now (vec_len c.args.self.now.members) c.loop-place.place (shown c.loop-place.self older) (shown c.visit.new.self older)
+    ∙ sweep_stopped c.args.sweep.now (vec_len c.args.self.now.members) c.loop-place.place (shown c.loop-place.self older) (shown c.meet.new.self older)
     c.in-Some.asked k (omega (arith, c.len-place-end.ensures))
-    (omega (arith, c.in_ok-asked.ensures.count, c.loop-place.invariant.count, c.visit.new.self.members.ok.0))
-    (λ next. c.in_ok-asked.ensures.visits older next ∙ ap (λ o. stopped o (shown c.visit.new.self older) next) c.in-Some.is)
+    (omega (arith, c.in_ok-asked.ensures.count, c.loop-place.invariant.count, c.meet.new.self.members.ok.0))
+    (λ next. c.in_ok-asked.ensures.meets older next ∙ ap (λ o. stopped o (shown c.meet.new.self older) next) c.in-Some.is)
 
 pub loop-place-preserved : goal.loop-place-preserved
 loop-place-preserved c = record {
@@ -17,9 +17,9 @@ loop-place-preserved c = record {
   kept = search rules;
   goes = λ older k.
       c.loop-place.invariant.goes older k
-      ∙ sweep_went_on c.args.sweep.now (vec_len c.args.self.now.members) c.loop-place.place (shown c.loop-place.self older) (shown c.visit.new.self older)
+      ∙ sweep_went_on c.args.sweep.now (vec_len c.args.self.now.members) c.loop-place.place (shown c.loop-place.self older) (shown c.meet.new.self older)
       k (omega (arith, c.len-place-end.ensures))
-      (λ next. c.in_ok-asked.ensures.visits older next ∙ ap (λ o. stopped o (shown c.visit.new.self older) next) c.in-None.is);
+      (λ next. c.in_ok-asked.ensures.meets older next ∙ ap (λ o. stopped o (shown c.meet.new.self older) next) c.in-None.is);
 }
 
 pub returns-clause-sweeps : goal.returns-clause-sweeps

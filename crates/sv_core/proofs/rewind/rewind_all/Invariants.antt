@@ -1,6 +1,6 @@
 use Rattle.std.proofs.Common.{◌≡◌, ◌++◌, take, drop, map}
 use Rattle.sv_core.specs.Turn.{member_rewound}
-use Rattle.sv_core.proofs.turn.rewind_all.Given as goal
+use Rattle.sv_core.proofs.rewind.rewind_all.Given as goal
 
 abbrev pub invariant-loop-member : goal.invariant-loop-member
 invariant-loop-member l =

@@ -1,7 +1,7 @@
 use Rattle.std.proofs.Common.{arith}
 use Rattle.sv_core.proofs.MapOver.{map_over_read}
 use Rattle.sv_core.specs.Turn.{member_rewound}
-use Rattle.sv_core.proofs.turn.rewind_all.Goals as goal
+use Rattle.sv_core.proofs.rewind.rewind_all.Goals as goal
 
 pub loop-member-preserved : goal.loop-member-preserved
 loop-member-preserved c =

@@ -1,0 +1,14 @@
+use crate::place::Place;
+use sv_base::moment::Moment;
+use sv_out::order::Order;
+
+/// The turn in hand, or the last one.
+#[derive(Debug, Drop)]
+pub struct Hand {
+    /// Its moment.
+    pub(crate) moment: Moment,
+    /// Where it was left at a question.
+    pub(crate) place: Option<Place>,
+    /// The orders of the input in hand.
+    pub(crate) given: Vec<Order>,
+}
