@@ -1,5 +1,5 @@
 -- Each line that is read as an input is the line of that input, and the line of each input is read as it.
-use Rattle.std.proofs.Common.{◌≡◌, ℕ, ◌+◌, ◌%◌, ◌^◌, ◌<◌, ◌≤◌, Bool, true, false, cond, List, [], ◌∷◌, ◌++◌, Result, Ok, refl, sym, ap, ◌∙◌, subst, arith, append_assoc, append-nil, IsUtf8}
+use Rattle.std.proofs.Common.{◌≡◌, ℕ, ◌+◌, ◌%◌, ◌^◌, ◌<◌, ◌≤◌, ◌≢◌, Bool, true, false, cond, List, [], ◌∷◌, ◌++◌, Result, Ok, refl, sym, ap, ◌∙◌, subst, arith, append_assoc, append-nil, IsUtf8}
 use Rattle.std.specs.Prelude.{codes}
 use Rattle.std.specs.Fmt.{decimal}
 use Rattle.std.proofs.lemmas.Fmt.{decimal_by_steps}
@@ -11,16 +11,19 @@ use Rattle.sv_out.specs.declared.input.Input.{Input}
 use Rattle.sv_out.specs.declared.input.Input.TheVariants as input_is
 use Rattle.sv_journal.specs.declared.words.Verb.{Verb}
 use Rattle.sv_journal.specs.declared.words.Verb.TheVariants as verb_is
+use Rattle.sv_base.specs.declared.signal.Signal.TheVariants as signal_is
+use Rattle.sv_journal.specs.declared.words.Told.{Told}
+use Rattle.sv_journal.specs.declared.words.Told.TheVariants as told_is
 use Rattle.sv_journal.specs.declared.words.Ending.{Ending}
 use Rattle.sv_journal.specs.declared.words.Ending.TheVariants as ending_is
 use Rattle.sv_journal.specs.declared.words.Answer.{Answer}
 use Rattle.sv_journal.specs.declared.words.Answer.TheVariants as answer_is
 use Rattle.sv_journal.specs.declared.token.Letters.TheVariants.{OfText}
-use Rattle.sv_journal.specs.Limits.{run_limit}
+use Rattle.sv_journal.specs.Limits.{number_limit, run_limit}
 use Rattle.sv_journal.specs.Spelling.{token}
 use Rattle.sv_journal.specs.JournalLine.{how_words, FitsHow, input_line, FitsInput}
 use Rattle.sv_journal.specs.Reading.{◌>>=◌, end_at, keyword_at}
-use Rattle.sv_journal.specs.ReadingLines.{verb_word, verbs, ending_word, endings, answer_word, answers, word_then, keyword_then, number_then, text_then, how_at, exit_at, event_of, event_at, answer_of, answer_at, begins_with_digit, input_at}
+use Rattle.sv_journal.specs.ReadingLines.{verb_word, verbs, told_signal, told_signals, told_word, ending_word, endings, answer_word, answers, word_then, keyword_then, number_then, text_then, how_at, exit_at, event_of, event_at, answer_of, answer_at, begins_with_digit, input_at}
 use Rattle.sv_journal.proofs.LineParts.{end_takes, word_then_takes, keyword_then_takes, number_then_takes, text_then_takes}
 use Rattle.sv_journal.proofs.Names.{good_text, text_good}
 use Rattle.sv_journal.proofs.NumberLaws.{IsLimit, number_again, digit_from}
@@ -31,6 +34,9 @@ moment_fits = (omega arith, omega arith)
 
 pub run_fits : IsLimit run_limit
 run_fits = (omega arith, omega arith)
+
+pub number_fits : IsLimit number_limit
+number_fits = (omega arith, omega arith)
 
 pub code_fits : IsLimit 255
 code_fits = (omega arith, omega arith)
@@ -85,6 +91,14 @@ exit_takes at bs i fits e =
     regroup : (a b c d e : List ℕ) → a ++ (b ++ (c ++ (d ++ e))) ≡ (((a ++ b) ++ c) ++ d) ++ e
     regroup a b c d e = simp append_assoc
 
+told_not_hup : (told : Told) → told_signal told ≢ signal_is.Hup
+told_not_hup told_is.Term = λ e. cc
+told_not_hup told_is.Int = λ e. cc
+told_not_hup told_is.Quit = λ e. cc
+told_not_hup told_is.Kill = λ e. cc
+told_not_hup told_is.Usr1 = λ e. cc
+told_not_hup told_is.Usr2 = λ e. cc
+
 event_of_takes : (at : ℕ) (verb : Verb) (bs : List ℕ) (i : Input) → at ≤ moment_limit → event_of at verb bs ≡ Ok i → Meant (decimal at ++ (codes " " ++ (verb_word verb ++ bs))) i
 unfolding event_of
 event_of_takes at verb_is.Tick bs i fits e =
@@ -105,6 +119,14 @@ event_of_takes at verb_is.Stop bs i fits e =
     record {
       same = ap (λ (l : List ℕ). decimal at ++ (codes " stop " ++ l)) (taken.same ∙ append-nil (token name)) ∙ sym (append_assoc (decimal at) (codes " stop ") (token name)) ∙ ap input_line (sym is);
       fits = subst FitsInput (sym is) (fits, text_good name taken.good);
+    })
+event_of_takes at verb_is.Signal bs i fits e =
+    keyword_then_takes told_word told_signals (λ told. end_at (input_is.Signal at (told_signal told))) bs i e (λ told rest is e.
+    let end = end_takes (input_is.Signal at (told_signal told)) i rest e in
+    let whole : bs ≡ told_word told = is ∙ ap (λ (l : List ℕ). told_word told ++ l) end.0 ∙ append-nil (told_word told) in
+    record {
+      same = ap (λ (l : List ℕ). decimal at ++ (codes " signal " ++ l)) whole ∙ sym (append_assoc (decimal at) (codes " signal ") (told_word told)) ∙ ap input_line end.1;
+      fits = subst FitsInput end.1 (fits, told_not_hup told);
     })
 
 event_takes : (bs : List ℕ) (i : Input) → event_at bs ≡ Ok i → Meant bs i
@@ -140,6 +162,13 @@ answer_of_takes answer_is.Refused bs i e =
       same = ap (λ (l : List ℕ). codes "refused " ++ l) (taken.same ∙ append-nil (token reason)) ∙ ap input_line (sym is);
       fits = subst FitsInput (sym is) (text_good reason taken.good);
     })
+answer_of_takes answer_is.Failed bs i e =
+    number_then_takes 0 number_limit (λ number. end_at (input_is.Failed number)) bs i number_fits e (λ number rest taken e.
+    let end = end_takes (input_is.Failed number) i rest e in
+    record {
+      same = ap (λ (l : List ℕ). codes "failed " ++ l) (taken.same ∙ ap (λ (l : List ℕ). decimal number ++ l) end.0 ∙ append-nil (decimal number)) ∙ ap input_line end.1;
+      fits = subst FitsInput end.1 taken.high;
+    })
 
 answer_takes : (bs : List ℕ) (i : Input) → answer_at bs ≡ Ok i → Meant bs i
 unfolding answer_at
@@ -167,6 +196,15 @@ verb_again verb_is.Tick rest = refl
 verb_again verb_is.Exit rest = refl
 verb_again verb_is.Start rest = refl
 verb_again verb_is.Stop rest = refl
+verb_again verb_is.Signal rest = refl
+
+pub told_again : (told : Told) (rest : List ℕ) → keyword_at told_word told_signals (told_word told ++ rest) ≡ Ok (told, rest)
+told_again told_is.Term rest = refl
+told_again told_is.Int rest = refl
+told_again told_is.Quit rest = refl
+told_again told_is.Kill rest = refl
+told_again told_is.Usr1 rest = refl
+told_again told_is.Usr2 rest = refl
 
 pub ending_again : (ending : Ending) (rest : List ℕ) → keyword_at ending_word endings (ending_word ending ++ rest) ≡ Ok (ending, rest)
 ending_again ending_is.Code rest = refl
@@ -177,6 +215,7 @@ answer_again answer_is.Pid rest = refl
 answer_again answer_is.NoFile rest = refl
 answer_again answer_is.NotExecutable rest = refl
 answer_again answer_is.Refused rest = refl
+answer_again answer_is.Failed rest = refl
 
 pub decimal_begins : (n : ℕ) (rest : List ℕ) → n < 2 ^ 64 → begins_with_digit (decimal n ++ rest) ≡ true
 decimal_begins n rest fits = decimal_by_steps (λ n ds. (rest : List ℕ) → begins_with_digit (ds ++ rest) ≡ true)
@@ -223,6 +262,15 @@ answer_then answer_is.Pid rest = refl
 answer_then answer_is.NoFile rest = refl
 answer_then answer_is.NotExecutable rest = refl
 answer_then answer_is.Refused rest = refl
+answer_then answer_is.Failed rest = refl
+
+signal_again : (at : ℕ) (told : Told) → at ≤ moment_limit → input_at (input_line (input_is.Signal at (told_signal told))) ≡ Ok (input_is.Signal at (told_signal told))
+unfolding event_of
+signal_again at told fits =
+    ap input_at (append_assoc (decimal at) (codes " signal ") (told_word told))
+    ∙ event_again at verb_is.Signal (told_word told) fits
+    ∙ ap (keyword_then told_word told_signals (λ t. end_at (input_is.Signal at (told_signal t)))) (sym (append-nil (told_word told)))
+    ∙ ap (λ (r : Result (Told × List ℕ) ℕ). r >>= (λ r. end_at (input_is.Signal at (told_signal r.0)) r.1)) (told_again told [])
 
 pub input_again : (i : Input) → FitsInput i → input_at (input_line i) ≡ Ok i
 unfolding event_of answer_of
@@ -233,9 +281,17 @@ input_again (input_is.Start at name) fits =
     ap input_at (append_assoc (decimal at) (codes " start ") (token name)) ∙ event_again at verb_is.Start (token name) fits.0 ∙ end_text (λ name. input_is.Start at name) name fits.1
 input_again (input_is.Stop at name) fits =
     ap input_at (append_assoc (decimal at) (codes " stop ") (token name)) ∙ event_again at verb_is.Stop (token name) fits.0 ∙ end_text (λ name. input_is.Stop at name) name fits.1
+input_again (input_is.Signal at signal_is.Term) fits = signal_again at told_is.Term fits.0
+input_again (input_is.Signal at signal_is.Hup) fits = absurd (fits.1 refl)
+input_again (input_is.Signal at signal_is.Int) fits = signal_again at told_is.Int fits.0
+input_again (input_is.Signal at signal_is.Quit) fits = signal_again at told_is.Quit fits.0
+input_again (input_is.Signal at signal_is.Kill) fits = signal_again at told_is.Kill fits.0
+input_again (input_is.Signal at signal_is.Usr1) fits = signal_again at told_is.Usr1 fits.0
+input_again (input_is.Signal at signal_is.Usr2) fits = signal_again at told_is.Usr2 fits.0
 input_again (input_is.Pid pid) fits = answer_then answer_is.Pid (decimal pid) ∙ end_number 1 run_limit pid (λ pid. input_is.Pid pid) run_fits (omega arith) fits.0 fits.1
 input_again input_is.NoFile fits = answer_then answer_is.NoFile []
 input_again input_is.NotExecutable fits = answer_then answer_is.NotExecutable []
+input_again (input_is.Failed number) fits = answer_then answer_is.Failed (decimal number) ∙ end_number 0 number_limit number (λ number. input_is.Failed number) number_fits (omega arith) (omega arith) fits
 input_again (input_is.Refused reason) fits = answer_then answer_is.Refused (token reason) ∙ end_text (λ reason. input_is.Refused reason) reason fits
 
 -- the input of a line is what is read from it

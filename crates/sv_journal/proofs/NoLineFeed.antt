@@ -80,6 +80,15 @@ how (how_is.Signal signal) fits = joined (codes "signal ") (decimal signal) refl
 after_number : (n : ℕ) (rest : List ℕ) → n < 2 ^ 64 → Plain rest → Plain (decimal n ++ rest)
 after_number n rest fits plain = joined (decimal n) rest (number n fits) plain
 
+signal : (signal : Signal) → Plain (signal_name signal)
+signal signal_is.Term = refl
+signal signal_is.Hup = refl
+signal signal_is.Int = refl
+signal signal_is.Quit = refl
+signal signal_is.Kill = refl
+signal signal_is.Usr1 = refl
+signal signal_is.Usr2 = refl
+
 pub plain_input : (i : Input) → FitsInput i → Plain (input_line i)
 plain_input (input_is.Tick at) fits = after_number at (codes " tick") (omega arith) refl
 plain_input (input_is.Exit at run how_ended) fits =
@@ -95,19 +104,14 @@ plain_input (input_is.Start at name) fits =
 plain_input (input_is.Stop at name) fits =
     let moment = fits.0 in
     joined (decimal at ++ codes " stop ") (token name) (after_number at (codes " stop ") (omega arith) refl) (text name)
+plain_input (input_is.Signal at told) fits =
+    let moment = fits.0 in
+    joined (decimal at ++ codes " signal ") (signal_name told) (after_number at (codes " signal ") (omega arith) refl) (signal told)
 plain_input (input_is.Pid pid) fits = let most = fits.1 in joined (codes "pid ") (decimal pid) refl (number pid (omega arith))
 plain_input input_is.NoFile fits = refl
 plain_input input_is.NotExecutable fits = refl
+plain_input (input_is.Failed failed) fits = joined (codes "failed ") (decimal failed) refl (number failed (omega arith))
 plain_input (input_is.Refused reason) fits = joined (codes "refused ") (token reason) refl (text reason)
-
-signal : (signal : Signal) → Plain (signal_name signal)
-signal signal_is.Term = refl
-signal signal_is.Hup = refl
-signal signal_is.Int = refl
-signal signal_is.Quit = refl
-signal signal_is.Kill = refl
-signal signal_is.Usr1 = refl
-signal signal_is.Usr2 = refl
 
 autorestart : (autorestart : Autorestart) → Plain (autorestart_word autorestart)
 autorestart autorestart_is.Never = refl

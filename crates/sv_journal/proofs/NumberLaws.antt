@@ -11,7 +11,7 @@ use Rattle.sv_journal.proofs.TokenLaws.{chosen}
 
 -- a limit with which no sum of a reader wraps
 abbrev pub IsLimit : ℕ → Type 0
-IsLimit limit = (9 ≤ limit) × (limit < 2 ^ 60)
+IsLimit limit = (9 ≤ limit) × (limit < 2 ^ 64)
 
 pub digit_range : (b : ℕ) → is_ascii_digit b ≡ true → (48 ≤ b) × (b ≤ 57)
 digit_range b e = let p = and_parts (leb 48 b) (leb b 57) e in (leb-true 48 b p.0, leb-true b 57 p.1)
@@ -24,14 +24,14 @@ pub record Numeral (front limit n : ℕ) (bs rest : List ℕ) : Type 0 where
   pub most : n ≤ limit
   pub least : front ≤ n
 
-pub one_more : (n b : ℕ) → 0 < n → 48 ≤ b → b ≤ 57 → n * 10 + (b - 48) < 2 ^ 60 → decimal n ++ b ∷ [] ≡ decimal (n * 10 + (b - 48))
+pub one_more : (n b : ℕ) → 0 < n → 48 ≤ b → b ≤ 57 → n * 10 + (b - 48) < 2 ^ 64 → decimal n ++ b ∷ [] ≡ decimal (n * 10 + (b - 48))
 one_more n b some l u fits =
     let step = decimal_step (n * 10 + (b - 48)) (omega arith) (omega arith) in
     let top : (n * 10 + (b - 48)) / 10 ≡ n = omega arith in
     let low : 48 + (n * 10 + (b - 48)) % 10 ≡ b = omega arith in
     sym (rw (top, low) at step)
 
-digits_take : (limit n : ℕ) (bs : List ℕ) → limit < 2 ^ 60 → n ≤ limit → Numeral n limit (digits_at limit n bs).0 bs (digits_at limit n bs).1
+digits_take : (limit n : ℕ) (bs : List ℕ) → limit < 2 ^ 64 → n ≤ limit → Numeral n limit (digits_at limit n bs).0 bs (digits_at limit n bs).1
 digits_take limit n [] fits h = record { same = refl; most = h; least = omega arith }
 digits_take limit n (b ∷ bs) fits h = elim (cases_Bool (goes_on limit n b)) [
   | inl e ↦

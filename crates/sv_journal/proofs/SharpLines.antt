@@ -20,17 +20,19 @@ use Rattle.sv_journal.specs.declared.words.Ending.{Ending}
 use Rattle.sv_journal.specs.declared.words.Ending.TheVariants as ending_is
 use Rattle.sv_journal.specs.declared.words.Answer.{Answer}
 use Rattle.sv_journal.specs.declared.words.Answer.TheVariants as answer_is
+use Rattle.sv_journal.specs.declared.words.Told.{Told}
+use Rattle.sv_journal.specs.declared.words.Told.TheVariants as told_is
 use Rattle.sv_journal.specs.declared.words.Opening.{Opening}
 use Rattle.sv_journal.specs.declared.words.Opening.TheVariants as opening_is
 use Rattle.sv_journal.specs.declared.token.Letters.TheVariants.{OfText, OfName}
-use Rattle.sv_journal.specs.Limits.{run_limit, program_limit}
+use Rattle.sv_journal.specs.Limits.{number_limit, run_limit, program_limit}
 use Rattle.sv_journal.specs.JournalLine.{autorestart_word, input_line, FitsInput, header_line, FitsHeader}
 use Rattle.sv_journal.specs.Reading.{◌>>=◌, end_at, token_at}
-use Rattle.sv_journal.specs.ReadingLines.{verb_word, verbs, ending_word, endings, answer_word, answers, opening_word, openings, signals, autorestarts, word_then, keyword_then, number_then, token_then, text_then, how_at, exit_at, event_of, event_at, answer_of, answer_at, begins_with_digit, input_at, codes_at, restart_at, start_at, header_of, header_at}
+use Rattle.sv_journal.specs.ReadingLines.{verb_word, verbs, told_signal, told_signals, told_word, ending_word, endings, answer_word, answers, opening_word, openings, signals, autorestarts, word_then, keyword_then, number_then, token_then, text_then, how_at, exit_at, event_of, event_at, answer_of, answer_at, begins_with_digit, input_at, codes_at, restart_at, start_at, header_of, header_at}
 use Rattle.sv_journal.proofs.CommaLaws.{ends_codes}
 use Rattle.sv_journal.proofs.Columns.{Exact}
 use Rattle.sv_journal.proofs.HeaderLaws.{program_fits, header_takes, header_fits, header_again, opening_again, signal_again, autorestart_again}
-use Rattle.sv_journal.proofs.InputLaws.{moment_fits, run_fits, code_fits, signal_fits, verb_again, ending_again, answer_again, decimal_begins, input_takes, input_fits, input_again}
+use Rattle.sv_journal.proofs.InputLaws.{moment_fits, number_fits, run_fits, told_again, code_fits, signal_fits, verb_again, ending_again, answer_again, decimal_begins, input_takes, input_fits, input_again}
 use Rattle.sv_journal.proofs.NumberLaws.{IsLimit}
 use Rattle.sv_journal.proofs.Sharp.{Failure, Sharp, any, plain, sharp_end, sharp_word, sharp_keyword, sharp_number}
 use Rattle.sv_journal.proofs.SharpCodes.{sharp_codes}
@@ -116,6 +118,8 @@ event_of_sharp at verb_is.Tick = weaker (sharp_end (input_is.Tick at))
 event_of_sharp at verb_is.Exit = exit_sharp at
 event_of_sharp at verb_is.Start = sharp_text (λ name. input_is.Start at name)
 event_of_sharp at verb_is.Stop = sharp_text (λ name. input_is.Stop at name)
+event_of_sharp at verb_is.Signal =
+    sharp_keyword told_word told_signals told_is.Term (λ told. end_at (input_is.Signal at (told_signal told))) any told_again (λ k x. refl) (λ told. weaker (sharp_end (input_is.Signal at (told_signal told))))
 
 event_sharp : Sharp event_at begins_with_digit
 unfolding event_at
@@ -130,6 +134,7 @@ answer_of_sharp answer_is.Pid = last_number 1 run_limit (λ pid. input_is.Pid pi
 answer_of_sharp answer_is.NoFile = weaker (sharp_end input_is.NoFile)
 answer_of_sharp answer_is.NotExecutable = weaker (sharp_end input_is.NotExecutable)
 answer_of_sharp answer_is.Refused = sharp_text (λ reason. input_is.Refused reason)
+answer_of_sharp answer_is.Failed = last_number 0 number_limit (λ number. input_is.Failed number) number_fits (omega arith)
 
 abbrev no_digit : List ℕ → Bool
 no_digit bs = not (begins_with_digit bs)
@@ -139,6 +144,7 @@ answer_begins answer_is.Pid rest = refl
 answer_begins answer_is.NoFile rest = refl
 answer_begins answer_is.NotExecutable rest = refl
 answer_begins answer_is.Refused rest = refl
+answer_begins answer_is.Failed rest = refl
 
 answer_sharp : Sharp answer_at no_digit
 unfolding answer_at

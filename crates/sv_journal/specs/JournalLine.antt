@@ -1,9 +1,10 @@
 -- The one line of each input, order and header, without its line feed, and which of them a journal may hold.
-use Rattle.std.specs.Prelude.{ℕ, ◌<◌, ◌≤◌, ◌≡◌, List, ◌++◌, length, Bool, true, false, codes, IsUtf8, chars, nat_le}
+use Rattle.std.specs.Prelude.{ℕ, ◌<◌, ◌≤◌, ◌≡◌, ◌≢◌, List, ◌++◌, length, Bool, true, false, codes, IsUtf8, chars, nat_le}
 use Rattle.std.specs.List.{flat_map, list_all}
 use Rattle.std.specs.Fmt.{decimal}
 use Rattle.sv_base.specs.Limits.{moment_limit}
 use Rattle.sv_base.specs.Names.{signal_name, state_name}
+use Rattle.sv_base.specs.declared.signal.Signal.TheVariants.{Hup}
 use Rattle.sv_base.specs.declared.state.How.{How}
 use Rattle.sv_base.specs.declared.state.How.TheVariants.{Code, Signal as BySignal}
 use Rattle.sv_base.specs.declared.state.Autorestart.{Autorestart}
@@ -16,7 +17,7 @@ use Rattle.sv_out.specs.declared.order.SpawnOrder.{SpawnOrder}
 use Rattle.sv_journal.specs.declared.header.Header.{Header}
 use Rattle.sv_journal.specs.declared.header.Header.TheVariants as header_is
 use Rattle.sv_journal.specs.declared.header.Program.{Program}
-use Rattle.sv_journal.specs.Limits.{run_limit, program_limit}
+use Rattle.sv_journal.specs.Limits.{number_limit, run_limit, program_limit}
 use Rattle.sv_journal.specs.Spelling.{token, comma_list}
 use Rattle.sv_journal.specs.Tokens.{is_name_letter}
 
@@ -38,20 +39,24 @@ input_line (input_is.Tick at) = decimal at ++ codes " tick"
 input_line (input_is.Exit at run how) = decimal at ++ codes " exit " ++ decimal run.0 ++ codes " " ++ how_words how
 input_line (input_is.Start at name) = decimal at ++ codes " start " ++ token name
 input_line (input_is.Stop at name) = decimal at ++ codes " stop " ++ token name
+input_line (input_is.Signal at signal) = decimal at ++ codes " signal " ++ signal_name signal
 input_line (input_is.Pid pid) = codes "pid " ++ decimal pid
 input_line input_is.NoFile = codes "nofile"
 input_line input_is.NotExecutable = codes "notexec"
 input_line (input_is.Refused reason) = codes "refused " ++ token reason
+input_line (input_is.Failed number) = codes "failed " ++ decimal number
 
 abbrev pub FitsInput : Input → Type 0
 FitsInput (input_is.Tick at) = at ≤ moment_limit
 FitsInput (input_is.Exit at run how) = (at ≤ moment_limit) × (run.0 ≤ run_limit) × FitsHow how
 FitsInput (input_is.Start at name) = (at ≤ moment_limit) × IsUtf8 name
 FitsInput (input_is.Stop at name) = (at ≤ moment_limit) × IsUtf8 name
+FitsInput (input_is.Signal at signal) = (at ≤ moment_limit) × (signal ≢ Hup)
 FitsInput (input_is.Pid pid) = (1 ≤ pid) × (pid ≤ run_limit)
 FitsInput input_is.NoFile = Unit {0}
 FitsInput input_is.NotExecutable = Unit {0}
 FitsInput (input_is.Refused reason) = IsUtf8 reason
+FitsInput (input_is.Failed number) = number ≤ number_limit
 
 -- a space and a token
 abbrev pub then_token : List ℕ → List ℕ
@@ -89,6 +94,7 @@ order_line (order_is.State group name from to) =
 order_line (order_is.Spawn spawn) = spawn_line spawn
 order_line (order_is.Kill run signal group) =
     codes "kill " ++ decimal run.0 ++ codes " " ++ signal_name signal ++ receiver group
+order_line order_is.Halt = codes "halt"
 
 abbrev pub autorestart_word : Autorestart → List ℕ
 autorestart_word Never = codes "false"

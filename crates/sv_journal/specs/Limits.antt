@@ -4,6 +4,10 @@ use Rattle.std.specs.Prelude.{ℕ}
 abbrev pub line_limit : ℕ
 line_limit = 4194304
 
+-- the greatest number
+abbrev pub number_limit : ℕ
+number_limit = 18446744073709551615
+
 -- the greatest number of a run, a link or a process
 abbrev pub run_limit : ℕ
 run_limit = 4294967295

@@ -19,12 +19,14 @@ use Rattle.sv_journal.specs.declared.words.Ending.{Ending}
 use Rattle.sv_journal.specs.declared.words.Ending.TheVariants as ending_is
 use Rattle.sv_journal.specs.declared.words.Answer.{Answer}
 use Rattle.sv_journal.specs.declared.words.Answer.TheVariants as answer_is
+use Rattle.sv_journal.specs.declared.words.Told.{Told}
+use Rattle.sv_journal.specs.declared.words.Told.TheVariants as told_is
 use Rattle.sv_journal.specs.declared.words.Opening.{Opening}
 use Rattle.sv_journal.specs.declared.words.Opening.TheVariants as opening_is
 use Rattle.sv_journal.specs.declared.token.Letters.{Letters}
 use Rattle.sv_journal.specs.declared.token.Letters.TheVariants.{OfName}
 use Rattle.sv_journal.specs.JournalLine.{autorestart_word}
-use Rattle.sv_journal.specs.Limits.{run_limit, program_limit}
+use Rattle.sv_journal.specs.Limits.{number_limit, run_limit, program_limit}
 use Rattle.sv_journal.specs.Reading.{◌>>=◌, word_at, keyword_at, number_at, token_at, end_at, text_line_at, codes_from}
 
 abbrev pub verb_word : Verb → List ℕ
@@ -32,9 +34,25 @@ verb_word verb_is.Tick = codes "tick"
 verb_word verb_is.Exit = codes "exit "
 verb_word verb_is.Start = codes "start "
 verb_word verb_is.Stop = codes "stop "
+verb_word verb_is.Signal = codes "signal "
 
 abbrev pub verbs : List Verb
-verbs = verb_is.Tick ∷ verb_is.Exit ∷ verb_is.Start ∷ verb_is.Stop ∷ []
+verbs = verb_is.Tick ∷ verb_is.Exit ∷ verb_is.Start ∷ verb_is.Stop ∷ verb_is.Signal ∷ []
+
+-- the signals that the daemon can be sent
+abbrev pub told_signal : Told → Signal
+told_signal told_is.Term = signal_is.Term
+told_signal told_is.Int = signal_is.Int
+told_signal told_is.Quit = signal_is.Quit
+told_signal told_is.Kill = signal_is.Kill
+told_signal told_is.Usr1 = signal_is.Usr1
+told_signal told_is.Usr2 = signal_is.Usr2
+
+abbrev pub told_word : Told → List ℕ
+told_word told = signal_name (told_signal told)
+
+abbrev pub told_signals : List Told
+told_signals = told_is.Term ∷ told_is.Int ∷ told_is.Quit ∷ told_is.Kill ∷ told_is.Usr1 ∷ told_is.Usr2 ∷ []
 
 abbrev pub ending_word : Ending → List ℕ
 ending_word ending_is.Code = codes "code "
@@ -48,9 +66,10 @@ answer_word answer_is.Pid = codes "pid "
 answer_word answer_is.NoFile = codes "nofile"
 answer_word answer_is.NotExecutable = codes "notexec"
 answer_word answer_is.Refused = codes "refused "
+answer_word answer_is.Failed = codes "failed "
 
 abbrev pub answers : List Answer
-answers = answer_is.Pid ∷ answer_is.NoFile ∷ answer_is.NotExecutable ∷ answer_is.Refused ∷ []
+answers = answer_is.Pid ∷ answer_is.NoFile ∷ answer_is.NotExecutable ∷ answer_is.Refused ∷ answer_is.Failed ∷ []
 
 abbrev pub opening_word : Opening → List ℕ
 opening_word opening_is.Journal = codes "supervisor-journal 0"
@@ -98,6 +117,7 @@ event_of at verb_is.Tick = end_at (input_is.Tick at)
 event_of at verb_is.Exit = exit_at at
 event_of at verb_is.Start = text_then (λ name. input_is.Start at name)
 event_of at verb_is.Stop = text_then (λ name. input_is.Stop at name)
+event_of at verb_is.Signal = keyword_then told_word told_signals (λ told. end_at (input_is.Signal at (told_signal told)))
 
 unfoldable pub event_at : List ℕ → Result Input ℕ
 event_at = number_then 0 moment_limit (λ at. word_then (codes " ") (keyword_then verb_word verbs (event_of at)))
@@ -107,6 +127,7 @@ answer_of answer_is.Pid = number_then 1 run_limit (λ pid. end_at (input_is.Pid 
 answer_of answer_is.NoFile = end_at input_is.NoFile
 answer_of answer_is.NotExecutable = end_at input_is.NotExecutable
 answer_of answer_is.Refused = text_then (λ reason. input_is.Refused reason)
+answer_of answer_is.Failed = number_then 0 number_limit (λ number. end_at (input_is.Failed number))
 
 unfoldable pub answer_at : List ℕ → Result Input ℕ
 answer_at = keyword_then answer_word answers answer_of

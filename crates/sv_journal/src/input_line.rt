@@ -7,7 +7,7 @@ use crate::number::number;
 use crate::stop::Stop;
 use crate::token::{Letters, rest_of_line};
 use crate::word::{end, keyword, word};
-use crate::words::{ANSWERS, Answer, ENDINGS, Ending, VERBS, Verb};
+use crate::words::{ANSWERS, Answer, ENDINGS, Ending, TOLD_SIGNALS, VERBS, Verb};
 use std::alloc::Global;
 use sv_base::ids::Run;
 use sv_base::moment::{MOMENT_LIMIT, Moment};
@@ -58,6 +58,11 @@ fn event_of(alloc: Global, at: Moment, verb: Verb, bytes: &[u8]) -> Result<Input
         Verb::Stop => {
             let name = rest_of_line(alloc, bytes)?;
             Ok(Input::Stop { at, name })
+        }
+        Verb::Signal => {
+            let (told, rest) = keyword(&TOLD_SIGNALS, bytes)?;
+            let signal = told.daemon_signal();
+            end(Input::Signal { at, signal }, rest)
         }
     }
 }
@@ -124,6 +129,10 @@ fn answer_of(alloc: Global, answer: Answer, bytes: &[u8]) -> Result<Input, Stop>
         Answer::Refused => {
             let reason = rest_of_line(alloc, bytes)?;
             Ok(Input::Refused(reason))
+        }
+        Answer::Failed => {
+            let (order, rest) = number(0, u64::MAX, bytes)?;
+            end(Input::Failed(order), rest)
         }
     }
 }

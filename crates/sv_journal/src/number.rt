@@ -6,7 +6,7 @@ use crate::stop::Stop;
 /// Reads a number of at least `least`, which is 0 or 1, and at most `limit`, in decimal without leading zeros.
 pub fn number(least: u64, limit: u64, bytes: &[u8]) -> Result<(u64, &[u8]), Stop>
     requires low { 9 ≤ limit }
-    requires high { limit < 2 ^ 60 }
+    requires high { limit < 2 ^ 64 }
     ensures value { Gives (λ x. (x.0, x.1.now)) result (number_at least limit bytes.now) }
     ensures bound { IfOk result (λ x. x.0 ≤ limit) }
     ensures shorter { IfOk result (λ x. length x.1.now < length bytes.now) }
@@ -24,11 +24,11 @@ pub fn number(least: u64, limit: u64, bytes: &[u8]) -> Result<(u64, &[u8]), Stop
         if !digit.is_ascii_digit() || value == 0 {
             break;
         }
-        let more = value * 10 + u64::from(*digit - b'0');
-        if more > limit {
+        let digit = u64::from(*digit - b'0');
+        if value > (limit - digit) / 10 {
             break;
         }
-        value = more;
+        value = value * 10 + digit;
         rest = after;
     }
     Ok((value, rest))

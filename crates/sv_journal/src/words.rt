@@ -1,10 +1,10 @@
 ghost use Rattle.std.specs.Prelude.{◌≡◌};
 ghost use Rattle.sv_base.specs.Names.{signal_name};
 ghost use Rattle.sv_journal.specs.JournalLine.{autorestart_word};
-ghost use Rattle.sv_journal.specs.ReadingLines.{verb_word, ending_word, answer_word, opening_word};
+ghost use Rattle.sv_journal.specs.ReadingLines.{verb_word, told_signal, told_word, ending_word, answer_word, opening_word};
 
 use crate::word::Spelled;
-use sv_base::signal::Signal;
+use sv_base::signal::{DaemonSignal, Signal};
 use sv_base::state::Autorestart;
 
 /// What happened, behind the moment of an input line.
@@ -14,6 +14,18 @@ pub enum Verb {
     Exit,
     Start,
     Stop,
+    Signal,
+}
+
+/// A signal that the daemon was sent.
+#[derive(Clone, Copy, Debug)]
+pub enum Told {
+    Term,
+    Int,
+    Quit,
+    Kill,
+    Usr1,
+    Usr2,
 }
 
 /// How a process ended.
@@ -23,13 +35,14 @@ pub enum Ending {
     Signal,
 }
 
-/// The first word of an input line that is an answer.
+/// The first word of an input line that has no moment.
 #[derive(Clone, Copy, Debug)]
 pub enum Answer {
     Pid,
     NoFile,
     NotExecutable,
     Refused,
+    Failed,
 }
 
 /// The first word of a header line.
@@ -40,15 +53,31 @@ pub enum Opening {
     Go,
 }
 
-pub const VERBS: [Verb; 4] = [Verb::Tick, Verb::Exit, Verb::Start, Verb::Stop];
+pub const VERBS: [Verb; 5] = [
+    Verb::Tick,
+    Verb::Exit,
+    Verb::Start,
+    Verb::Stop,
+    Verb::Signal,
+];
+
+pub const TOLD_SIGNALS: [Told; 6] = [
+    Told::Term,
+    Told::Int,
+    Told::Quit,
+    Told::Kill,
+    Told::Usr1,
+    Told::Usr2,
+];
 
 pub const ENDINGS: [Ending; 2] = [Ending::Code, Ending::Signal];
 
-pub const ANSWERS: [Answer; 4] = [
+pub const ANSWERS: [Answer; 5] = [
     Answer::Pid,
     Answer::NoFile,
     Answer::NotExecutable,
     Answer::Refused,
+    Answer::Failed,
 ];
 
 pub const OPENINGS: [Opening; 3] = [Opening::Journal, Opening::Program, Opening::Go];
@@ -78,7 +107,39 @@ impl Spelled for Verb {
             Verb::Exit => "exit ",
             Verb::Start => "start ",
             Verb::Stop => "stop ",
+            Verb::Signal => "signal ",
         }
+    }
+}
+
+impl Told {
+    /// The signal.
+    pub fn signal(self) -> Signal
+        ensures { result ≡ told_signal self }
+    {
+        match self {
+            Told::Term => Signal::Term,
+            Told::Int => Signal::Int,
+            Told::Quit => Signal::Quit,
+            Told::Kill => Signal::Kill,
+            Told::Usr1 => Signal::Usr1,
+            Told::Usr2 => Signal::Usr2,
+        }
+    }
+
+    /// The signal, as one of those that the daemon can be sent.
+    pub fn daemon_signal(self) -> DaemonSignal
+        ensures { result ≡ told_signal self }
+    {
+        DaemonSignal::new(self.signal()).unwrap()
+    }
+}
+
+impl Spelled for Told {
+    ghost spelling_of = { told_word };
+
+    fn spelling(&self) -> &'static str {
+        self.signal().name()
     }
 }
 
@@ -102,6 +163,7 @@ impl Spelled for Answer {
             Answer::NoFile => "nofile",
             Answer::NotExecutable => "notexec",
             Answer::Refused => "refused ",
+            Answer::Failed => "failed ",
         }
     }
 }

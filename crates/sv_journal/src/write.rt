@@ -56,6 +56,11 @@ fn put_input(line: &mut String, input: &Input) -> Result<(), AllocError>
             line.push_str(" stop ")?;
             put_token(line, name.as_str().as_bytes())
         }
+        Input::Signal { at, signal } => {
+            put_number(line, at.milliseconds())?;
+            line.push_str(" signal ")?;
+            line.push_str(signal.get().name())
+        }
         Input::Pid(pid) => {
             line.push_str("pid ")?;
             put_number(line, u64::from(pid.get()))
@@ -65,6 +70,10 @@ fn put_input(line: &mut String, input: &Input) -> Result<(), AllocError>
         Input::Refused(reason) => {
             line.push_str("refused ")?;
             put_token(line, reason.as_str().as_bytes())
+        }
+        Input::Failed(number) => {
+            line.push_str("failed ")?;
+            put_number(line, *number)
         }
     }
 }
@@ -97,6 +106,7 @@ fn put_order(line: &mut String, order: &Order) -> Result<(), AllocError>
         } => put_state(line, group, name, *from, *to),
         Order::Spawn(spawn) => put_spawn(line, spawn),
         Order::Kill { run, signal, group } => put_kill(line, run.0, *signal, *group),
+        Order::Halt => line.push_str("halt"),
     }
 }
 
