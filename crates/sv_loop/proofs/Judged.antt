@@ -42,7 +42,7 @@ judged_by_head NoMemory at header text quiet only fits spelled short found = tt
 
 -- `go` behind a program
 pub go_leads : (groups : List GroupSpec) (start : ℕ) → (length groups == 0) ≡ false
-    → heads (Named groups) (Go start) ≡ As_stands (Running (opening (config_of groups) (host_at start))) []
+    → heads (Named groups) (Go start) ≡ As_stands (Running (opening (config_of groups) [] (host_at start))) []
 go_leads [] start some = cc
 go_leads (group ∷ groups) start some = refl
 

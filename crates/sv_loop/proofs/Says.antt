@@ -62,9 +62,9 @@ record SaysPrograms (groups : List GroupSpec) (lines : List Line) (m : Model) (g
   start : ℕ
   inputs : List Input
   spelled : lines ≡ program_lines programs ++ Head (Go start) ∷ input_lines inputs
-  accepted : AllAccepted (opening (config_of (groups_of groups programs)) (host_at start)) inputs
-  state : m ≡ after (opening (config_of (groups_of groups programs)) (host_at start)) inputs
-  orders_are : given ≡ deeds (opening (config_of (groups_of groups programs)) (host_at start)) inputs
+  accepted : AllAccepted (opening (config_of (groups_of groups programs)) [] (host_at start)) inputs
+  state : m ≡ after (opening (config_of (groups_of groups programs)) [] (host_at start)) inputs
+  orders_are : given ≡ deeds (opening (config_of (groups_of groups programs)) [] (host_at start)) inputs
 
 -- nothing is given before `go`
 quiet : (onward : Walked) (at : Stage) (given : List Order) → behind [] onward ≡ Reaches at given → onward ≡ Reaches at given
@@ -75,7 +75,7 @@ says_go : (groups : List GroupSpec) (start : ℕ) (lines : List Line) (m : Model
     → walked (Named groups) (Head (Go start) ∷ lines) ≡ Reaches (Running m) given → SaysPrograms groups (Head (Go start) ∷ lines) m given
 says_go [] start lines m given e = cc
 says_go (group ∷ groups) start lines m given e =
-    let first = opening (config_of (group ∷ groups)) (host_at start) in
+    let first = opening (config_of (group ∷ groups)) [] (host_at start) in
     let said = says_inputs first lines (Running m) given (quiet (walked (Running first) lines) (Running m) given e) in
     let state : m ≡ after first said.inputs = let same = said.state in cc in
     record {

@@ -46,7 +46,7 @@ adds groups = if is_roster groups then Stands (Named groups) [] else Misplaced
 abbrev pub heads : Stage → Header → Verdict
 heads Fresh (Journal version) = Stands (Named []) []
 heads (Named groups) (Program program) = adds (placed (group_of program) groups)
-heads (Named (group ∷ groups)) (Go start) = Stands (Running (opening (config_of (group ∷ groups)) (host_at start))) []
+heads (Named (group ∷ groups)) (Go start) = Stands (Running (opening (config_of (group ∷ groups)) [] (host_at start))) []
 heads stage header = Misplaced
 
 abbrev pub says : Stage → Input → Verdict

@@ -35,7 +35,7 @@ groups_of groups (program ∷ programs) = groups_of (placed (group_of program) g
 
 -- the state in which the daemon of this journal begins
 abbrev pub beginning : List Program → ℕ → Model
-beginning programs start = opening (config_of (groups_of [] programs)) (host_at start)
+beginning programs start = opening (config_of (groups_of [] programs)) [] (host_at start)
 
 -- each input is accepted where it comes
 abbrev pub AllAccepted : Model → List Input → Type 0

@@ -122,7 +122,12 @@ fn judge_go(alloc: Global, groups: Groups, start: Moment) -> Judged
     if groups.as_slice().is_empty() {
         return Judged::Misplaced;
     }
-    match Machine::new(alloc, config_of(alloc, groups), &host_at(alloc, start)) {
+    match Machine::new(
+        alloc,
+        config_of(alloc, groups),
+        Vec::new(alloc),
+        &host_at(alloc, start),
+    ) {
         Ok(machine) => Judged::Stands(Place::Running(machine), Vec::new(alloc)),
         Err(AllocError) => Judged::NoMemory,
     }
