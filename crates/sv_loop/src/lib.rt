@@ -7,4 +7,8 @@ pub mod replay;
 mod run;
 mod short;
 #[cfg(test)]
+mod order_tests;
+#[cfg(test)]
+mod shutdown_tests;
+#[cfg(test)]
 mod tests;

@@ -9,11 +9,11 @@ use sv_out::sink::{ListSink, Sink};
 use sv_out::source::{ListSource, Source};
 
 /// A journal, the status of its replay, and what is written.
-struct Case {
-    name: &'static str,
-    journal: &'static str,
-    status: u8,
-    written: &'static str,
+pub(crate) struct Case {
+    pub(crate) name: &'static str,
+    pub(crate) journal: &'static str,
+    pub(crate) status: u8,
+    pub(crate) written: &'static str,
 }
 
 const CASES: [Case; 39] = [
@@ -272,7 +272,7 @@ fn sink(rt: &impl Abort, alloc: Global, failing: u64) -> ListSink {
     ListSink::new(alloc, 1_000_000, calls)
 }
 
-fn play(rt: &impl Abort, alloc: Global, case: &Case, most: usize) {
+pub(crate) fn play(rt: &impl Abort, alloc: Global, case: &Case, most: usize) {
     let words = words(rt, alloc, "run");
     let mut source = source(rt, alloc, case.journal.as_bytes(), most, 0);
     let mut sink = sink(rt, alloc, 0);
