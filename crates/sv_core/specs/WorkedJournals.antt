@@ -17,7 +17,7 @@ use Rattle.sv_core.specs.Deeds.{deeds}
 use Rattle.sv_core.specs.MachineState.{opening}
 use Rattle.sv_core.specs.Orders.{spawn}
 use Rattle.sv_out.specs.declared.input.Input.{Input}
-use Rattle.sv_out.specs.declared.input.Input.TheVariants.{Tick, Exit, Stop, Pid}
+use Rattle.sv_out.specs.declared.input.Input.TheVariants.{Tick, Exit, Stop, Signal as Told, Pid, Failed}
 use Rattle.sv_out.specs.declared.order.Order.{Order}
 use Rattle.sv_out.specs.declared.order.Order.TheVariants as order
 
@@ -119,3 +119,38 @@ KillAtEachDeadline rest =
     ∷ order.Kill (run 1) signal_is.Kill x.killasgroup
     ∷ order.Kill (run 1) signal_is.Kill x.killasgroup
     ∷ took Stopping Stopped ∷ []
+
+-- the spawn, which is order 1, can't be carried out
+abbrev pub SpawnThatFails : Rest → Type 0
+SpawnThatFails rest =
+    let x = x_of rest 1 3 Unexpected 10 in
+    done rest x
+    (Tick 0
+    ∷ Failed 1 ∷ [])
+    ≡ took Stopped Starting ∷ order.Spawn (spawn x 1)
+    ∷ took Starting Backoff ∷ []
+
+-- a program that is alone in its group
+abbrev pub lone : Rest → List ℕ → Spec
+lone rest name = record (program rest.spec 1 3 Unexpected 10) { group = name; name = name }
+
+abbrev pub goes : Spec → State → State → Order
+goes spec from to = order.State spec.group spec.name from to
+
+-- TERM stops b, the last group; when it is at rest, a; and then the daemon halts
+abbrev pub GroupsStopOneByOne : Rest → Type 0
+GroupsStopOneByOne rest =
+    let a = lone rest (codes "a") in
+    let b = lone rest (codes "b") in
+    let groups = record rest.group { name = codes "a"; members = a ∷ [] } ∷ record rest.group { name = codes "b"; members = b ∷ [] } ∷ [] in
+    deeds (opening (record rest.config { groups = groups }) rest.sizes rest.host)
+    (Tick 0 ∷ Pid 1 ∷ Pid 2
+    ∷ Tick 1000
+    ∷ Told 5000 signal_is.Term
+    ∷ Exit 5100 (run 2) (Code 0)
+    ∷ Exit 5200 (run 1) (Signal 15) ∷ [])
+    ≡ goes a Stopped Starting ∷ order.Spawn (spawn a 1) ∷ goes b Stopped Starting ∷ order.Spawn (spawn b 2)
+    ∷ goes a Starting Running ∷ goes b Starting Running
+    ∷ goes b Running Stopping ∷ order.Kill (run 2) signal_is.Term b.stopasgroup
+    ∷ goes b Stopping Stopped ∷ goes a Running Stopping ∷ order.Kill (run 1) signal_is.Term a.stopasgroup
+    ∷ goes a Stopping Stopped ∷ order.Halt ∷ []

@@ -8,7 +8,7 @@ ghost use Rattle.sv_child.specs.Diagram.{IsWalk};
 ghost use Rattle.sv_core.specs.Deeds.{after, deeds};
 ghost use Rattle.sv_core.specs.MachineState.{now, opening, specs_of};
 ghost use Rattle.sv_core.specs.Path.{IsOnlyOne, are_in_own_groups, edges_told, state_at};
-ghost use Rattle.sv_core.specs.WorkedJournals.{ClockGoesBack, KillAtEachDeadline, Rest, StartsStaysUpAndExits, ThreeRetriesThenFatal, UpAtOnce};
+ghost use Rattle.sv_core.specs.WorkedJournals.{ClockGoesBack, GroupsStopOneByOne, KillAtEachDeadline, Rest, SpawnThatFails, StartsStaysUpAndExits, ThreeRetriesThenFatal, UpAtOnce};
 ghost use Rattle.sv_out.specs.declared.input.Input.{Input};
 
 /// Whatever the machine is told, what it reports of a child is a path through the diagram of states: the first edge
@@ -38,4 +38,6 @@ pub fn worked_journals()
     ensures up_at_once { (rest : Rest) → UpAtOnce rest }
     ensures clock_goes_back { (rest : Rest) → ClockGoesBack rest }
     ensures kill_at_each_deadline { (rest : Rest) → KillAtEachDeadline rest }
+    ensures spawn_that_fails { (rest : Rest) → SpawnThatFails rest }
+    ensures groups_stop_one_by_one { (rest : Rest) → GroupsStopOneByOne rest }
 {}

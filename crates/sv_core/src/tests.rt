@@ -7,7 +7,7 @@ use sv_base::ids::Run;
 use sv_base::items::Items;
 use sv_base::moment::Moment;
 use sv_base::number::{Backups, CaptureBytes, ExitSignal, Pid, Retries, Seconds};
-use sv_base::signal::Signal;
+use sv_base::signal::{DaemonSignal, Signal};
 use sv_base::spec::{GroupSpec, LogSpec, Spec};
 use sv_base::state::{Autorestart, How, Level, State};
 use sv_base::text::Text;
@@ -22,14 +22,17 @@ enum Line {
     Code(u64, u32, u8),
     Signalled(u64, u32, u32),
     Stop(u64, &'static str),
+    Told(u64, Signal),
+    Fails(u64),
 }
 
 /// What it then orders.
 #[derive(Clone, Copy, Debug)]
 enum Wanted {
-    Goes(State, State),
+    Goes(&'static str, State, State),
     Spawns(u32),
     Kills(u32, Signal),
+    Halts,
 }
 
 fn no_log() -> LogSpec {
@@ -44,12 +47,12 @@ fn no_log() -> LogSpec {
 
 /// A program that is to stay up for a second, is tried again three times, expects the exit code 0, and is stopped by
 /// TERM, or after two seconds by KILL.
-fn program(rt: &impl Abort, alloc: Global) -> Spec {
+fn program(rt: &impl Abort, alloc: Global, group: &'static str, name: &'static str) -> Spec {
     let mut exitcodes = Items::new(alloc);
     exitcodes.push(0).expect(rt, "memory");
     Spec {
-        group: Text::fixed("x"),
-        name: Text::fixed("x"),
+        group: Text::fixed(group),
+        name: Text::fixed(name),
         words: Items::new(alloc),
         priority: 999,
         autostart: true,
@@ -71,27 +74,49 @@ fn program(rt: &impl Abort, alloc: Global) -> Spec {
     }
 }
 
-fn groups(rt: &impl Abort, alloc: Global) -> Groups {
+/// A group of these programs.
+fn group(rt: &impl Abort, alloc: Global, group: &'static str, names: &[&'static str]) -> GroupSpec {
     let mut members = Items::new(alloc);
-    members.push(program(rt, alloc)).expect(rt, "memory");
+    for name in names {
+        members
+            .push(program(rt, alloc, group, *name))
+            .expect(rt, "memory");
+    }
+    GroupSpec {
+        name: Text::fixed(group),
+        priority: 999,
+        members,
+        pool: None,
+    }
+}
+
+/// The program x, alone in its group.
+fn alone(rt: &impl Abort, alloc: Global) -> Groups {
     let mut groups = Vec::new(alloc);
     groups
-        .push(GroupSpec {
-            name: Text::fixed("x"),
-            priority: 999,
-            members,
-            pool: None,
-        })
+        .push(group(rt, alloc, "x", &["x"]))
         .expect(rt, "memory");
     Groups::new(groups).expect(rt, "a roster")
 }
 
-fn config(rt: &impl Abort, alloc: Global) -> Config {
+/// The program d, alone in its group, and behind it the group g of three.
+fn one_and_three(rt: &impl Abort, alloc: Global) -> Groups {
+    let mut groups = Vec::new(alloc);
+    groups
+        .push(group(rt, alloc, "d", &["d"]))
+        .expect(rt, "memory");
+    groups
+        .push(group(rt, alloc, "g", &["a", "b", "c"]))
+        .expect(rt, "memory");
+    Groups::new(groups).expect(rt, "a roster")
+}
+
+fn config(alloc: Global, groups: Groups) -> Config {
     Config {
         identifier: Text::fixed("supervisor"),
         main: no_log(),
         level: Level::Info,
-        groups: groups(rt, alloc),
+        groups,
         servers: Items::new(alloc),
         client: ClientSpec {
             url: Text::fixed(""),
@@ -102,7 +127,7 @@ fn config(rt: &impl Abort, alloc: Global) -> Config {
     }
 }
 
-fn machine(rt: &impl Abort, alloc: Global) -> Machine {
+fn machine(rt: &impl Abort, alloc: Global, groups: Groups) -> Machine {
     let host = Host {
         name: Text::fixed("localhost"),
         here: Text::fixed("/"),
@@ -110,7 +135,7 @@ fn machine(rt: &impl Abort, alloc: Global) -> Machine {
         environment: Items::new(alloc),
         start: Moment::zero(),
     };
-    Machine::new(alloc, config(rt, alloc), Vec::new(alloc), &host).expect(rt, "memory")
+    Machine::new(alloc, config(alloc, groups), Vec::new(alloc), &host).expect(rt, "memory")
 }
 
 fn moment(rt: &impl Abort, milliseconds: u64) -> Moment {
@@ -135,6 +160,11 @@ fn input(rt: &impl Abort, line: Line) -> Input {
             at: moment(rt, at),
             name: Text::fixed(name),
         },
+        Line::Told(at, signal) => Input::Signal {
+            at: moment(rt, at),
+            signal: DaemonSignal::new(signal).expect(rt, "a signal"),
+        },
+        Line::Fails(order) => Input::Failed(order),
     }
 }
 
@@ -147,14 +177,22 @@ fn is_wanted(order: &Order, wanted: Wanted) -> bool {
                 from,
                 to,
             },
-            Wanted::Goes(left, entered),
-        ) => group.as_str() == "x" && name.as_str() == "x" && *from == left && *to == entered,
-        (Order::Spawn(spawn), Wanted::Spawns(run)) => {
-            spawn.run.0 == run && spawn.group.as_str() == "x" && spawn.name.as_str() == "x"
+            Wanted::Goes(wanted, left, entered),
+        ) => {
+            let group_wanted = match wanted {
+                "a" | "b" | "c" => "g",
+                alone => alone,
+            };
+            group.as_str() == group_wanted
+                && name.as_str() == wanted
+                && *from == left
+                && *to == entered
         }
+        (Order::Spawn(spawn), Wanted::Spawns(run)) => spawn.run.0 == run,
         (Order::Kill { run, signal, group }, Wanted::Kills(told, with)) => run.0 == told
             && *signal == with
             && !*group,
+        (Order::Halt, Wanted::Halts) => true,
         _ => false,
     }
 }
@@ -183,18 +221,18 @@ const STAYS_UP_AND_EXITS: [(Line, &[Wanted]); 4] = [
     (
         Line::Tick(0),
         &[
-            Wanted::Goes(State::Stopped, State::Starting),
+            Wanted::Goes("x", State::Stopped, State::Starting),
             Wanted::Spawns(1),
         ],
     ),
     (Line::Pid(12), &[]),
     (
         Line::Tick(1_000),
-        &[Wanted::Goes(State::Starting, State::Running)],
+        &[Wanted::Goes("x", State::Starting, State::Running)],
     ),
     (
         Line::Code(2_000, 1, 0),
-        &[Wanted::Goes(State::Running, State::Exited)],
+        &[Wanted::Goes("x", State::Running, State::Exited)],
     ),
 ];
 
@@ -203,18 +241,18 @@ const STOP_IN_BACKOFF: [(Line, &[Wanted]); 4] = [
     (
         Line::Tick(0),
         &[
-            Wanted::Goes(State::Stopped, State::Starting),
+            Wanted::Goes("x", State::Stopped, State::Starting),
             Wanted::Spawns(1),
         ],
     ),
     (Line::Pid(7), &[]),
     (
         Line::Code(500, 1, 1),
-        &[Wanted::Goes(State::Starting, State::Backoff)],
+        &[Wanted::Goes("x", State::Starting, State::Backoff)],
     ),
     (
         Line::Stop(600, "x:*"),
-        &[Wanted::Goes(State::Backoff, State::Stopped)],
+        &[Wanted::Goes("x", State::Backoff, State::Stopped)],
     ),
 ];
 
@@ -223,19 +261,19 @@ const KILL_AT_EACH_DEADLINE: [(Line, &[Wanted]); 8] = [
     (
         Line::Tick(0),
         &[
-            Wanted::Goes(State::Stopped, State::Starting),
+            Wanted::Goes("x", State::Stopped, State::Starting),
             Wanted::Spawns(1),
         ],
     ),
     (Line::Pid(9), &[]),
     (
         Line::Tick(1_000),
-        &[Wanted::Goes(State::Starting, State::Running)],
+        &[Wanted::Goes("x", State::Starting, State::Running)],
     ),
     (
         Line::Stop(1_500, "x"),
         &[
-            Wanted::Goes(State::Running, State::Stopping),
+            Wanted::Goes("x", State::Running, State::Stopping),
             Wanted::Kills(1, Signal::Term),
         ],
     ),
@@ -244,14 +282,171 @@ const KILL_AT_EACH_DEADLINE: [(Line, &[Wanted]); 8] = [
     (Line::Tick(5_500), &[Wanted::Kills(1, Signal::Kill)]),
     (
         Line::Signalled(5_600, 1, 9),
-        &[Wanted::Goes(State::Stopping, State::Stopped)],
+        &[Wanted::Goes("x", State::Stopping, State::Stopped)],
+    ),
+];
+
+/// A whole group is stopped from its last child to its first.
+const STOP_OF_A_GROUP: [(Line, &[Wanted]); 7] = [
+    (
+        Line::Tick(0),
+        &[
+            Wanted::Goes("d", State::Stopped, State::Starting),
+            Wanted::Spawns(1),
+        ],
+    ),
+    (
+        Line::Pid(1),
+        &[
+            Wanted::Goes("a", State::Stopped, State::Starting),
+            Wanted::Spawns(2),
+        ],
+    ),
+    (
+        Line::Pid(2),
+        &[
+            Wanted::Goes("b", State::Stopped, State::Starting),
+            Wanted::Spawns(3),
+        ],
+    ),
+    (
+        Line::Pid(3),
+        &[
+            Wanted::Goes("c", State::Stopped, State::Starting),
+            Wanted::Spawns(4),
+        ],
+    ),
+    (Line::Pid(4), &[]),
+    (
+        Line::Tick(1_000),
+        &[
+            Wanted::Goes("d", State::Starting, State::Running),
+            Wanted::Goes("a", State::Starting, State::Running),
+            Wanted::Goes("b", State::Starting, State::Running),
+            Wanted::Goes("c", State::Starting, State::Running),
+        ],
+    ),
+    (
+        Line::Stop(1_500, "g:*"),
+        &[
+            Wanted::Goes("c", State::Running, State::Stopping),
+            Wanted::Kills(4, Signal::Term),
+            Wanted::Goes("b", State::Running, State::Stopping),
+            Wanted::Kills(3, Signal::Term),
+            Wanted::Goes("a", State::Running, State::Stopping),
+            Wanted::Kills(2, Signal::Term),
+        ],
+    ),
+];
+
+/// The last group is stopped first; two of its children don't heed TERM and are killed; only then the group before it is
+/// told, and with it the daemon halts.
+const SHUTDOWN_OF_GROUPS: [(Line, &[Wanted]); 14] = [
+    (
+        Line::Tick(0),
+        &[
+            Wanted::Goes("d", State::Stopped, State::Starting),
+            Wanted::Spawns(1),
+        ],
+    ),
+    (
+        Line::Pid(1),
+        &[
+            Wanted::Goes("a", State::Stopped, State::Starting),
+            Wanted::Spawns(2),
+        ],
+    ),
+    (
+        Line::Pid(2),
+        &[
+            Wanted::Goes("b", State::Stopped, State::Starting),
+            Wanted::Spawns(3),
+        ],
+    ),
+    (
+        Line::Pid(3),
+        &[
+            Wanted::Goes("c", State::Stopped, State::Starting),
+            Wanted::Spawns(4),
+        ],
+    ),
+    (Line::Pid(4), &[]),
+    (
+        Line::Tick(1_000),
+        &[
+            Wanted::Goes("d", State::Starting, State::Running),
+            Wanted::Goes("a", State::Starting, State::Running),
+            Wanted::Goes("b", State::Starting, State::Running),
+            Wanted::Goes("c", State::Starting, State::Running),
+        ],
+    ),
+    (
+        Line::Told(1_500, Signal::Term),
+        &[
+            Wanted::Goes("c", State::Running, State::Stopping),
+            Wanted::Kills(4, Signal::Term),
+            Wanted::Goes("b", State::Running, State::Stopping),
+            Wanted::Kills(3, Signal::Term),
+            Wanted::Goes("a", State::Running, State::Stopping),
+            Wanted::Kills(2, Signal::Term),
+        ],
+    ),
+    (
+        Line::Code(1_600, 3, 0),
+        &[Wanted::Goes("b", State::Stopping, State::Stopped)],
+    ),
+    (
+        Line::Tick(3_500),
+        &[
+            Wanted::Kills(2, Signal::Kill),
+            Wanted::Kills(4, Signal::Kill),
+        ],
+    ),
+    (Line::Fails(20), &[]),
+    (
+        Line::Signalled(3_600, 2, 9),
+        &[Wanted::Goes("a", State::Stopping, State::Stopped)],
+    ),
+    (
+        Line::Signalled(3_700, 4, 9),
+        &[
+            Wanted::Goes("c", State::Stopping, State::Stopped),
+            Wanted::Goes("d", State::Running, State::Stopping),
+            Wanted::Kills(1, Signal::Term),
+        ],
+    ),
+    (Line::Told(3_750, Signal::Int), &[]),
+    (
+        Line::Code(3_800, 1, 0),
+        &[
+            Wanted::Goes("d", State::Stopping, State::Stopped),
+            Wanted::Halts,
+        ],
     ),
 ];
 
 #[test]
 fn lives(rt: HostRuntime) {
     let alloc = rt.alloc();
-    check(&rt, alloc, &mut machine(&rt, alloc), &STAYS_UP_AND_EXITS);
-    check(&rt, alloc, &mut machine(&rt, alloc), &STOP_IN_BACKOFF);
-    check(&rt, alloc, &mut machine(&rt, alloc), &KILL_AT_EACH_DEADLINE);
+    for lines in [
+        STAYS_UP_AND_EXITS.as_slice(),
+        STOP_IN_BACKOFF.as_slice(),
+        KILL_AT_EACH_DEADLINE.as_slice(),
+    ] {
+        let mut machine = machine(&rt, alloc, alone(&rt, alloc));
+        check(&rt, alloc, &mut machine, lines);
+        assert!(rt; !machine.halted());
+    }
+}
+
+#[test]
+fn groups_stop(rt: HostRuntime) {
+    let alloc = rt.alloc();
+    let mut stopped = machine(&rt, alloc, one_and_three(&rt, alloc));
+    check(&rt, alloc, &mut stopped, &STOP_OF_A_GROUP);
+    assert!(rt; !stopped.halted());
+    let mut ended = machine(&rt, alloc, one_and_three(&rt, alloc));
+    check(&rt, alloc, &mut ended, &SHUTDOWN_OF_GROUPS);
+    assert!(rt; ended.halted());
+    assert!(rt; !ended.accepts(&input(&rt, Line::Tick(4_000))));
 }

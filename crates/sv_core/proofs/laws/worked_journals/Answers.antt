@@ -21,3 +21,11 @@ returns-clause-clock_goes_back c = λ rest. refl
 pub returns-clause-kill_at_each_deadline : goal.returns-clause-kill_at_each_deadline
 unfolding asks
 returns-clause-kill_at_each_deadline c = λ rest. refl
+
+pub returns-clause-spawn_that_fails : goal.returns-clause-spawn_that_fails
+unfolding asks
+returns-clause-spawn_that_fails c = λ rest. refl
+
+pub returns-clause-groups_stop_one_by_one : goal.returns-clause-groups_stop_one_by_one
+unfolding asks
+returns-clause-groups_stop_one_by_one c = λ rest. refl
