@@ -5,6 +5,10 @@ use Rattle.std.proofs.lemmas.Bool.Decides.{nat_tests}
 use Rattle.std.proofs.lemmas.List.{append_cancel_left, take_more, take-append-drop}
 use Rattle.sv_pipes.specs.TalkPlaces.{is_next}
 
+pub no_bytes : (xs : List ℕ) → length xs ≡ 0 → xs ≡ []
+no_bytes [] none = refl
+no_bytes (x ∷ xs) none = absurd (omega arith)
+
 -- what holds of both arms of a choice
 pub cond_by : {A : Type 0} (P : A → Type 0) (b : Bool) (x y : A) → (b ≡ true → P x) → (b ≡ false → P y) → P (cond b x y)
 cond_by P true x y f g = f refl

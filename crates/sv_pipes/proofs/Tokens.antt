@@ -3,7 +3,7 @@ use Rattle.std.proofs.Common.{◌≡◌, ◌≢◌, ◌<◌, ◌≤◌, ◌+◌,
 use Rattle.std.proofs.lemmas.Bool.{and_parts}
 use Rattle.std.proofs.lemmas.List.{take-append-drop}
 use Rattle.std.specs.List.{list_all}
-use Rattle.sv_pipes.proofs.Fronts.{word_more, word_outside}
+use Rattle.sv_pipes.proofs.Fronts.{no_bytes, word_more, word_outside}
 use Rattle.sv_pipes.specs.CaptureCut.{Lacks, IsFirst, IsLongest}
 
 abbrev pub is_other : ℕ → Bool
@@ -68,15 +68,11 @@ pub once_not : (xs ys : List ℕ) → list_all is_other (xs ++ 60 ∷ ys) ≡ tr
 once_not [] ys all = let no : is_other 60 ≡ true = (and_parts (is_other 60) (list_all is_other ys) all).0 in absurd (cc)
 once_not (x ∷ xs) ys all = once_not xs ys (and_parts (is_other x) (list_all is_other (xs ++ 60 ∷ ys)) all).1
 
-length_take : (token : List ℕ) (n : ℕ) → n ≤ length token → length (take n token) ≡ n
+pub length_take : (token : List ℕ) (n : ℕ) → n ≤ length token → length (take n token) ≡ n
 length_take token n within = omega (arith, ap length (take-append-drop n token), length-append (take n token) (drop n token), length-drop n token)
 
-empty_middle : (xs : List ℕ) → length xs ≡ 0 → xs ≡ []
-empty_middle [] none = refl
-empty_middle (x ∷ xs) none = absurd (omega arith)
-
 pub drop_all : (xs : List ℕ) (n : ℕ) → length xs ≤ n → drop n xs ≡ []
-drop_all xs n over = empty_middle (drop n xs) (omega (arith, length-drop n xs))
+drop_all xs n over = no_bytes (drop n xs) (omega (arith, length-drop n xs))
 
 -- of the token only its first byte can begin again
 one_byte : (token : List ℕ) (matched byte : ℕ) (part rest middle : List ℕ) (size : ℕ) → IsToken token → matched < length token
@@ -154,7 +150,7 @@ broken_lacks token shown matched byte at other front back e =
     let short = at.longest front o.1.0 (byte ∷ []) o.1.2 o.1.1 (λ none. absurd (cc)) in
     let full : length o.1.0 ≡ matched = omega (arith, short, size, at.within, ap length o.1.1, length-append o.1.0 (byte ∷ [])) in
     let t = tails shown (take matched token) front o.1.0 o.1.2 short in
-    let none : t.0 ≡ [] = empty_middle t.0 (omega (arith, full, size, ap length t.1, length-append t.0 o.1.0)) in
+    let none : t.0 ≡ [] = no_bytes t.0 (omega (arith, full, size, ap length t.1, length-append t.0 o.1.0)) in
     let same : take matched token ≡ o.1.0 = t.1 ∙ ap (λ m. m ++ o.1.0) none in
     word_outside token matched byte [] [] at.within other
     (ap (λ front. front ++ byte ∷ []) same ∙ sym o.1.1 ∙ sym (append-nil token))

@@ -7,6 +7,7 @@
 pub mod capture;
 #[cfg(test)]
 mod capture_tests;
+pub mod laws;
 pub mod part;
 pub mod talk;
 #[cfg(test)]
