@@ -68,11 +68,12 @@ impl Capture {
     }
 
     /// Gives the parts that the end of the stream decides: a tail outside that is no mark. A message that is open gives
-    /// nothing.
+    /// nothing. The capture stays as it was.
     ///
     /// Out of memory leaves a value that stands for no stream, and each later call gives the same answer.
     pub fn close(&mut self, alloc: Global) -> Result<Vec<Part>, AllocError>
         ensures closed { IfOk result (λ parts. (stream : List ℕ) (decided : List Decided) → StandsFor self.old stream decided → (fresh : List Decided) × (parts.items ≡ grouped fresh) × IsClosed self.old.limit stream (decided ++ fresh)) }
+        ensures stays { OnOk result (self.new ≡ self.old) }
         ensures limit { self.new.limit ≡ self.old.limit }
         ensures refused { OnErr result (self.new.broken ≡ true) }
         ensures stays_refused { self.old.broken ≡ true → IsErr result }
