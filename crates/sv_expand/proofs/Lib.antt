@@ -1,1 +1,4 @@
+pub mod Choices
+pub mod ExpansionCuts
 pub mod OneExpansion
+pub mod Sizes

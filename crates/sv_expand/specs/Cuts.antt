@@ -1,5 +1,8 @@
 -- The parts of a text with expansions. A text has one cut into such parts, and its expansion is their joined values.
-use Rattle.std.specs.Prelude.{◌≡◌, ◌==◌, ◌-◌, ℕ, List, [], ◌∷◌, ◌++◌, Bool, true, false, Option, Some, None, encode_utf8, encode_utf8_all, if◌then◌else◌, ⊤}
+use Rattle.std.specs.Prelude.{◌≡◌, ◌≢◌, ◌==◌, ◌-◌, ℕ, List, [], ◌∷◌, ◌++◌, length, Bool, true, false, Option, Some, None, encode_utf8, encode_utf8_all, if◌then◌else◌, ⊤}
+use Rattle.std.specs.Str.{chars}
+use Rattle.sv_expand.specs.declared.fault.ExpandFault.{ExpandFault}
+use Rattle.sv_expand.specs.declared.fault.ExpandFault.TheVariants.{Unknown, BadForm, OutOfMemory}
 use Rattle.sv_expand.specs.declared.names.Names.{Names}
 use Rattle.sv_expand.specs.Expansion.{text_told, number_told, is_width}
 
@@ -59,3 +62,46 @@ joined front back = None
 abbrev pub values : Names → List Part → Option (List ℕ)
 values names [] = Some []
 values names (part ∷ parts) = joined (value names part) (values names parts)
+
+-- a text expands to the joined values of its parts, where it has a cut into parts that each have one
+pub record Expands (names : Names) (text whole : List ℕ) : Type 0 where
+  pub parts : List Part
+  pub cut : chars text ≡ written_all parts
+  pub are : AreParts parts
+  pub told : values names parts ≡ Some whole
+
+-- no part begins with the characters that are left
+pub record BeginsNone (rest : List ℕ) : Type 0 where
+  pub some : rest ≢ []
+  pub none : (part : Part) (more : List ℕ) → IsPart part → rest ≡ written part ++ more → ⊥
+
+-- the name in a form
+abbrev pub name_in : Part → List ℕ
+name_in (Plain c) = []
+name_in Percent = []
+name_in (Value name) = encode_utf8_all name
+name_in (Number name) = encode_utf8_all name
+name_in (Spaced name digit) = encode_utf8_all name
+name_in (Zeroed name digit) = encode_utf8_all name
+
+-- a fault stands at a place: a form whose name has no value, or a percent sign that begins no form
+abbrev pub StandsAt : Names → ℕ → List ℕ → ExpandFault → Type 0
+StandsAt names place rest (Unknown name) =
+    (part : Part) × (more : List ℕ) × (rest ≡ written part ++ more) × IsPart part × (value names part ≡ None) × (name ≡ name_in part)
+StandsAt names place rest (BadForm at) = (at ≡ place) × BeginsNone rest
+StandsAt names place rest OutOfMemory = ⊥
+
+-- the leftmost fault of a text: what stands before it is cut into parts that each have a value
+pub record HasFault (names : Names) (text : List ℕ) (fault : ExpandFault) : Type 0 where
+  pub front : List Part
+  pub rest : List ℕ
+  pub cut : chars text ≡ written_all front ++ rest
+  pub are : AreParts front
+  pub whole : List ℕ
+  pub told : values names front ≡ Some whole
+  pub stands : StandsAt names (length (encode_utf8_all (written_all front))) rest fault
+
+-- a fault is the leftmost one of the text; want of memory may always come
+abbrev pub IsLeftmost : Names → List ℕ → ExpandFault → Type 0
+IsLeftmost names text OutOfMemory = ⊤
+IsLeftmost names text fault = HasFault names text fault

@@ -1,4 +1,5 @@
 ghost use Rattle.std.specs.Prelude.{◌≡◌, ◌<◌, ◌^◌, Ok, IfOk, IfErr, length, encode_utf8_all};
+ghost use Rattle.sv_expand.specs.Cuts.{Expands, IsLeftmost};
 ghost use Rattle.sv_expand.specs.Expansion.{expansion_of, after_all, at_start, IsFault};
 
 use crate::characters::characters_of;
@@ -12,6 +13,15 @@ use sv_base::text::Text;
 /// `%(NAME)0Nd` print its number to the right in N places, from 1 to 9, with spaces or zeros. A text with several
 /// faults has the leftmost.
 pub fn expand(alloc: Global, text: &str, names: &Names) -> Result<Text, ExpandFault>
+    ensures text { IfOk result (λ expanded. expansion_of names.now text.now ≡ Ok expanded) }
+    ensures fault { IfErr result (λ fault. IsFault fault (expansion_of names.now text.now)) }
+    ensures cut { IfOk result (λ expanded. Expands names.now text.now expanded) }
+    ensures leftmost { IfErr result (λ fault. IsLeftmost names.now text.now fault) }
+{
+    read_text(alloc, text, names)
+}
+
+fn read_text(alloc: Global, text: &str, names: &Names) -> Result<Text, ExpandFault>
     ensures text { IfOk result (λ expanded. expansion_of names.now text.now ≡ Ok expanded) }
     ensures fault { IfErr result (λ fault. IsFault fault (expansion_of names.now text.now)) }
 {

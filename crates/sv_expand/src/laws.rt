@@ -1,7 +1,8 @@
-ghost use Rattle.std.specs.Prelude.{◌≡◌, List, ℕ, Ok, Some};
+ghost use Rattle.std.specs.Prelude.{◌≡◌, ◌↔◌, List, ℕ, Ok, Err, Some};
 ghost use Rattle.std.specs.Str.{chars};
-ghost use Rattle.sv_expand.specs.Cuts.{Part, AreParts, written_all, values};
+ghost use Rattle.sv_expand.specs.Cuts.{Part, AreParts, written_all, values, Expands, HasFault};
 ghost use Rattle.sv_expand.specs.Expansion.{expansion_of};
+ghost use Rattle.sv_expand.specs.declared.fault.ExpandFault.{ExpandFault};
 ghost use Rattle.sv_expand.specs.declared.names.Names.{Names};
 
 /// A law: where a text is cut into plain characters, `%%` and forms whose names have values, its expansion is their
@@ -9,4 +10,15 @@ ghost use Rattle.sv_expand.specs.declared.names.Names.{Names};
 #[tactic(auto, using(crate::proofs::OneExpansion::one_expansion))]
 pub fn each_cut_tells_the_expansion()
     ensures { (names : Names) (text : List ℕ) (parts : List Part) (whole : List ℕ) → chars text ≡ written_all parts → AreParts parts → values names parts ≡ Some whole → expansion_of names text ≡ Ok whole }
+{}
+
+/// A law: a text has an expansion exactly where it has a cut into parts that each have a value.
+pub fn each_expansion_has_a_cut()
+    ensures { (names : Names) (text : List ℕ) (whole : List ℕ) → (expansion_of names text ≡ Ok whole) ↔ Expands names text whole }
+{}
+
+/// A law: a text has a fault exactly where it begins with parts that each have a value, and goes on with a form whose
+/// name has none or with a percent sign that begins no form.
+pub fn each_fault_of_an_expansion_is_the_leftmost()
+    ensures { (names : Names) (text : List ℕ) (fault : ExpandFault) → (expansion_of names text ≡ Err fault) ↔ HasFault names text fault }
 {}
