@@ -1,5 +1,5 @@
 -- Choices, tests and answers.
-use Rattle.std.proofs.Common.{◌≡◌, ◌==◌, ℕ, Bool, true, false, cond, refl, arith}
+use Rattle.std.proofs.Common.{◌≡◌, ◌==◌, ℕ, Bool, true, false, not, ◌||◌, cond, refl, arith}
 use Rattle.std.specs.Prelude.{Result, Ok, Err, IfOk, IfErr}
 use Rattle.std.proofs.lemmas.Bool.Decides.{nat_tests}
 
@@ -25,3 +25,15 @@ if_ok P Q (Err e) more is = tt
 pub if_err : {A E : Type 0} (P Q : E → Type 0) (res : Result A E) → ((e : E) → P e → Q e) → IfErr res P → IfErr res Q
 if_err P Q (Ok x) more is = tt
 if_err P Q (Err e) more is = more e is
+
+pub not_true : (b : Bool) → not b ≡ true → b ≡ false
+not_true true is = cc
+not_true false is = refl
+
+pub or_false : (a b : Bool) → (a || b) ≡ false → (a ≡ false) × (b ≡ false)
+or_false true b is = cc
+or_false false b is = (refl, is)
+
+pub neither : (a b : Bool) → a ≡ false → b ≡ false → (a || b) ≡ false
+neither true b one other = cc
+neither false b one other = other

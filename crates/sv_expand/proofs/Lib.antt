@@ -1,4 +1,5 @@
 pub mod Choices
+pub mod CommandCuts
 pub mod ExpansionCuts
 pub mod OneExpansion
 pub mod Sizes

@@ -4,4 +4,5 @@ pub mod Faults
 pub mod Pairs
 pub mod Results
 pub mod Values
+pub mod WordCuts
 pub mod Words

@@ -1,7 +1,9 @@
-ghost use Rattle.std.specs.Prelude.{◌≡◌, ◌↔◌, List, ℕ, Ok, Err, Some};
+ghost use Rattle.std.specs.Prelude.{◌≡◌, ◌↔◌, List, ℕ, Ok, Err, Some, None};
 ghost use Rattle.std.specs.Str.{chars};
 ghost use Rattle.sv_expand.specs.Cuts.{Part, AreParts, written_all, values, Expands, HasFault};
 ghost use Rattle.sv_expand.specs.Expansion.{expansion_of};
+ghost use Rattle.sv_expand.specs.WordCuts.{HasWords, HasOpenQuote};
+ghost use Rattle.sv_expand.specs.Words.{words_of};
 ghost use Rattle.sv_expand.specs.declared.fault.ExpandFault.{ExpandFault};
 ghost use Rattle.sv_expand.specs.declared.names.Names.{Names};
 
@@ -21,4 +23,14 @@ pub fn each_expansion_has_a_cut()
 /// name has none or with a percent sign that begins no form.
 pub fn each_fault_of_an_expansion_is_the_leftmost()
     ensures { (names : Names) (text : List ℕ) (fault : ExpandFault) → (expansion_of names text ≡ Err fault) ↔ HasFault names text fault }
+{}
+
+/// A law: a text has words exactly where it has a cut into gaps and pieces, and these tell the words.
+pub fn each_list_of_words_has_a_cut()
+    ensures { (text : List ℕ) (words : List (List ℕ)) → (words_of text ≡ Some words) ↔ HasWords text words }
+{}
+
+/// A law: a text has no words exactly where a quote isn't closed or a backslash ends it.
+pub fn each_text_without_words_has_an_open_quote()
+    ensures { (text : List ℕ) → (words_of text ≡ None) ↔ HasOpenQuote text }
 {}

@@ -1,6 +1,7 @@
 ghost use Rattle.std.specs.Prelude.{◌≡◌, IfOk, Some, None, Err};
 ghost use Rattle.std.specs.Str.{chars};
 ghost use Rattle.sv_expand.specs.declared.fault.WordFault.TheVariants.{OpenQuote};
+ghost use Rattle.sv_expand.specs.WordCuts.{HasWords, HasOpenQuote};
 ghost use Rattle.sv_expand.specs.Words.{words_of, after_all, at_start};
 
 use crate::characters::characters_of;
@@ -11,6 +12,15 @@ use sv_base::text::Text;
 
 /// The words of a command. Spaces, tabs and line feeds part them; quotes and a backslash keep such characters.
 pub fn words(alloc: Global, text: &str) -> Result<Vec<Text>, WordFault>
+    ensures words { IfOk result (λ words. words_of text.now ≡ Some words.items) }
+    ensures fault { result ≡ Err OpenQuote → words_of text.now ≡ None }
+    ensures cut { IfOk result (λ words. HasWords text.now words.items) }
+    ensures unclosed { result ≡ Err OpenQuote → HasOpenQuote text.now }
+{
+    read_text(alloc, text)
+}
+
+fn read_text(alloc: Global, text: &str) -> Result<Vec<Text>, WordFault>
     ensures words { IfOk result (λ words. words_of text.now ≡ Some words.items) }
     ensures fault { result ≡ Err OpenQuote → words_of text.now ≡ None }
 {
