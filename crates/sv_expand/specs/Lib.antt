@@ -1,6 +1,7 @@
 pub mod Cuts
 pub mod Expansion
 pub mod Faults
+pub mod PairCuts
 pub mod Pairs
 pub mod Results
 pub mod Values

@@ -2,9 +2,12 @@ ghost use Rattle.std.specs.Prelude.{◌≡◌, ◌↔◌, List, ℕ, Ok, Err, So
 ghost use Rattle.std.specs.Str.{chars};
 ghost use Rattle.sv_expand.specs.Cuts.{Part, AreParts, written_all, values, Expands, HasFault};
 ghost use Rattle.sv_expand.specs.Expansion.{expansion_of};
+ghost use Rattle.sv_expand.specs.PairCuts.{HasPairs, HasBadPair};
+ghost use Rattle.sv_expand.specs.Pairs.{pairs_of};
 ghost use Rattle.sv_expand.specs.WordCuts.{HasWords, HasOpenQuote};
 ghost use Rattle.sv_expand.specs.Words.{words_of};
 ghost use Rattle.sv_expand.specs.declared.fault.ExpandFault.{ExpandFault};
+ghost use Rattle.sv_expand.specs.declared.fault.PairFault.TheVariants.{BadPair};
 ghost use Rattle.sv_expand.specs.declared.names.Names.{Names};
 
 /// A law: where a text is cut into plain characters, `%%` and forms whose names have values, its expansion is their
@@ -33,4 +36,15 @@ pub fn each_list_of_words_has_a_cut()
 /// A law: a text has no words exactly where a quote isn't closed or a backslash ends it.
 pub fn each_text_without_words_has_an_open_quote()
     ensures { (text : List ℕ) → (words_of text ≡ None) ↔ HasOpenQuote text }
+{}
+
+/// A law: a text has pairs exactly where it has a cut into pairs parted by commas, and these tell them.
+pub fn each_list_of_pairs_has_a_cut()
+    ensures { (text : List ℕ) (pairs : List (List ℕ × List ℕ)) → (pairs_of text ≡ Ok pairs) ↔ HasPairs text pairs }
+{}
+
+/// A law: a text has a bad pair at a place exactly where, behind pairs with their commas and behind white space, it goes
+/// on there with no pair.
+pub fn each_bad_pair_is_the_first()
+    ensures { (text : List ℕ) (place : ℕ) → (pairs_of text ≡ Err (BadPair place)) ↔ HasBadPair text place }
 {}
