@@ -8,7 +8,7 @@ use std::process::Abort;
 use sv_base::items::Items;
 use sv_base::text::Text;
 
-/// A text a row, and its words, each ended by a bar, or the fault. In all tables `~` stands for a line feed, `^` for
+/// A text a row, and its words, each ended by `|`, or the fault. In all tables `~` stands for a line feed, `^` for
 /// CR and a backquote for a tab.
 const WORDS: &str = r#" => 
    => 
@@ -72,7 +72,7 @@ a "b => 1 OpenQuote
 a=b,c;d#e => a=b,c;d#e|
 "a"  "b" => a|b|"#;
 
-/// A text a row, and its pairs, each ended by a bar, or the fault.
+/// A text a row, and its pairs, each ended by `|`, or the fault.
 const PAIRS: &str = r#" => 
   ` => 
 A=1 => A=1|
