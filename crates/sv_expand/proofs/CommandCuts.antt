@@ -1,17 +1,17 @@
 -- A text has words exactly where it has a cut into gaps and pieces.
-use Rattle.std.proofs.Common.{◌≡◌, ◌==◌, ◌⊎◌, ℕ, List, [], ◌∷◌, ◌++◌, Bool, true, false, not, ◌&&◌, ◌||◌, refl, ◌∙◌, ap, sym, subst, inl, inr, append_assoc, append-nil}
+use Rattle.std.proofs.Common.{◌≡◌, ◌==◌, ℕ, List, [], ◌∷◌, ◌++◌, true, false, not, ◌&&◌, refl, ◌∙◌, ap, sym, subst, inl, inr, append_assoc, append-nil}
 use Rattle.std.proofs.lemmas.Bool.{and_parts, and_from}
 use Rattle.std.proofs.lemmas.Grind.{flat_map-append}
 use Rattle.std.proofs.lemmas.List.Folds.{list_all-append}
 use Rattle.std.proofs.lemmas.Str.{encodes-append}
 use Rattle.std.specs.Prelude.{Option, Some, None, encode_utf8, encode_utf8_all, if◌then◌else◌}
-use Rattle.std.specs.List.{flat_map, list_all}
+use Rattle.std.specs.List.{flat_map}
 use Rattle.std.specs.Str.{chars}
 use Rattle.sv_expand.proofs.Choices.{cond_by, eq_true, not_true, or_false, neither}
 use Rattle.sv_expand.specs.WordCuts.{Part, Quoted, written, written_all, quoted_written, is_escaped, is_single, is_plain, IsQuoted, AreQuoted, IsPart, AreParts, value, quoted_value, with_piece, told, HasWords, IsOpen, HasOpenQuote}
 use Rattle.sv_expand.specs.WordCuts.Part.{Gap, Plain, Kept, Single, Double}
 use Rattle.sv_expand.specs.WordCuts.Quoted.{Itself, Escaped, Both}
-use Rattle.sv_expand.specs.Words.{Reached, parts_words, moved, with_char, ended, outside, kept_in_quotes, after, after_at, after_all, closed, words_of, at_start}
+use Rattle.sv_expand.specs.Words.{Reached, parts_words, moved, with_char, ended, outside, after, after_at, after_all, closed, words_of, at_start}
 use Rattle.sv_expand.specs.declared.split.Place.{Place}
 use Rattle.sv_expand.specs.declared.split.Place.TheVariants as here
 

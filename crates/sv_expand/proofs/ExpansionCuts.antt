@@ -1,17 +1,16 @@
 -- A text has an expansion exactly where it has a cut into parts with values, and its fault is the leftmost.
-use Rattle.std.proofs.Common.{◌≡◌, ◌≤◌, ◌+◌, ◌-◌, ◌==◌, ◌⊎◌, ℕ, List, [], ◌∷◌, ◌++◌, length, Bool, true, false, cond, refl, ◌∙◌, ap, sym, subst, inl, inr, append_assoc, append-nil, length-append, arith}
-use Rattle.std.proofs.lemmas.Bool.Decides.{nat_tests}
-use Rattle.std.proofs.lemmas.Str.{encodes-append, length-encode, length-le-encodes}
+use Rattle.std.proofs.Common.{◌≡◌, ◌≤◌, ◌+◌, ◌-◌, ◌==◌, ◌⊎◌, ℕ, List, [], ◌∷◌, ◌++◌, length, Bool, true, false, refl, ◌∙◌, ap, sym, subst, inl, inr, append_assoc, append-nil, arith}
+use Rattle.std.proofs.lemmas.Str.{encodes-append, length-le-encodes}
 use Rattle.std.specs.Prelude.{Option, Some, None, Result, Ok, Err, encode_utf8, encode_utf8_all, if◌then◌else◌}
 use Rattle.std.specs.Char.{len_utf8}
 use Rattle.std.specs.Str.{chars}
 use Rattle.sv_expand.proofs.Choices.{choose, cond_by, eq_true}
-use Rattle.sv_expand.proofs.OneExpansion.{reached, gives, kept, Told, part_told, part_unknown, parts_told, joins, one_expansion}
+use Rattle.sv_expand.proofs.OneExpansion.{reached, gives, kept, part_told, part_unknown, parts_told, joins}
 use Rattle.sv_expand.proofs.Sizes.{size, size_append, size_one}
 use Rattle.sv_expand.specs.Cuts.{Part, written, written_all, is_name, IsPart, AreParts, value, joined, values, name_in, Expands, BeginsNone, StandsAt, HasFault, IsLeftmost}
 use Rattle.sv_expand.specs.Cuts.Part.{Plain, Percent, Value, Number, Spaced, Zeroed}
 use Rattle.sv_expand.specs.Results.{and_then}
-use Rattle.sv_expand.specs.Expansion.{Reached, after, after_at, after_all, closed, closed_at, with_value, with_char, with_name, begun, moved, bad_form, behind_percent, behind_name, text_told, number_told, is_width, expansion_of, at_start, IsFault}
+use Rattle.sv_expand.specs.Expansion.{Reached, after, after_at, after_all, closed, with_value, with_char, with_name, begun, moved, bad_form, text_told, number_told, is_width, expansion_of, at_start, IsFault}
 use Rattle.sv_expand.specs.declared.fault.ExpandFault.{ExpandFault}
 use Rattle.sv_expand.specs.declared.fault.ExpandFault.TheVariants.{BadForm, Unknown, OutOfMemory}
 use Rattle.sv_expand.specs.declared.names.Names.{Names}

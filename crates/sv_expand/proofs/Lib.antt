@@ -5,3 +5,6 @@ pub mod OneExpansion
 pub mod PairLists
 pub mod PairsRead
 pub mod Sizes
+pub mod UniquePairs
+pub mod UniqueParts
+pub mod UniqueWords

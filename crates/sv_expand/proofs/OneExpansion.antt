@@ -1,5 +1,5 @@
 -- The joined values of the parts of a text are its expansion.
-use Rattle.std.proofs.Common.{◌≡◌, ◌+◌, ◌-◌, ℕ, List, [], ◌∷◌, ◌++◌, length, Bool, true, false, refl, ◌∙◌, ap, sym, append_assoc, append-nil, length-append, arith}
+use Rattle.std.proofs.Common.{◌≡◌, ◌+◌, ◌-◌, ℕ, List, [], ◌∷◌, ◌++◌, Bool, true, false, refl, ◌∙◌, ap, sym, append_assoc, append-nil, length-append, arith}
 use Rattle.std.proofs.lemmas.Str.{length-encode}
 use Rattle.std.specs.Prelude.{◌==◌, Option, Some, None, Result, Ok, Err, encode_utf8, encode_utf8_all, if◌then◌else◌}
 use Rattle.std.specs.Char.{len_utf8}
@@ -58,7 +58,7 @@ fourth false true c d v w x y z e f g h = cc
 fourth false false true d v w x y z e f g h = cc
 fourth false false false false v w x y z e f g h = cc
 
-no_letter : (c : ℕ) → is_width c ≡ true → ((c == 115) ≡ false) × ((c == 100) ≡ false) × ((c == 48) ≡ false)
+pub no_letter : (c : ℕ) → is_width c ≡ true → ((c == 115) ≡ false) × ((c == 100) ≡ false) × ((c == 48) ≡ false)
 no_letter c e = (grind (arith, nat_tests), grind (arith, nat_tests), grind (arith, nat_tests))
 
 -- behind a form's letter, where its name has this value

@@ -1,22 +1,21 @@
 -- A text has pairs exactly where it has a cut that tells them, and its fault stands at its first bad pair.
-use Rattle.std.proofs.Common.{◌≡◌, ◌≢◌, ◌≤◌, ◌+◌, ◌==◌, ◌⊎◌, ℕ, List, [], ◌∷◌, ◌++◌, length, map, Bool, true, false, not, ◌||◌, refl, ◌∙◌, ap, sym, subst, inl, inr, append_assoc, append-nil, length-append, arith}
+use Rattle.std.proofs.Common.{◌≡◌, ◌≢◌, ◌≤◌, ◌+◌, ◌==◌, ℕ, List, [], ◌∷◌, ◌++◌, length, map, true, false, not, refl, ◌∙◌, ap, sym, subst, append_assoc, append-nil, length-append, arith}
 use Rattle.std.proofs.lemmas.Bool.{and_parts, and_from}
 use Rattle.std.proofs.lemmas.Grind.{flat_map-append}
 use Rattle.std.proofs.lemmas.List.{map-append}
 use Rattle.std.proofs.lemmas.List.Folds.{list_all-append}
-use Rattle.std.proofs.lemmas.Str.{encodes-append, length-encode}
+use Rattle.std.proofs.lemmas.Str.{encodes-append}
 use Rattle.std.specs.Prelude.{Result, Ok, Err, encode_utf8, encode_utf8_all, if◌then◌else◌}
 use Rattle.std.specs.Char.{len_utf8}
-use Rattle.std.specs.List.{flat_map, list_all}
+use Rattle.std.specs.List.{list_all}
 use Rattle.std.specs.Str.{chars}
-use Rattle.sv_expand.proofs.Choices.{choose, cond_by, eq_true, not_true, or_false, or_true, both_ways, neither}
+use Rattle.sv_expand.proofs.Choices.{choose, cond_by, eq_true, both_ways, neither}
 use Rattle.sv_expand.proofs.Sizes.{size, size_append, size_one, size_cons}
-use Rattle.sv_expand.proofs.PairsRead.{Told, reached, gives, goes_on, name_not, white_not, one_more, moved_to, before_any, blank_read, named, IsOver, over_end, over_comma, ValueRead, is_bare, value_read}
+use Rattle.sv_expand.proofs.PairsRead.{Told, reached, gives, goes_on, name_not, white_not, moved_to, before_any, blank_read, named, IsOver, over_end, over_comma, is_bare, value_read}
 use Rattle.sv_expand.specs.PairCuts.{Value, Pair, Last, written, value_written, last_written, listed, is_blank, begins_white, ends_white, IsValue, IsPair, ArePairs, IsLast, told, value_told, last_told, HasPairs, BeginsNoPair, HasBadPair, IsFirstBad}
 use Rattle.sv_expand.specs.PairCuts.Value.{Quoted, Bare}
 use Rattle.sv_expand.specs.PairCuts.Last.{Nothing, One}
-use Rattle.sv_expand.specs.Results.{and_then}
-use Rattle.sv_expand.specs.Pairs.{Reached, is_white, is_name_char, is_quote, at_start, moved, begun, with_name, with_quoted, with_gap, with_bare, ended, in_bare, after, after_at, after_all, closed, pairs_of, IsFault}
+use Rattle.sv_expand.specs.Pairs.{Reached, is_white, is_name_char, is_quote, moved, begun, with_name, with_quoted, with_gap, with_bare, ended, in_bare, after, after_at, closed, pairs_of, IsFault}
 use Rattle.sv_expand.specs.declared.fault.PairFault.{PairFault}
 use Rattle.sv_expand.specs.declared.fault.PairFault.TheVariants.{BadPair, OutOfMemory}
 use Rattle.sv_expand.specs.declared.pairing.Place.{Place}
@@ -166,7 +165,7 @@ bad_later (c ∷ cs) low p at pairs name value gap start place is from e =
     (λ r low_there there. bad_later cs low p (at + len_utf8 c) r.pairs r.name r.value r.gap r.start r.place (omega (arith, is)) low_there there) e
 
 -- white space before a pair is what begins it
-blank_front : (white rest before name more : List ℕ) → is_blank white ≡ true → name ≢ [] → list_all is_name_char name ≡ true
+pub blank_front : (white rest before name more : List ℕ) → is_blank white ≡ true → name ≢ [] → list_all is_name_char name ≡ true
     → white ++ rest ≡ before ++ (name ++ more) → (left : List ℕ) × (before ≡ white ++ left)
 blank_front [] rest before name more blank some is same = (before, refl)
 blank_front (w ∷ white) rest [] [] more blank some is same = absurd (some refl)
@@ -402,7 +401,7 @@ next_bare base before seen at c cs pairs name value gap start place n v was name
     (λ plain. on (ap not (neither (c == 44) (is_quote c) other plain))))
 
 -- white space is neither a comma nor a quote
-blank_bare : (white : List ℕ) → is_blank white ≡ true → list_all is_bare white ≡ true
+pub blank_bare : (white : List ℕ) → is_blank white ≡ true → list_all is_bare white ≡ true
 blank_bare [] is = refl
 blank_bare (c ∷ white) is =
     let both = and_parts (is_white c) (is_blank white) is in

@@ -1,20 +1,18 @@
 -- How pairs are read, and where a bad pair stands.
-use Rattle.std.proofs.Common.{◌≡◌, ◌≢◌, ◌≤◌, ◌+◌, ◌==◌, ◌⊎◌, ℕ, List, [], ◌∷◌, ◌++◌, length, Bool, true, false, not, ◌||◌, refl, ◌∙◌, ap, sym, subst, inl, inr, append_assoc, append-nil, length-append, arith}
+use Rattle.std.proofs.Common.{◌≡◌, ◌≢◌, ◌+◌, ◌==◌, ℕ, List, [], ◌∷◌, ◌++◌, Bool, true, false, not, ◌||◌, refl, ◌∙◌, ap, sym, subst, inl, inr, append_assoc, append-nil, arith}
 use Rattle.std.proofs.lemmas.Bool.{and_parts}
 use Rattle.std.proofs.lemmas.Bool.Decides.{nat_tests}
-use Rattle.std.proofs.lemmas.Str.{length-encode}
 use Rattle.std.specs.Prelude.{Result, Ok, Err, encode_utf8, encode_utf8_all, if◌then◌else◌}
 use Rattle.std.specs.Char.{len_utf8}
 use Rattle.std.specs.List.{list_all}
-use Rattle.sv_expand.proofs.Choices.{choose, cond_by, eq_true, not_true, or_false, or_true, both_ways}
-use Rattle.sv_expand.proofs.Sizes.{size, size_append, size_one, size_cons}
-use Rattle.sv_expand.specs.PairCuts.{Value, Pair, Last, written, value_written, last_written, is_blank, begins_white, ends_white, IsValue, IsPair, IsLast, told, value_told, last_told}
+use Rattle.sv_expand.proofs.Choices.{cond_by, eq_true, not_true, or_false, or_true, both_ways}
+use Rattle.sv_expand.proofs.Sizes.{size, size_append, size_cons}
+use Rattle.sv_expand.specs.PairCuts.{Value, value_written, is_blank, ends_white, IsValue, value_told}
 use Rattle.sv_expand.specs.PairCuts.Value.{Quoted, Bare}
-use Rattle.sv_expand.specs.PairCuts.Last.{Nothing, One}
 use Rattle.sv_expand.specs.Results.{and_then}
 use Rattle.sv_expand.specs.Pairs.{Reached, is_white, is_name_char, is_quote, moved, begun, with_name, with_quoted, with_gap, with_bare, ended, in_bare, after, after_at, after_all, closed}
 use Rattle.sv_expand.specs.declared.fault.PairFault.{PairFault}
-use Rattle.sv_expand.specs.declared.fault.PairFault.TheVariants.{BadPair, OutOfMemory}
+use Rattle.sv_expand.specs.declared.fault.PairFault.TheVariants.{BadPair}
 use Rattle.sv_expand.specs.declared.pairing.Place.{Place}
 use Rattle.sv_expand.specs.declared.pairing.Place.TheVariants as here
 

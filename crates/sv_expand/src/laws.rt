@@ -1,10 +1,10 @@
-ghost use Rattle.std.specs.Prelude.{◌≡◌, ◌↔◌, List, ℕ, Ok, Err, Some, None};
+ghost use Rattle.std.specs.Prelude.{◌≡◌, ◌↔◌, ◌++◌, List, ℕ, Ok, Err, Some, None};
 ghost use Rattle.std.specs.Str.{chars};
 ghost use Rattle.sv_expand.specs.Cuts.{Part, AreParts, written_all, values, Expands, HasFault};
 ghost use Rattle.sv_expand.specs.Expansion.{expansion_of};
-ghost use Rattle.sv_expand.specs.PairCuts.{HasPairs, HasBadPair};
+ghost use Rattle.sv_expand.specs.PairCuts.{HasPairs, HasBadPair, Pair, Last, ArePairs, IsLast, listed, last_written};
 ghost use Rattle.sv_expand.specs.Pairs.{pairs_of};
-ghost use Rattle.sv_expand.specs.WordCuts.{HasWords, HasOpenQuote};
+ghost use Rattle.sv_expand.specs.WordCuts.{HasWords, HasOpenQuote, Part as Piece, AreParts as ArePieces, written_all as pieces_written};
 ghost use Rattle.sv_expand.specs.Words.{words_of};
 ghost use Rattle.sv_expand.specs.declared.fault.ExpandFault.{ExpandFault};
 ghost use Rattle.sv_expand.specs.declared.fault.PairFault.TheVariants.{BadPair};
@@ -47,4 +47,19 @@ pub fn each_list_of_pairs_has_a_cut()
 /// on there with no pair.
 pub fn each_bad_pair_is_the_first()
     ensures { (text : List ℕ) (place : ℕ) → (pairs_of text ≡ Err (BadPair place)) ↔ HasBadPair text place }
+{}
+
+/// A law: a text has one cut into plain characters, `%%` and forms.
+pub fn each_text_has_one_cut_into_parts()
+    ensures { (parts : List Part) (others : List Part) → AreParts parts → AreParts others → written_all parts ≡ written_all others → parts ≡ others }
+{}
+
+/// A law: a text has one cut into gaps and pieces of words.
+pub fn each_text_has_one_cut_into_pieces()
+    ensures { (parts : List Piece) (others : List Piece) → ArePieces parts → ArePieces others → pieces_written parts ≡ pieces_written others → parts ≡ others }
+{}
+
+/// A law: a text has one cut into pairs parted by commas.
+pub fn each_text_has_one_cut_into_pairs()
+    ensures { (front : List Pair) (others : List Pair) (last : Last) (other : Last) → ArePairs front → ArePairs others → IsLast last → IsLast other → listed front ++ last_written last ≡ listed others ++ last_written other → (front ≡ others) × (last ≡ other) }
 {}

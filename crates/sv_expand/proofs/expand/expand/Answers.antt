@@ -1,10 +1,9 @@
-use Rattle.std.proofs.Common.{◌≡◌, List, ℕ}
+use Rattle.std.proofs.Common.{◌≡◌}
 use Rattle.std.specs.Prelude.{Ok}
 use Rattle.sv_expand.proofs.Choices.{if_ok, if_err}
 use Rattle.sv_expand.proofs.ExpansionCuts.{expansion_cut, leftmost}
 use Rattle.sv_expand.specs.Cuts.{Expands, IsLeftmost}
 use Rattle.sv_expand.specs.Expansion.{expansion_of, IsFault}
-use Rattle.sv_expand.specs.declared.fault.ExpandFault.{ExpandFault}
 use Rattle.sv_expand.proofs.expand.expand.Goals as goal
 
 pub returns-clause-cut : goal.returns-clause-cut
