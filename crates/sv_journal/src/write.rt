@@ -6,6 +6,7 @@ ghost use Rattle.sv_journal.specs.JournalLine.{how_words, input_line, then_token
 
 use crate::token::stands_for_itself;
 use std::alloc::{AllocError, Global};
+use sv_base::moment::Moment;
 use sv_base::signal::Signal;
 use sv_base::state::{How, State};
 use sv_base::text::Text;
@@ -35,30 +36,23 @@ fn put_input(line: &mut String, input: &Input) -> Result<(), AllocError>
     ensures { OnOk result (string_bytes line.new ≡ string_bytes line.old ++ input_line input.now) }
 {
     match input {
-        Input::Tick { at } => {
-            put_number(line, at.milliseconds())?;
-            line.push_str(" tick")
-        }
+        Input::Tick { at } => put_at(line, *at, " tick"),
         Input::Exit { at, run, how } => {
-            put_number(line, at.milliseconds())?;
-            line.push_str(" exit ")?;
+            put_at(line, *at, " exit ")?;
             put_number(line, u64::from(run.0))?;
             line.push_str(" ")?;
             put_how(line, *how)
         }
         Input::Start { at, name } => {
-            put_number(line, at.milliseconds())?;
-            line.push_str(" start ")?;
+            put_at(line, *at, " start ")?;
             put_token(line, name.as_str().as_bytes())
         }
         Input::Stop { at, name } => {
-            put_number(line, at.milliseconds())?;
-            line.push_str(" stop ")?;
+            put_at(line, *at, " stop ")?;
             put_token(line, name.as_str().as_bytes())
         }
         Input::Signal { at, signal } => {
-            put_number(line, at.milliseconds())?;
-            line.push_str(" signal ")?;
+            put_at(line, *at, " signal ")?;
             line.push_str(signal.get().name())
         }
         Input::Pid(pid) => {
@@ -76,6 +70,15 @@ fn put_input(line: &mut String, input: &Input) -> Result<(), AllocError>
             put_number(line, *number)
         }
     }
+}
+
+/// Adds a moment and what happened then.
+#[tactic(auto, using(crate::proofs::Lists::joined))]
+fn put_at(line: &mut String, at: Moment, verb: &str) -> Result<(), AllocError>
+    ensures { OnOk result (string_bytes line.new ≡ string_bytes line.old ++ (decimal at ++ verb.now)) }
+{
+    put_number(line, at.milliseconds())?;
+    line.push_str(verb)
 }
 
 #[tactic(auto, using(crate::proofs::Lists::joined))]
