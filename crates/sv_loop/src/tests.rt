@@ -272,6 +272,7 @@ fn sink(rt: &impl Abort, alloc: Global, failing: u64) -> ListSink {
     ListSink::new(alloc, 1_000_000, calls)
 }
 
+/// The replay of a journal ends with its status and writes what it should, read in pieces of so many bytes.
 pub(crate) fn play(rt: &impl Abort, alloc: Global, case: &Case, most: usize) {
     let words = words(rt, alloc, "run");
     let mut source = source(rt, alloc, case.journal.as_bytes(), most, 0);
