@@ -1,0 +1,11 @@
+pub mod Lengths
+pub mod Heads
+pub mod Replies
+pub mod Rulings
+pub mod Texts
+pub mod Streams
+pub mod Advances
+pub mod Steps
+pub mod HeadReading
+pub mod AskReading
+pub mod Credentials

@@ -1,0 +1,98 @@
+-- How far a reader has come: what it keeps of the undecided bytes, and what it stands for.
+use Rattle.std.specs.Prelude.{◌≡◌, ◌⊎◌, ◌<◌, ◌+◌, ◌==◌, ℕ, List, [], ◌∷◌, ◌++◌, Option, None, Some, Bool, true, length, option_map, nat_lt, if◌then◌else◌}
+use Rattle.sv_http.specs.AskTable.{Judged}
+use Rattle.sv_http.specs.RequestStream.{AreAsks, IsHead, head_length, head_limit, is_begun}
+use Rattle.sv_http.specs.declared.ask.Ask.{Ask}
+use Rattle.sv_http.specs.declared.guard.Guard.{Guard}
+use Rattle.sv_http.specs.declared.head.Ruling.{Ruling}
+use Rattle.sv_http.specs.declared.head.Ruling.TheVariants.{Refused, Takes}
+use Rattle.sv_http.specs.declared.ask.Ask.TheVariants.{Call, Bad}
+use Rattle.sv_http.specs.declared.status.Refusal.{Refusal}
+use Rattle.sv_http.specs.declared.status.Refusal.TheVariants.{HeadTooLarge}
+use Rattle.sv_http.specs.declared.line.Line.{Line}
+use Rattle.sv_http.specs.declared.line.Line.TheVariants as line
+use Rattle.sv_http.specs.declared.reader.HttpReader.{HttpReader}
+use Rattle.sv_http.specs.declared.reader.Place.{Place}
+use Rattle.sv_http.specs.declared.reader.Place.TheVariants as place
+
+-- the last bytes of a head, which an empty line may still begin with
+abbrev pub pending : Line → List ℕ
+pending line.Text = []
+pending line.Feed = 10 ∷ []
+pending line.FeedReturn = 10 ∷ 13 ∷ []
+
+-- what a further byte of the head makes of it; None behind the empty line
+abbrev pub after : Line → ℕ → Option Line
+after line.Text byte = if byte == 10 then Some line.Feed else Some line.Text
+after line.Feed byte = if byte == 10 then None else if byte == 13 then Some line.FeedReturn else Some line.Text
+after line.FeedReturn byte = if byte == 10 then None else Some line.Text
+
+-- these bytes have no empty line, and whatever comes, the first one is that of the pending bytes and what comes
+abbrev pub IsSearched : List ℕ → Line → Type 0
+IsSearched bytes at =
+    (before : List ℕ) × (bytes ≡ before ++ pending at)
+    × ((more : List ℕ) → head_length (bytes ++ more) ≡ option_map (λ size. length before + size) (head_length (pending at ++ more)))
+
+-- the first empty line ends these bytes
+abbrev pub IsFound : List ℕ → Type 0
+IsFound bytes = (more : List ℕ) → head_length (bytes ++ more) ≡ Some (length bytes)
+
+-- whatever comes, the asks of what is kept and what comes are the next of the stream
+abbrev pub GoesOn : Guard → List ℕ → List ℕ → List Ask → Type 0
+GoesOn guard kept stream asks =
+    (more : List ℕ) (later : List Ask) → AreAsks guard (kept ++ more) later → AreAsks guard (stream ++ more) (asks ++ later)
+
+-- what a place and the bytes that are kept stand for
+abbrev pub Stands : Guard → Place → List ℕ → List ℕ → List ℕ → List Ask → Type 0
+Stands guard (place.Head at) head body stream asks =
+    IsSearched head at × ((head ≡ []) ⊎ (is_begun head ≡ true)) × (length head < head_limit) × (body ≡ []) × GoesOn guard head stream asks
+Stands guard (place.Body size close) head body stream asks =
+    (whole : List ℕ) × (is_begun whole ≡ true) × IsHead whole × Judged guard whole (Takes size close) × (length body < size)
+    × (head ≡ []) × GoesOn guard (whole ++ body) stream asks
+Stands guard place.Over head body stream asks = (more : List ℕ) → AreAsks guard (stream ++ more) asks
+Stands guard place.Broken head body stream asks = ⊥
+
+-- the reader stands for a stream of which these are the asks
+abbrev pub StandsFor : HttpReader → List ℕ → List Ask → Type 0
+StandsFor reader stream asks = Stands reader.guard reader.place reader.head.items reader.body.items stream asks
+
+-- what a reader keeps, and the asks of the piece in hand
+pub record Reading : Type 0 where
+  pub place : Place
+  pub head : List ℕ
+  pub body : List ℕ
+  pub asks : List Ask
+
+abbrev pub reads : Place → List ℕ → List ℕ → List Ask → Reading
+reads at head body asks = record { place = at; head = head; body = body; asks = asks }
+
+abbrev pub shown : HttpReader → List Ask → Reading
+shown reader asks = reads reader.place reader.head.items reader.body.items asks
+
+-- whatever was stood for, these bytes now follow it
+abbrev pub Advances : Guard → Reading → List ℕ → Reading → Type 0
+Advances guard from bytes to =
+    (stream : List ℕ) (earlier : List Ask)
+    → Stands guard from.place from.head from.body stream (earlier ++ from.asks)
+    → Stands guard to.place to.head to.body (stream ++ bytes) (earlier ++ to.asks)
+
+-- what is refused ends the stream
+abbrev pub refused : Refusal → List ℕ → List ℕ → List Ask → Reading
+refused refusal head body asks = reads place.Over head body (asks ++ Bad refusal ∷ [])
+
+-- a head that isn't whole goes on, or is too long
+abbrev pub goes_on : Line → List ℕ → List ℕ → List Ask → Reading
+goes_on to head body asks =
+    if nat_lt (length head) head_limit then reads (place.Head to) head body asks else refused HeadTooLarge head body asks
+
+-- a call is whole
+abbrev pub called : Bool → List ℕ → List ℕ → List Ask → Reading
+called close head body asks = reads (place.Head line.Text) head [] (asks ++ Call body close ∷ [])
+
+abbrev pub after_ruling : Ruling → List ℕ → List ℕ → List Ask → Reading
+after_ruling (Refused refusal) head body asks = refused refusal head body asks
+after_ruling (Takes size close) head body asks = if size == 0 then called close [] [] asks else reads (place.Body size close) [] [] asks
+
+-- a whole head is judged
+abbrev pub EndsHead : Guard → List ℕ → List ℕ → List Ask → Reading → Type 0
+EndsHead guard head body asks to = (judged : Ruling) × Judged guard head judged × (to ≡ after_ruling judged head body asks)
