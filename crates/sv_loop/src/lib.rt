@@ -2,12 +2,12 @@
 #![tactic(auto)]
 
 mod judge;
+#[cfg(test)]
+mod order_tests;
 mod orders;
 pub mod replay;
 mod run;
 mod short;
-#[cfg(test)]
-mod order_tests;
 #[cfg(test)]
 mod shutdown_tests;
 #[cfg(test)]
