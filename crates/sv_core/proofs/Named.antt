@@ -1,13 +1,11 @@
 -- Which orders can still be named as failed, from one input to the next.
 use Rattle.std.proofs.Common.{◌≡◌, ℕ, List, [], ◌∷◌, ◌++◌, Option, Some, None, Bool, true, false, ◌&&◌, length, drop, refl, sym, ap, ◌∙◌, ◌+◌, ◌-◌, ◌≤◌, ◌%◌, ◌^◌, arith}
 use Rattle.std.specs.Prelude.{map, nat_lt}
-use Rattle.std.specs.List.{list_all}
 use Rattle.std.proofs.Math.Nat.{mod-add-mod}
 use Rattle.std.proofs.Math.Seq.{drop-append_seam}
 use Rattle.std.proofs.lemmas.List.{drop-append-le, length-append, length-drop, length-map, map-append}
 use Rattle.sv_core.specs.Failure.{failure_of}
 use Rattle.sv_core.specs.StandsFor.{Names, is_above}
-use Rattle.sv_core.specs.declared.failure.Failure.{Failure}
 use Rattle.sv_core.specs.declared.numbers.Numbers.{Numbers}
 use Rattle.sv_out.specs.declared.order.Order.{Order}
 

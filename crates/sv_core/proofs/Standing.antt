@@ -1,10 +1,10 @@
 -- The machine and the state that it stands for go on together.
-use Rattle.std.proofs.Common.{◌≡◌, ℕ, List, [], ◌∷◌, ◌++◌, Option, Some, None, Bool, true, false, ◌&&◌, length, drop, refl, sym, ap, ◌∙◌, append-nil, ◌-◌, ◌+◌, ◌≤◌, arith}
-use Rattle.std.specs.Prelude.{is_some, map, nat_lt, not, slice_get}
+use Rattle.std.proofs.Common.{◌≡◌, ℕ, List, [], ◌∷◌, ◌++◌, Option, Some, None, Bool, true, false, ◌&&◌, length, refl, sym, ap, ◌∙◌, append-nil, ◌-◌}
+use Rattle.std.specs.Prelude.{is_some, nat_lt, not}
 use Rattle.std.specs.List.{list_all}
 use Rattle.std.proofs.Math.Seq.{drop-append_seam}
 use Rattle.sv_core.proofs.Named.{names_fresh, names_failed}
-use Rattle.sv_core.specs.Failure.{behind, can_fail, failure_of, replies_of}
+use Rattle.sv_core.specs.Failure.{can_fail, replies_of}
 use Rattle.sv_core.specs.MachineState.{Model, can_be_named, failure_named, hand, is_accepted, now, accepts, next, next_part, orders, turn_of}
 use Rattle.sv_core.specs.Parts.{part_of}
 use Rattle.sv_core.specs.StandsFor.{StandsFor, Takes, Names, Notes, can_name, failure_kept, is_above, rest, swept, shown, turn_after, is_fitting}
@@ -12,7 +12,6 @@ use Rattle.sv_core.specs.Sweeps.{Turn, asks, sweeps}
 use Rattle.sv_core.specs.Turn.{applies, come, came, passes, turn, rewinds, after_sweep, world_of, is_asking}
 use Rattle.sv_core.specs.Moves.{answered}
 use Rattle.sv_core.specs.World.{World}
-use Rattle.sv_core.specs.declared.failure.Failure.{Failure}
 use Rattle.sv_core.specs.declared.machine.Machine.{Machine}
 use Rattle.sv_core.specs.declared.numbers.Numbers.{Numbers}
 use Rattle.sv_core.specs.declared.part.Cause.{Cause}

@@ -1,5 +1,5 @@
 -- Stops and the stop plan, on the world that the machine's fields show.
-use Rattle.std.proofs.Common.{◌≡◌, ℕ, suc, ◌-◌, ◌<◌, List, ◌++◌, Option, Some, Bool, true, false, arith, refl, sym, ap, ◌∙◌}
+use Rattle.std.proofs.Common.{◌≡◌, ℕ, suc, ◌-◌, ◌<◌, List, ◌++◌, Some, true, false, arith, refl, sym, ap, ◌∙◌}
 use Rattle.std.specs.List.{slice_get, slice_set}
 use Rattle.sv_child.specs.ChildTable.{happens}
 use Rattle.sv_child.specs.ChildTable.Stimulus.{Stop as Is_to_stop}

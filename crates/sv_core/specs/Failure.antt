@@ -1,5 +1,5 @@
 -- What it means that an order couldn't be carried out.
-use Rattle.std.specs.Prelude.{ℕ, List, [], ◌∷◌, Option, Some, None, Bool, true, false, ◌+◌, ◌-◌, ◌^◌, ◌%◌, codes}
+use Rattle.std.specs.Prelude.{ℕ, List, [], ◌∷◌, Option, Some, Bool, true, false, ◌+◌, ◌-◌, ◌^◌, ◌%◌, codes}
 use Rattle.sv_core.specs.declared.failure.Failure.{Failure}
 use Rattle.sv_core.specs.declared.failure.Failure.TheVariants.{NeverFails, ChangesNothing, RefusesSpawn}
 use Rattle.sv_core.specs.declared.part.Reply.{Reply}

@@ -1,5 +1,5 @@
 -- What becomes of one child in a turn, and which orders that gives (the manual's chapter on subprocesses).
-use Rattle.std.specs.Prelude.{ℕ, List, [], ◌∷◌, ◌++◌, Option, Some, None, Bool, ◌+◌, map, codes, slice_get, slice_set}
+use Rattle.std.specs.Prelude.{ℕ, List, [], ◌∷◌, ◌++◌, Option, Some, None, Bool, ◌+◌, codes, slice_get, slice_set}
 use Rattle.sv_base.specs.declared.ids.Run.{Run}
 use Rattle.sv_base.specs.declared.signal.Signal.{Signal}
 use Rattle.sv_base.specs.declared.spec.Spec.{Spec}

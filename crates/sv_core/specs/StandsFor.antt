@@ -1,5 +1,5 @@
 -- What the machine keeps, and which state of the model it stands for.
-use Rattle.std.specs.Prelude.{◌≡◌, ◌≤◌, ℕ, List, [], ◌∷◌, ◌++◌, Option, Some, None, Bool, true, false, not, ◌&&◌, is_some, nat_lt, length, drop, map, slice_get, ◌-◌, ◌+◌, ◌^◌, ◌%◌}
+use Rattle.std.specs.Prelude.{◌≡◌, ◌≤◌, ℕ, List, [], ◌++◌, Option, Some, None, Bool, true, false, not, ◌&&◌, is_some, nat_lt, length, drop, map, slice_get, ◌-◌, ◌+◌, ◌^◌, ◌%◌}
 use Rattle.std.specs.List.{list_all}
 use Rattle.sv_core.specs.Failure.{behind, can_fail, failure_of, replies_of}
 use Rattle.sv_core.specs.MachineState.{Model, hand, is_accepted}

@@ -1,5 +1,5 @@
 -- Stopping children: all that are meant, from the last of the start order to the first.
-use Rattle.std.specs.Prelude.{ℕ, zero, suc, List, Option, Some, None, length, slice_get, if◌then◌else◌}
+use Rattle.std.specs.Prelude.{ℕ, zero, suc, Option, Some, None, length, slice_get, if◌then◌else◌}
 use Rattle.sv_child.specs.ChildTable.Stimulus.{Stop as Is_to_stop}
 use Rattle.sv_child.specs.declared.step.ChildDeed.{ChildDeed}
 use Rattle.sv_child.specs.declared.step.ChildDeed.TheVariants.{Spawn, Kill}

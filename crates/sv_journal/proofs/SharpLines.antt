@@ -20,7 +20,6 @@ use Rattle.sv_journal.specs.declared.words.Ending.{Ending}
 use Rattle.sv_journal.specs.declared.words.Ending.TheVariants as ending_is
 use Rattle.sv_journal.specs.declared.words.Answer.{Answer}
 use Rattle.sv_journal.specs.declared.words.Answer.TheVariants as answer_is
-use Rattle.sv_journal.specs.declared.words.Told.{Told}
 use Rattle.sv_journal.specs.declared.words.Told.TheVariants as told_is
 use Rattle.sv_journal.specs.declared.words.Opening.{Opening}
 use Rattle.sv_journal.specs.declared.words.Opening.TheVariants as opening_is

@@ -1,7 +1,6 @@
 use Rattle.std.proofs.Common.{◌≡◌, arith, rules, sym, false, ap, ◌∙◌, refl}
 use Rattle.sv_child.specs.Moves.{is_running}
 use Rattle.sv_core.proofs.Stopped.{plan_next, plan_waits}
-use Rattle.sv_core.specs.Shutdown.{drops_group}
 use Rattle.sv_core.specs.StandsFor.{shown}
 use Rattle.sv_core.specs.declared.machine.Machine.{Machine}
 use Rattle.sv_core.proofs.machine.Machine.follow_plan.Goals as goal
