@@ -30,8 +30,13 @@ fn main(rt: HostRuntime) -> io::Result<()> {
 /// A host with an environment as a daemon has it.
 fn host(alloc: Global) -> Result<Host, AllocError> {
     let mut environment = Items::new(alloc);
-    for name in ["HOME", "LANG", "LOGNAME", "PATH", "PWD", "SHELL", "TERM", "TZ", "USER"] {
-        environment.push((Text::fixed(name), Text::fixed("/usr/local/sbin:/usr/local/bin")))?;
+    for name in [
+        "HOME", "LANG", "LOGNAME", "PATH", "PWD", "SHELL", "TERM", "TZ", "USER",
+    ] {
+        environment.push((
+            Text::fixed(name),
+            Text::fixed("/usr/local/sbin:/usr/local/bin"),
+        ))?;
     }
     Ok(Host {
         name: Text::fixed("box"),

@@ -1,0 +1,848 @@
+-- What is read around the values of a call or a reply is what the reading byte by byte goes on with.
+use Rattle.std.proofs.Common.{◌≡◌, ℕ, suc, Bool, true, false, ◌&&◌, eqb, ltb, List, [], ◌∷◌, length, Result, Ok, Err, Option, Some, None, inl, inr, refl, sym, ap, ◌∙◌, subst}
+use Rattle.std.proofs.lemmas.Bool.{cases_Bool}
+use Rattle.sv_xmlcall.specs.Trees.{Tree, Trees, no_tree, Reply, Returns}
+use Rattle.sv_xmlcall.specs.Spelled.{Spelled, ACall, AReply, is_white, fault_of}
+use Rattle.sv_xmlcall.specs.Characters.{allows, after}
+use Rattle.sv_xmlcall.specs.Tags.{tag_at}
+use Rattle.sv_xmlcall.specs.Atoms.{tag_behind, close_at, close_behind, closing_at}
+use Rattle.sv_xmlcall.specs.Reading.{◌>>=◌, text_at, shut_at, name_at, method_at, prolog_from}
+use Rattle.sv_xmlcall.specs.Documents.{document_of, document_at, head_at, ended_by, begun_of, begun_at, param_of, param_at, answer_of, answer_at, param_end_at, fault_end_at, end_at, value_end_at, faulty_at, Comes}
+use Rattle.sv_xmlcall.specs.Answers.{FaultIs, faulted, ReadsParams, ReadsFurther}
+use Rattle.sv_xmlcall.specs.Machine.{the_limits, Document, OfCall, OfReply, Frame, InParam, InReply, InFault, InMethod, Verdict, Read, NotRead, TooMany, Place, AtStart, AtDeclared, AtMethod, AtCalled, AtParams, AtParamEnd, AtParamsEnd, AtResponse, AtReplyParam, AtReplyParamEnd, AtReplyParamsEnd, AtFaultEnd, AtResponseEnd, AtDone, AtValue, AtTextEnd, At, Chars, Prolog, Stuck, at, begin_of, enter, leave, after_value, after_fault, run, start, on_step, unless_many}
+use Rattle.sv_xmlcall.specs.Running.{Halts, Closes}
+use Rattle.sv_xmlcall.specs.Outcome.{Stops, Gives}
+use Rattle.sv_xmlcall.specs.declared.letters.Letters.TheVariants.{Any}
+use Rattle.sv_xmlcall.specs.declared.letters.Awaits.{Awaits}
+use Rattle.sv_xmlcall.specs.declared.letters.Awaits.TheVariants.{Character}
+use Rattle.sv_xmlcall.specs.declared.tag.Tag.{Tag}
+use Rattle.sv_xmlcall.specs.declared.tag.Tag.TheVariants as tag
+use Rattle.sv_xmlcall.specs.declared.stop.Stop.{Stop}
+use Rattle.sv_xmlcall.specs.declared.stop.Stop.TheVariants as stop
+use Rattle.sv_xmlcall.proofs.Words.{follow}
+use Rattle.sv_xmlcall.proofs.Runs.{run_at, run_close, run_closing, run_shut, left_by}
+use Rattle.sv_xmlcall.proofs.TextLaws.{at_text_end, run_text}
+use Rattle.sv_xmlcall.proofs.StageLaws.{closes_text, shut_text, behind_content}
+
+many_is : (left opened size : ℕ) (verdict : Verdict) → ltb 65536 opened ≡ true → verdict ≡ unless_many the_limits opened (NotRead left) → FaultIs (faulted (stop.At left) opened size) size verdict
+many_is left opened size verdict e h = rw e (let g : verdict ≡ TooMany = rw e at h in g)
+
+place_is : (left opened size : ℕ) (verdict : Verdict) → ltb 65536 opened ≡ false → verdict ≡ unless_many the_limits opened (NotRead left) → FaultIs (faulted (stop.At left) opened size) size verdict
+place_is left opened size verdict e h = rw e (let g : verdict ≡ NotRead left = rw e at h in (left, (g, refl)))
+
+-- where a text stops, as a fault
+pub fault_is : (stop : Stop) (opened size : ℕ) (verdict : Verdict) → Halts stop opened verdict → FaultIs (faulted stop opened size) size verdict
+fault_is (stop.At left) opened size verdict h = elim (cases_Bool (ltb 65536 opened)) [
+  | inl e ↦ many_is left opened size verdict e h
+  | inr e ↦ place_is left opened size verdict e h
+]
+fault_is stop.TooDeep opened size verdict h = h
+fault_is stop.OutOfMemory opened size verdict h = tt
+
+abbrev on_prolog : Document → Result (List ℕ) ℕ → Verdict
+on_prolog document (Ok rest) = run the_limits (at (At (AtDeclared document)) [] 0) rest
+on_prolog document (Err left) = unless_many the_limits 0 (NotRead left)
+
+run_prolog : (document : Document) (question : Bool) (awaits : Awaits) (bs : List ℕ)
+    → run the_limits (at (Prolog document question awaits) [] 0) bs ≡ on_prolog document (prolog_from question awaits bs)
+run_prolog document question awaits [] = refl
+run_prolog document question awaits (b ∷ bs) = elim (cases_Bool (question && eqb b 62)) [
+  | inl e ↦ rw e refl
+  | inr e ↦ elim (cases_Bool (allows Any awaits b)) [
+    | inl f ↦ rw (e, f) (run_prolog document (eqb b 63) (after Any awaits b) bs)
+    | inr f ↦ rw (e, f) refl
+  ]
+]
+
+abbrev inside : Document → Place
+inside OfCall = AtMethod
+inside OfReply = AtResponse
+
+abbrev pub on_document : Document → Result (List ℕ) ℕ → Verdict
+on_document document (Ok rest) = run the_limits (at (At (inside document)) [] 0) rest
+on_document document (Err left) = unless_many the_limits 0 (NotRead left)
+
+abbrev Behind : Place → Tag → ℕ → List ℕ → Verdict
+Behind place t count rest =
+    on_step (enter the_limits place t [] count) (λ s. run the_limits s rest) (unless_many the_limits count (NotRead (suc (length rest))))
+
+declared_call : (t : Tag) (rest : List ℕ) → Behind (AtDeclared OfCall) t 0 rest ≡ on_document OfCall (Ok rest)
+declared_call tag.Declaration rest = refl
+declared_call tag.MethodCall rest = refl
+declared_call tag.MethodName rest = refl
+declared_call tag.MethodResponse rest = refl
+declared_call tag.Params rest = refl
+declared_call tag.NoParams rest = refl
+declared_call tag.Param rest = refl
+declared_call tag.Fault rest = refl
+declared_call tag.Value rest = refl
+declared_call tag.NoValue rest = refl
+declared_call tag.I4 rest = refl
+declared_call tag.Int rest = refl
+declared_call tag.Boolean rest = refl
+declared_call tag.String rest = refl
+declared_call tag.NoString rest = refl
+declared_call tag.Double rest = refl
+declared_call tag.DateTime rest = refl
+declared_call tag.Base64 rest = refl
+declared_call tag.Struct rest = refl
+declared_call tag.NoMembers rest = refl
+declared_call tag.Member rest = refl
+declared_call tag.Name rest = refl
+declared_call tag.Array rest = refl
+declared_call tag.Data rest = refl
+declared_call tag.NoData rest = refl
+declared_call tag.EndMethodCall rest = refl
+declared_call tag.EndMethodName rest = refl
+declared_call tag.EndMethodResponse rest = refl
+declared_call tag.EndParams rest = refl
+declared_call tag.EndParam rest = refl
+declared_call tag.EndFault rest = refl
+declared_call tag.EndValue rest = refl
+declared_call tag.EndI4 rest = refl
+declared_call tag.EndInt rest = refl
+declared_call tag.EndBoolean rest = refl
+declared_call tag.EndString rest = refl
+declared_call tag.EndDouble rest = refl
+declared_call tag.EndDateTime rest = refl
+declared_call tag.EndBase64 rest = refl
+declared_call tag.EndStruct rest = refl
+declared_call tag.EndMember rest = refl
+declared_call tag.EndName rest = refl
+declared_call tag.EndArray rest = refl
+declared_call tag.EndData rest = refl
+declared_call tag.Ampersand rest = refl
+declared_call tag.Less rest = refl
+declared_call tag.Greater rest = refl
+declared_call tag.Quote rest = refl
+declared_call tag.Apostrophe rest = refl
+declared_call tag.Numbered rest = refl
+
+declared_follows_call : (r : Result (Tag × List ℕ) ℕ) → follow the_limits (AtDeclared OfCall) [] 0 r ≡ on_document OfCall (r >>= (λ r. Ok r.1))
+declared_follows_call (Ok r) = declared_call r.0 r.1
+declared_follows_call (Err left) = refl
+
+prolog_follows_call : (r : Result (List ℕ) ℕ) → on_prolog OfCall r ≡ on_document OfCall (r >>= (λ rest. tag_behind (begin_of OfCall ∷ []) rest >>= (λ r. Ok r.1)))
+prolog_follows_call (Ok rest) = run_at (AtDeclared OfCall) [] 0 rest tt ∙ declared_follows_call (tag_behind (begin_of OfCall ∷ []) rest)
+prolog_follows_call (Err left) = refl
+
+start_call : (t : Tag) (rest : List ℕ) → Behind (AtStart OfCall) t 0 rest ≡ on_document OfCall (document_of (begin_of OfCall) t rest)
+start_call tag.Declaration rest = run_prolog OfCall false Character rest ∙ prolog_follows_call (prolog_from false Character rest)
+start_call tag.MethodCall rest = refl
+start_call tag.MethodName rest = refl
+start_call tag.MethodResponse rest = refl
+start_call tag.Params rest = refl
+start_call tag.NoParams rest = refl
+start_call tag.Param rest = refl
+start_call tag.Fault rest = refl
+start_call tag.Value rest = refl
+start_call tag.NoValue rest = refl
+start_call tag.I4 rest = refl
+start_call tag.Int rest = refl
+start_call tag.Boolean rest = refl
+start_call tag.String rest = refl
+start_call tag.NoString rest = refl
+start_call tag.Double rest = refl
+start_call tag.DateTime rest = refl
+start_call tag.Base64 rest = refl
+start_call tag.Struct rest = refl
+start_call tag.NoMembers rest = refl
+start_call tag.Member rest = refl
+start_call tag.Name rest = refl
+start_call tag.Array rest = refl
+start_call tag.Data rest = refl
+start_call tag.NoData rest = refl
+start_call tag.EndMethodCall rest = refl
+start_call tag.EndMethodName rest = refl
+start_call tag.EndMethodResponse rest = refl
+start_call tag.EndParams rest = refl
+start_call tag.EndParam rest = refl
+start_call tag.EndFault rest = refl
+start_call tag.EndValue rest = refl
+start_call tag.EndI4 rest = refl
+start_call tag.EndInt rest = refl
+start_call tag.EndBoolean rest = refl
+start_call tag.EndString rest = refl
+start_call tag.EndDouble rest = refl
+start_call tag.EndDateTime rest = refl
+start_call tag.EndBase64 rest = refl
+start_call tag.EndStruct rest = refl
+start_call tag.EndMember rest = refl
+start_call tag.EndName rest = refl
+start_call tag.EndArray rest = refl
+start_call tag.EndData rest = refl
+start_call tag.Ampersand rest = refl
+start_call tag.Less rest = refl
+start_call tag.Greater rest = refl
+start_call tag.Quote rest = refl
+start_call tag.Apostrophe rest = refl
+start_call tag.Numbered rest = refl
+
+start_follows_call : (r : Result (Tag × List ℕ) ℕ) → follow the_limits (AtStart OfCall) [] 0 r ≡ on_document OfCall (r >>= (λ r. document_of (begin_of OfCall) r.0 r.1))
+start_follows_call (Ok r) = start_call r.0 r.1
+start_follows_call (Err left) = refl
+
+run_document_call : (bs : List ℕ) → run the_limits (start OfCall) bs ≡ on_document OfCall (document_at (begin_of OfCall) bs)
+unfolding document_at
+run_document_call bs = run_at (AtStart OfCall) [] 0 bs tt ∙ start_follows_call (tag_behind (tag.Declaration ∷ begin_of OfCall ∷ []) bs)
+
+declared_reply : (t : Tag) (rest : List ℕ) → Behind (AtDeclared OfReply) t 0 rest ≡ on_document OfReply (Ok rest)
+declared_reply tag.Declaration rest = refl
+declared_reply tag.MethodCall rest = refl
+declared_reply tag.MethodName rest = refl
+declared_reply tag.MethodResponse rest = refl
+declared_reply tag.Params rest = refl
+declared_reply tag.NoParams rest = refl
+declared_reply tag.Param rest = refl
+declared_reply tag.Fault rest = refl
+declared_reply tag.Value rest = refl
+declared_reply tag.NoValue rest = refl
+declared_reply tag.I4 rest = refl
+declared_reply tag.Int rest = refl
+declared_reply tag.Boolean rest = refl
+declared_reply tag.String rest = refl
+declared_reply tag.NoString rest = refl
+declared_reply tag.Double rest = refl
+declared_reply tag.DateTime rest = refl
+declared_reply tag.Base64 rest = refl
+declared_reply tag.Struct rest = refl
+declared_reply tag.NoMembers rest = refl
+declared_reply tag.Member rest = refl
+declared_reply tag.Name rest = refl
+declared_reply tag.Array rest = refl
+declared_reply tag.Data rest = refl
+declared_reply tag.NoData rest = refl
+declared_reply tag.EndMethodCall rest = refl
+declared_reply tag.EndMethodName rest = refl
+declared_reply tag.EndMethodResponse rest = refl
+declared_reply tag.EndParams rest = refl
+declared_reply tag.EndParam rest = refl
+declared_reply tag.EndFault rest = refl
+declared_reply tag.EndValue rest = refl
+declared_reply tag.EndI4 rest = refl
+declared_reply tag.EndInt rest = refl
+declared_reply tag.EndBoolean rest = refl
+declared_reply tag.EndString rest = refl
+declared_reply tag.EndDouble rest = refl
+declared_reply tag.EndDateTime rest = refl
+declared_reply tag.EndBase64 rest = refl
+declared_reply tag.EndStruct rest = refl
+declared_reply tag.EndMember rest = refl
+declared_reply tag.EndName rest = refl
+declared_reply tag.EndArray rest = refl
+declared_reply tag.EndData rest = refl
+declared_reply tag.Ampersand rest = refl
+declared_reply tag.Less rest = refl
+declared_reply tag.Greater rest = refl
+declared_reply tag.Quote rest = refl
+declared_reply tag.Apostrophe rest = refl
+declared_reply tag.Numbered rest = refl
+
+declared_follows_reply : (r : Result (Tag × List ℕ) ℕ) → follow the_limits (AtDeclared OfReply) [] 0 r ≡ on_document OfReply (r >>= (λ r. Ok r.1))
+declared_follows_reply (Ok r) = declared_reply r.0 r.1
+declared_follows_reply (Err left) = refl
+
+prolog_follows_reply : (r : Result (List ℕ) ℕ) → on_prolog OfReply r ≡ on_document OfReply (r >>= (λ rest. tag_behind (begin_of OfReply ∷ []) rest >>= (λ r. Ok r.1)))
+prolog_follows_reply (Ok rest) = run_at (AtDeclared OfReply) [] 0 rest tt ∙ declared_follows_reply (tag_behind (begin_of OfReply ∷ []) rest)
+prolog_follows_reply (Err left) = refl
+
+start_reply : (t : Tag) (rest : List ℕ) → Behind (AtStart OfReply) t 0 rest ≡ on_document OfReply (document_of (begin_of OfReply) t rest)
+start_reply tag.Declaration rest = run_prolog OfReply false Character rest ∙ prolog_follows_reply (prolog_from false Character rest)
+start_reply tag.MethodCall rest = refl
+start_reply tag.MethodName rest = refl
+start_reply tag.MethodResponse rest = refl
+start_reply tag.Params rest = refl
+start_reply tag.NoParams rest = refl
+start_reply tag.Param rest = refl
+start_reply tag.Fault rest = refl
+start_reply tag.Value rest = refl
+start_reply tag.NoValue rest = refl
+start_reply tag.I4 rest = refl
+start_reply tag.Int rest = refl
+start_reply tag.Boolean rest = refl
+start_reply tag.String rest = refl
+start_reply tag.NoString rest = refl
+start_reply tag.Double rest = refl
+start_reply tag.DateTime rest = refl
+start_reply tag.Base64 rest = refl
+start_reply tag.Struct rest = refl
+start_reply tag.NoMembers rest = refl
+start_reply tag.Member rest = refl
+start_reply tag.Name rest = refl
+start_reply tag.Array rest = refl
+start_reply tag.Data rest = refl
+start_reply tag.NoData rest = refl
+start_reply tag.EndMethodCall rest = refl
+start_reply tag.EndMethodName rest = refl
+start_reply tag.EndMethodResponse rest = refl
+start_reply tag.EndParams rest = refl
+start_reply tag.EndParam rest = refl
+start_reply tag.EndFault rest = refl
+start_reply tag.EndValue rest = refl
+start_reply tag.EndI4 rest = refl
+start_reply tag.EndInt rest = refl
+start_reply tag.EndBoolean rest = refl
+start_reply tag.EndString rest = refl
+start_reply tag.EndDouble rest = refl
+start_reply tag.EndDateTime rest = refl
+start_reply tag.EndBase64 rest = refl
+start_reply tag.EndStruct rest = refl
+start_reply tag.EndMember rest = refl
+start_reply tag.EndName rest = refl
+start_reply tag.EndArray rest = refl
+start_reply tag.EndData rest = refl
+start_reply tag.Ampersand rest = refl
+start_reply tag.Less rest = refl
+start_reply tag.Greater rest = refl
+start_reply tag.Quote rest = refl
+start_reply tag.Apostrophe rest = refl
+start_reply tag.Numbered rest = refl
+
+start_follows_reply : (r : Result (Tag × List ℕ) ℕ) → follow the_limits (AtStart OfReply) [] 0 r ≡ on_document OfReply (r >>= (λ r. document_of (begin_of OfReply) r.0 r.1))
+start_follows_reply (Ok r) = start_reply r.0 r.1
+start_follows_reply (Err left) = refl
+
+run_document_reply : (bs : List ℕ) → run the_limits (start OfReply) bs ≡ on_document OfReply (document_at (begin_of OfReply) bs)
+unfolding document_at
+run_document_reply bs = run_at (AtStart OfReply) [] 0 bs tt ∙ start_follows_reply (tag_behind (tag.Declaration ∷ begin_of OfReply ∷ []) bs)
+
+method_tag : (t : Tag) (rest : List ℕ) → Behind AtMethod t 0 rest ≡ run the_limits (at (Chars InMethod [] Character) [] 0) rest
+method_tag tag.Declaration rest = refl
+method_tag tag.MethodCall rest = refl
+method_tag tag.MethodName rest = refl
+method_tag tag.MethodResponse rest = refl
+method_tag tag.Params rest = refl
+method_tag tag.NoParams rest = refl
+method_tag tag.Param rest = refl
+method_tag tag.Fault rest = refl
+method_tag tag.Value rest = refl
+method_tag tag.NoValue rest = refl
+method_tag tag.I4 rest = refl
+method_tag tag.Int rest = refl
+method_tag tag.Boolean rest = refl
+method_tag tag.String rest = refl
+method_tag tag.NoString rest = refl
+method_tag tag.Double rest = refl
+method_tag tag.DateTime rest = refl
+method_tag tag.Base64 rest = refl
+method_tag tag.Struct rest = refl
+method_tag tag.NoMembers rest = refl
+method_tag tag.Member rest = refl
+method_tag tag.Name rest = refl
+method_tag tag.Array rest = refl
+method_tag tag.Data rest = refl
+method_tag tag.NoData rest = refl
+method_tag tag.EndMethodCall rest = refl
+method_tag tag.EndMethodName rest = refl
+method_tag tag.EndMethodResponse rest = refl
+method_tag tag.EndParams rest = refl
+method_tag tag.EndParam rest = refl
+method_tag tag.EndFault rest = refl
+method_tag tag.EndValue rest = refl
+method_tag tag.EndI4 rest = refl
+method_tag tag.EndInt rest = refl
+method_tag tag.EndBoolean rest = refl
+method_tag tag.EndString rest = refl
+method_tag tag.EndDouble rest = refl
+method_tag tag.EndDateTime rest = refl
+method_tag tag.EndBase64 rest = refl
+method_tag tag.EndStruct rest = refl
+method_tag tag.EndMember rest = refl
+method_tag tag.EndName rest = refl
+method_tag tag.EndArray rest = refl
+method_tag tag.EndData rest = refl
+method_tag tag.Ampersand rest = refl
+method_tag tag.Less rest = refl
+method_tag tag.Greater rest = refl
+method_tag tag.Quote rest = refl
+method_tag tag.Apostrophe rest = refl
+method_tag tag.Numbered rest = refl
+
+name_end : (v rest : List ℕ) → at_text_end InMethod [] 0 (Ok (v, rest)) ≡ behind_content InMethod [] 0 (name_at v rest)
+unfolding shut_at
+name_end [] rest = refl
+name_end (x ∷ v) rest =
+    run_shut (AtTextEnd InMethod (x ∷ v)) tag.EndMethodName [] 0 rest (closes_text InMethod (x ∷ v))
+    ∙ shut_text InMethod (x ∷ v) [] 0 (close_behind (tag_at (tag.EndMethodName ∷ []) rest))
+
+name_ends : (r : Result (List ℕ × List ℕ) ℕ) → at_text_end InMethod [] 0 r ≡ behind_content InMethod [] 0 (r >>= (λ r. name_at r.0 r.1))
+name_ends (Ok r) = name_end r.0 r.1
+name_ends (Err left) = refl
+
+method_follows : (r : Result (Tag × List ℕ) ℕ) → follow the_limits AtMethod [] 0 r ≡ behind_content InMethod [] 0 (r >>= (λ r. method_at r.1))
+unfolding method_at
+method_follows (Ok r) = method_tag r.0 r.1 ∙ run_text InMethod [] [] 0 r.1 ∙ name_ends (text_at [] r.1)
+method_follows (Err left) = refl
+
+head_follows : (r : Result (List ℕ) ℕ) → on_document OfCall r ≡ behind_content InMethod [] 0 (r >>= (λ rest. tag_behind (tag.MethodName ∷ []) rest >>= (λ r. method_at r.1)))
+head_follows (Ok rest) = run_at AtMethod [] 0 rest tt ∙ method_follows (tag_behind (tag.MethodName ∷ []) rest)
+head_follows (Err left) = refl
+
+-- a call up to its method's name
+pub run_head : (bs : List ℕ) → run the_limits (start OfCall) bs ≡ behind_content InMethod [] 0 (head_at bs)
+unfolding head_at
+run_head bs = run_document_call bs ∙ head_follows (document_at tag.MethodCall bs)
+
+abbrev pub a_call : List ℕ → Trees → Spelled
+a_call method params = ACall (record { method = method; params = params })
+
+abbrev pub on_begun : List ℕ → ℕ → Result (Bool × List ℕ) ℕ → Verdict
+on_begun method count (Ok (true, rest)) = run the_limits (at (At (AtParams method no_tree)) [] count) rest
+on_begun method count (Ok (false, rest)) = run the_limits (at (At (AtDone (a_call method no_tree))) [] count) rest
+on_begun method count (Err left) = unless_many the_limits count (NotRead left)
+
+begun_end : (method : List ℕ) (count : ℕ) (r : Result (List ℕ) ℕ) → left_by (AtParamsEnd method no_tree) [] count r ≡ on_begun method count (ended_by r)
+begun_end method count (Ok rest) = refl
+begun_end method count (Err left) = refl
+
+begun_close : (method : List ℕ) (count : ℕ) (r : Result (List ℕ) ℕ) → left_by (AtCalled method) [] count r ≡ on_begun method count (ended_by r)
+begun_close method count (Ok rest) = refl
+begun_close method count (Err left) = refl
+
+pub closes_params : (method : List ℕ) (params : Trees) → Closes (AtParamsEnd method params) tag.EndMethodCall
+closes_params method params = record { only = refl; goes_on = tt; shut = λ frames count. refl }
+
+begun_tag : (method : List ℕ) (count : ℕ) (t : Tag) (rest : List ℕ) → Behind (AtCalled method) t count rest ≡ on_begun method count (begun_of t rest)
+begun_tag method count tag.Params rest = refl
+begun_tag method count tag.NoParams rest =
+    run_closing (AtParamsEnd method no_tree) tag.EndMethodCall [] count rest (closes_params method no_tree) ∙ begun_end method count (closing_at (tag.EndMethodCall ∷ []) rest)
+begun_tag method count tag.Declaration rest = run_close (AtCalled method) [] count rest ∙ begun_close method count (close_at rest)
+begun_tag method count tag.MethodCall rest = run_close (AtCalled method) [] count rest ∙ begun_close method count (close_at rest)
+begun_tag method count tag.MethodName rest = run_close (AtCalled method) [] count rest ∙ begun_close method count (close_at rest)
+begun_tag method count tag.MethodResponse rest = run_close (AtCalled method) [] count rest ∙ begun_close method count (close_at rest)
+begun_tag method count tag.Param rest = run_close (AtCalled method) [] count rest ∙ begun_close method count (close_at rest)
+begun_tag method count tag.Fault rest = run_close (AtCalled method) [] count rest ∙ begun_close method count (close_at rest)
+begun_tag method count tag.Value rest = run_close (AtCalled method) [] count rest ∙ begun_close method count (close_at rest)
+begun_tag method count tag.NoValue rest = run_close (AtCalled method) [] count rest ∙ begun_close method count (close_at rest)
+begun_tag method count tag.I4 rest = run_close (AtCalled method) [] count rest ∙ begun_close method count (close_at rest)
+begun_tag method count tag.Int rest = run_close (AtCalled method) [] count rest ∙ begun_close method count (close_at rest)
+begun_tag method count tag.Boolean rest = run_close (AtCalled method) [] count rest ∙ begun_close method count (close_at rest)
+begun_tag method count tag.String rest = run_close (AtCalled method) [] count rest ∙ begun_close method count (close_at rest)
+begun_tag method count tag.NoString rest = run_close (AtCalled method) [] count rest ∙ begun_close method count (close_at rest)
+begun_tag method count tag.Double rest = run_close (AtCalled method) [] count rest ∙ begun_close method count (close_at rest)
+begun_tag method count tag.DateTime rest = run_close (AtCalled method) [] count rest ∙ begun_close method count (close_at rest)
+begun_tag method count tag.Base64 rest = run_close (AtCalled method) [] count rest ∙ begun_close method count (close_at rest)
+begun_tag method count tag.Struct rest = run_close (AtCalled method) [] count rest ∙ begun_close method count (close_at rest)
+begun_tag method count tag.NoMembers rest = run_close (AtCalled method) [] count rest ∙ begun_close method count (close_at rest)
+begun_tag method count tag.Member rest = run_close (AtCalled method) [] count rest ∙ begun_close method count (close_at rest)
+begun_tag method count tag.Name rest = run_close (AtCalled method) [] count rest ∙ begun_close method count (close_at rest)
+begun_tag method count tag.Array rest = run_close (AtCalled method) [] count rest ∙ begun_close method count (close_at rest)
+begun_tag method count tag.Data rest = run_close (AtCalled method) [] count rest ∙ begun_close method count (close_at rest)
+begun_tag method count tag.NoData rest = run_close (AtCalled method) [] count rest ∙ begun_close method count (close_at rest)
+begun_tag method count tag.EndMethodCall rest = run_close (AtCalled method) [] count rest ∙ begun_close method count (close_at rest)
+begun_tag method count tag.EndMethodName rest = run_close (AtCalled method) [] count rest ∙ begun_close method count (close_at rest)
+begun_tag method count tag.EndMethodResponse rest = run_close (AtCalled method) [] count rest ∙ begun_close method count (close_at rest)
+begun_tag method count tag.EndParams rest = run_close (AtCalled method) [] count rest ∙ begun_close method count (close_at rest)
+begun_tag method count tag.EndParam rest = run_close (AtCalled method) [] count rest ∙ begun_close method count (close_at rest)
+begun_tag method count tag.EndFault rest = run_close (AtCalled method) [] count rest ∙ begun_close method count (close_at rest)
+begun_tag method count tag.EndValue rest = run_close (AtCalled method) [] count rest ∙ begun_close method count (close_at rest)
+begun_tag method count tag.EndI4 rest = run_close (AtCalled method) [] count rest ∙ begun_close method count (close_at rest)
+begun_tag method count tag.EndInt rest = run_close (AtCalled method) [] count rest ∙ begun_close method count (close_at rest)
+begun_tag method count tag.EndBoolean rest = run_close (AtCalled method) [] count rest ∙ begun_close method count (close_at rest)
+begun_tag method count tag.EndString rest = run_close (AtCalled method) [] count rest ∙ begun_close method count (close_at rest)
+begun_tag method count tag.EndDouble rest = run_close (AtCalled method) [] count rest ∙ begun_close method count (close_at rest)
+begun_tag method count tag.EndDateTime rest = run_close (AtCalled method) [] count rest ∙ begun_close method count (close_at rest)
+begun_tag method count tag.EndBase64 rest = run_close (AtCalled method) [] count rest ∙ begun_close method count (close_at rest)
+begun_tag method count tag.EndStruct rest = run_close (AtCalled method) [] count rest ∙ begun_close method count (close_at rest)
+begun_tag method count tag.EndMember rest = run_close (AtCalled method) [] count rest ∙ begun_close method count (close_at rest)
+begun_tag method count tag.EndName rest = run_close (AtCalled method) [] count rest ∙ begun_close method count (close_at rest)
+begun_tag method count tag.EndArray rest = run_close (AtCalled method) [] count rest ∙ begun_close method count (close_at rest)
+begun_tag method count tag.EndData rest = run_close (AtCalled method) [] count rest ∙ begun_close method count (close_at rest)
+begun_tag method count tag.Ampersand rest = run_close (AtCalled method) [] count rest ∙ begun_close method count (close_at rest)
+begun_tag method count tag.Less rest = run_close (AtCalled method) [] count rest ∙ begun_close method count (close_at rest)
+begun_tag method count tag.Greater rest = run_close (AtCalled method) [] count rest ∙ begun_close method count (close_at rest)
+begun_tag method count tag.Quote rest = run_close (AtCalled method) [] count rest ∙ begun_close method count (close_at rest)
+begun_tag method count tag.Apostrophe rest = run_close (AtCalled method) [] count rest ∙ begun_close method count (close_at rest)
+begun_tag method count tag.Numbered rest = run_close (AtCalled method) [] count rest ∙ begun_close method count (close_at rest)
+
+begun_follows : (method : List ℕ) (count : ℕ) (r : Result (Tag × List ℕ) ℕ) → follow the_limits (AtCalled method) [] count r ≡ on_begun method count (r >>= (λ r. begun_of r.0 r.1))
+begun_follows method count (Ok r) = begun_tag method count r.0 r.1
+begun_follows method count (Err left) = refl
+
+pub run_begun : (method : List ℕ) (count : ℕ) (bs : List ℕ) → run the_limits (at (At (AtCalled method)) [] count) bs ≡ on_begun method count (begun_at bs)
+unfolding begun_at
+run_begun method count bs = run_at (AtCalled method) [] count bs tt ∙ begun_follows method count (tag_behind (tag.Params ∷ tag.NoParams ∷ tag.EndMethodCall ∷ []) bs)
+
+abbrev pub on_param : List ℕ → Trees → ℕ → Result (Bool × List ℕ) ℕ → Verdict
+on_param method before count (Ok (true, rest)) = run the_limits (at (At AtValue) (InParam method before ∷ []) count) rest
+on_param method before count (Ok (false, rest)) = run the_limits (at (At (AtDone (a_call method before))) [] count) rest
+on_param method before count (Err left) = unless_many the_limits count (NotRead left)
+
+params_end : (method : List ℕ) (before : Trees) (count : ℕ) (r : Result (List ℕ) ℕ) → left_by (AtParamsEnd method before) [] count r ≡ on_param method before count (ended_by r)
+params_end method before count (Ok rest) = refl
+params_end method before count (Err left) = refl
+
+params_close : (method : List ℕ) (before : Trees) (count : ℕ) (r : Result (List ℕ) ℕ)
+    → left_by (AtParams method before) [] count r ≡ on_param method before count (r >>= (λ rest. ended_by (closing_at (tag.EndMethodCall ∷ []) rest)))
+params_close method before count (Ok rest) =
+    run_closing (AtParamsEnd method before) tag.EndMethodCall [] count rest (closes_params method before) ∙ params_end method before count (closing_at (tag.EndMethodCall ∷ []) rest)
+params_close method before count (Err left) = refl
+
+param_tag : (method : List ℕ) (before : Trees) (count : ℕ) (t : Tag) (rest : List ℕ) → Behind (AtParams method before) t count rest ≡ on_param method before count (param_of t rest)
+param_tag method before count tag.Param rest = refl
+param_tag method before count tag.Declaration rest = run_close (AtParams method before) [] count rest ∙ params_close method before count (close_at rest)
+param_tag method before count tag.MethodCall rest = run_close (AtParams method before) [] count rest ∙ params_close method before count (close_at rest)
+param_tag method before count tag.MethodName rest = run_close (AtParams method before) [] count rest ∙ params_close method before count (close_at rest)
+param_tag method before count tag.MethodResponse rest = run_close (AtParams method before) [] count rest ∙ params_close method before count (close_at rest)
+param_tag method before count tag.Params rest = run_close (AtParams method before) [] count rest ∙ params_close method before count (close_at rest)
+param_tag method before count tag.NoParams rest = run_close (AtParams method before) [] count rest ∙ params_close method before count (close_at rest)
+param_tag method before count tag.Fault rest = run_close (AtParams method before) [] count rest ∙ params_close method before count (close_at rest)
+param_tag method before count tag.Value rest = run_close (AtParams method before) [] count rest ∙ params_close method before count (close_at rest)
+param_tag method before count tag.NoValue rest = run_close (AtParams method before) [] count rest ∙ params_close method before count (close_at rest)
+param_tag method before count tag.I4 rest = run_close (AtParams method before) [] count rest ∙ params_close method before count (close_at rest)
+param_tag method before count tag.Int rest = run_close (AtParams method before) [] count rest ∙ params_close method before count (close_at rest)
+param_tag method before count tag.Boolean rest = run_close (AtParams method before) [] count rest ∙ params_close method before count (close_at rest)
+param_tag method before count tag.String rest = run_close (AtParams method before) [] count rest ∙ params_close method before count (close_at rest)
+param_tag method before count tag.NoString rest = run_close (AtParams method before) [] count rest ∙ params_close method before count (close_at rest)
+param_tag method before count tag.Double rest = run_close (AtParams method before) [] count rest ∙ params_close method before count (close_at rest)
+param_tag method before count tag.DateTime rest = run_close (AtParams method before) [] count rest ∙ params_close method before count (close_at rest)
+param_tag method before count tag.Base64 rest = run_close (AtParams method before) [] count rest ∙ params_close method before count (close_at rest)
+param_tag method before count tag.Struct rest = run_close (AtParams method before) [] count rest ∙ params_close method before count (close_at rest)
+param_tag method before count tag.NoMembers rest = run_close (AtParams method before) [] count rest ∙ params_close method before count (close_at rest)
+param_tag method before count tag.Member rest = run_close (AtParams method before) [] count rest ∙ params_close method before count (close_at rest)
+param_tag method before count tag.Name rest = run_close (AtParams method before) [] count rest ∙ params_close method before count (close_at rest)
+param_tag method before count tag.Array rest = run_close (AtParams method before) [] count rest ∙ params_close method before count (close_at rest)
+param_tag method before count tag.Data rest = run_close (AtParams method before) [] count rest ∙ params_close method before count (close_at rest)
+param_tag method before count tag.NoData rest = run_close (AtParams method before) [] count rest ∙ params_close method before count (close_at rest)
+param_tag method before count tag.EndMethodCall rest = run_close (AtParams method before) [] count rest ∙ params_close method before count (close_at rest)
+param_tag method before count tag.EndMethodName rest = run_close (AtParams method before) [] count rest ∙ params_close method before count (close_at rest)
+param_tag method before count tag.EndMethodResponse rest = run_close (AtParams method before) [] count rest ∙ params_close method before count (close_at rest)
+param_tag method before count tag.EndParams rest = run_close (AtParams method before) [] count rest ∙ params_close method before count (close_at rest)
+param_tag method before count tag.EndParam rest = run_close (AtParams method before) [] count rest ∙ params_close method before count (close_at rest)
+param_tag method before count tag.EndFault rest = run_close (AtParams method before) [] count rest ∙ params_close method before count (close_at rest)
+param_tag method before count tag.EndValue rest = run_close (AtParams method before) [] count rest ∙ params_close method before count (close_at rest)
+param_tag method before count tag.EndI4 rest = run_close (AtParams method before) [] count rest ∙ params_close method before count (close_at rest)
+param_tag method before count tag.EndInt rest = run_close (AtParams method before) [] count rest ∙ params_close method before count (close_at rest)
+param_tag method before count tag.EndBoolean rest = run_close (AtParams method before) [] count rest ∙ params_close method before count (close_at rest)
+param_tag method before count tag.EndString rest = run_close (AtParams method before) [] count rest ∙ params_close method before count (close_at rest)
+param_tag method before count tag.EndDouble rest = run_close (AtParams method before) [] count rest ∙ params_close method before count (close_at rest)
+param_tag method before count tag.EndDateTime rest = run_close (AtParams method before) [] count rest ∙ params_close method before count (close_at rest)
+param_tag method before count tag.EndBase64 rest = run_close (AtParams method before) [] count rest ∙ params_close method before count (close_at rest)
+param_tag method before count tag.EndStruct rest = run_close (AtParams method before) [] count rest ∙ params_close method before count (close_at rest)
+param_tag method before count tag.EndMember rest = run_close (AtParams method before) [] count rest ∙ params_close method before count (close_at rest)
+param_tag method before count tag.EndName rest = run_close (AtParams method before) [] count rest ∙ params_close method before count (close_at rest)
+param_tag method before count tag.EndArray rest = run_close (AtParams method before) [] count rest ∙ params_close method before count (close_at rest)
+param_tag method before count tag.EndData rest = run_close (AtParams method before) [] count rest ∙ params_close method before count (close_at rest)
+param_tag method before count tag.Ampersand rest = run_close (AtParams method before) [] count rest ∙ params_close method before count (close_at rest)
+param_tag method before count tag.Less rest = run_close (AtParams method before) [] count rest ∙ params_close method before count (close_at rest)
+param_tag method before count tag.Greater rest = run_close (AtParams method before) [] count rest ∙ params_close method before count (close_at rest)
+param_tag method before count tag.Quote rest = run_close (AtParams method before) [] count rest ∙ params_close method before count (close_at rest)
+param_tag method before count tag.Apostrophe rest = run_close (AtParams method before) [] count rest ∙ params_close method before count (close_at rest)
+param_tag method before count tag.Numbered rest = run_close (AtParams method before) [] count rest ∙ params_close method before count (close_at rest)
+
+param_follows : (method : List ℕ) (before : Trees) (count : ℕ) (r : Result (Tag × List ℕ) ℕ) → follow the_limits (AtParams method before) [] count r ≡ on_param method before count (r >>= (λ r. param_of r.0 r.1))
+param_follows method before count (Ok r) = param_tag method before count r.0 r.1
+param_follows method before count (Err left) = refl
+
+pub run_param : (method : List ℕ) (before : Trees) (count : ℕ) (bs : List ℕ) → run the_limits (at (At (AtParams method before)) [] count) bs ≡ on_param method before count (param_at bs)
+unfolding param_at
+run_param method before count bs = run_at (AtParams method before) [] count bs tt ∙ param_follows method before count (tag_behind (tag.Param ∷ tag.EndParams ∷ []) bs)
+
+pub closes_param : (method : List ℕ) (before : Trees) → Closes (AtParamEnd method before) tag.EndParam
+closes_param method before = record { only = refl; goes_on = tt; shut = λ frames count. refl }
+
+abbrev pub on_answer : Result (Bool × List ℕ) ℕ → Verdict
+on_answer (Ok (true, rest)) = run the_limits (at (At AtValue) (InReply ∷ []) 0) rest
+on_answer (Ok (false, rest)) = run the_limits (at (At AtValue) (InFault ∷ []) 0) rest
+on_answer (Err left) = unless_many the_limits 0 (NotRead left)
+
+reply_tag : (t : Tag) (rest : List ℕ) → Behind AtReplyParam t 0 rest ≡ on_answer (Ok (true, rest))
+reply_tag tag.Declaration rest = refl
+reply_tag tag.MethodCall rest = refl
+reply_tag tag.MethodName rest = refl
+reply_tag tag.MethodResponse rest = refl
+reply_tag tag.Params rest = refl
+reply_tag tag.NoParams rest = refl
+reply_tag tag.Param rest = refl
+reply_tag tag.Fault rest = refl
+reply_tag tag.Value rest = refl
+reply_tag tag.NoValue rest = refl
+reply_tag tag.I4 rest = refl
+reply_tag tag.Int rest = refl
+reply_tag tag.Boolean rest = refl
+reply_tag tag.String rest = refl
+reply_tag tag.NoString rest = refl
+reply_tag tag.Double rest = refl
+reply_tag tag.DateTime rest = refl
+reply_tag tag.Base64 rest = refl
+reply_tag tag.Struct rest = refl
+reply_tag tag.NoMembers rest = refl
+reply_tag tag.Member rest = refl
+reply_tag tag.Name rest = refl
+reply_tag tag.Array rest = refl
+reply_tag tag.Data rest = refl
+reply_tag tag.NoData rest = refl
+reply_tag tag.EndMethodCall rest = refl
+reply_tag tag.EndMethodName rest = refl
+reply_tag tag.EndMethodResponse rest = refl
+reply_tag tag.EndParams rest = refl
+reply_tag tag.EndParam rest = refl
+reply_tag tag.EndFault rest = refl
+reply_tag tag.EndValue rest = refl
+reply_tag tag.EndI4 rest = refl
+reply_tag tag.EndInt rest = refl
+reply_tag tag.EndBoolean rest = refl
+reply_tag tag.EndString rest = refl
+reply_tag tag.EndDouble rest = refl
+reply_tag tag.EndDateTime rest = refl
+reply_tag tag.EndBase64 rest = refl
+reply_tag tag.EndStruct rest = refl
+reply_tag tag.EndMember rest = refl
+reply_tag tag.EndName rest = refl
+reply_tag tag.EndArray rest = refl
+reply_tag tag.EndData rest = refl
+reply_tag tag.Ampersand rest = refl
+reply_tag tag.Less rest = refl
+reply_tag tag.Greater rest = refl
+reply_tag tag.Quote rest = refl
+reply_tag tag.Apostrophe rest = refl
+reply_tag tag.Numbered rest = refl
+
+reply_follows : (r : Result (Tag × List ℕ) ℕ) → follow the_limits AtReplyParam [] 0 r ≡ on_answer (r >>= (λ r. Ok (true, r.1)))
+reply_follows (Ok r) = reply_tag r.0 r.1
+reply_follows (Err left) = refl
+
+answer_tag : (t : Tag) (rest : List ℕ) → Behind AtResponse t 0 rest ≡ on_answer (answer_of t rest)
+answer_tag tag.Params rest = run_at AtReplyParam [] 0 rest tt ∙ reply_follows (tag_behind (tag.Param ∷ []) rest)
+answer_tag tag.Declaration rest = refl
+answer_tag tag.MethodCall rest = refl
+answer_tag tag.MethodName rest = refl
+answer_tag tag.MethodResponse rest = refl
+answer_tag tag.NoParams rest = refl
+answer_tag tag.Param rest = refl
+answer_tag tag.Fault rest = refl
+answer_tag tag.Value rest = refl
+answer_tag tag.NoValue rest = refl
+answer_tag tag.I4 rest = refl
+answer_tag tag.Int rest = refl
+answer_tag tag.Boolean rest = refl
+answer_tag tag.String rest = refl
+answer_tag tag.NoString rest = refl
+answer_tag tag.Double rest = refl
+answer_tag tag.DateTime rest = refl
+answer_tag tag.Base64 rest = refl
+answer_tag tag.Struct rest = refl
+answer_tag tag.NoMembers rest = refl
+answer_tag tag.Member rest = refl
+answer_tag tag.Name rest = refl
+answer_tag tag.Array rest = refl
+answer_tag tag.Data rest = refl
+answer_tag tag.NoData rest = refl
+answer_tag tag.EndMethodCall rest = refl
+answer_tag tag.EndMethodName rest = refl
+answer_tag tag.EndMethodResponse rest = refl
+answer_tag tag.EndParams rest = refl
+answer_tag tag.EndParam rest = refl
+answer_tag tag.EndFault rest = refl
+answer_tag tag.EndValue rest = refl
+answer_tag tag.EndI4 rest = refl
+answer_tag tag.EndInt rest = refl
+answer_tag tag.EndBoolean rest = refl
+answer_tag tag.EndString rest = refl
+answer_tag tag.EndDouble rest = refl
+answer_tag tag.EndDateTime rest = refl
+answer_tag tag.EndBase64 rest = refl
+answer_tag tag.EndStruct rest = refl
+answer_tag tag.EndMember rest = refl
+answer_tag tag.EndName rest = refl
+answer_tag tag.EndArray rest = refl
+answer_tag tag.EndData rest = refl
+answer_tag tag.Ampersand rest = refl
+answer_tag tag.Less rest = refl
+answer_tag tag.Greater rest = refl
+answer_tag tag.Quote rest = refl
+answer_tag tag.Apostrophe rest = refl
+answer_tag tag.Numbered rest = refl
+
+answer_follows : (r : Result (Tag × List ℕ) ℕ) → follow the_limits AtResponse [] 0 r ≡ on_answer (r >>= (λ r. answer_of r.0 r.1))
+answer_follows (Ok r) = answer_tag r.0 r.1
+answer_follows (Err left) = refl
+
+response_follows : (r : Result (List ℕ) ℕ) → on_document OfReply r ≡ on_answer (r >>= (λ rest. tag_behind (tag.Params ∷ tag.Fault ∷ []) rest >>= (λ r. answer_of r.0 r.1)))
+response_follows (Ok rest) = run_at AtResponse [] 0 rest tt ∙ answer_follows (tag_behind (tag.Params ∷ tag.Fault ∷ []) rest)
+response_follows (Err left) = refl
+
+-- a reply up to its value
+pub run_answer : (bs : List ℕ) → run the_limits (start OfReply) bs ≡ on_answer (answer_at bs)
+unfolding answer_at
+run_answer bs = run_document_reply bs ∙ response_follows (document_at tag.MethodResponse bs)
+
+abbrev pub on_end : Reply → ℕ → Result (List ℕ) ℕ → Verdict
+on_end reply count (Ok rest) = run the_limits (at (At (AtDone (AReply reply))) [] count) rest
+on_end reply count (Err left) = unless_many the_limits count (NotRead left)
+
+response_end : (reply : Reply) (count : ℕ) (r : Result (List ℕ) ℕ) → left_by (AtResponseEnd reply) [] count r ≡ on_end reply count r
+response_end reply count (Ok rest) = refl
+response_end reply count (Err left) = refl
+
+run_response_end : (reply : Reply) (count : ℕ) (bs : List ℕ) → run the_limits (at (At (AtResponseEnd reply)) [] count) bs ≡ on_end reply count (closing_at (tag.EndMethodResponse ∷ []) bs)
+run_response_end reply count bs =
+    run_closing (AtResponseEnd reply) tag.EndMethodResponse [] count bs (record { only = refl; goes_on = tt; shut = λ frames count. refl })
+    ∙ response_end reply count (closing_at (tag.EndMethodResponse ∷ []) bs)
+
+fault_left : (reply : Reply) (count : ℕ) (r : Result (List ℕ) ℕ) → left_by (AtFaultEnd reply) [] count r ≡ on_end reply count (r >>= (λ one. closing_at (tag.EndMethodResponse ∷ []) one))
+fault_left reply count (Ok rest) = run_response_end reply count rest
+fault_left reply count (Err left) = refl
+
+pub run_fault_end : (reply : Reply) (count : ℕ) (bs : List ℕ) → run the_limits (at (At (AtFaultEnd reply)) [] count) bs ≡ on_end reply count (fault_end_at bs)
+unfolding fault_end_at
+run_fault_end reply count bs =
+    run_closing (AtFaultEnd reply) tag.EndFault [] count bs (record { only = refl; goes_on = tt; shut = λ frames count. refl })
+    ∙ fault_left reply count (closing_at (tag.EndFault ∷ []) bs)
+
+two_left : (value : Tree) (count : ℕ) (r : Result (List ℕ) ℕ) → left_by (AtReplyParamsEnd value) [] count r ≡ on_end (Returns value) count (r >>= (λ two. closing_at (tag.EndMethodResponse ∷ []) two))
+two_left value count (Ok rest) = run_response_end (Returns value) count rest
+two_left value count (Err left) = refl
+
+one_left : (value : Tree) (count : ℕ) (r : Result (List ℕ) ℕ)
+    → left_by (AtReplyParamEnd value) [] count r ≡ on_end (Returns value) count (r >>= (λ one. closing_at (tag.EndParams ∷ []) one >>= (λ two. closing_at (tag.EndMethodResponse ∷ []) two)))
+one_left value count (Ok rest) =
+    run_closing (AtReplyParamsEnd value) tag.EndParams [] count rest (record { only = refl; goes_on = tt; shut = λ frames count. refl })
+    ∙ two_left value count (closing_at (tag.EndParams ∷ []) rest)
+one_left value count (Err left) = refl
+
+pub run_param_end : (value : Tree) (count : ℕ) (bs : List ℕ) → run the_limits (at (At (AtReplyParamEnd value)) [] count) bs ≡ on_end (Returns value) count (param_end_at bs)
+unfolding param_end_at
+run_param_end value count bs =
+    run_closing (AtReplyParamEnd value) tag.EndParam [] count bs (record { only = refl; goes_on = tt; shut = λ frames count. refl })
+    ∙ one_left value count (closing_at (tag.EndParam ∷ []) bs)
+
+pub run_stuck : (frames : List Frame) (count : ℕ) (bs : List ℕ) → run the_limits (at Stuck frames count) bs ≡ unless_many the_limits count (NotRead (length bs))
+run_stuck frames count [] = refl
+run_stuck frames count (b ∷ bs) = refl
+
+abbrev pub on_done : Spelled → ℕ → Result (Unit {0}) ℕ → Verdict
+on_done spelled count (Ok u) = unless_many the_limits count (Read spelled)
+on_done spelled count (Err left) = unless_many the_limits count (NotRead left)
+
+pub run_done : (spelled : Spelled) (count : ℕ) (bs : List ℕ) → run the_limits (at (At (AtDone spelled)) [] count) bs ≡ on_done spelled count (end_at bs)
+run_done spelled count [] = refl
+run_done spelled count (b ∷ bs) = elim (cases_Bool (is_white b)) [
+  | inl e ↦ rw e (run_done spelled count bs)
+  | inr e ↦ rw e refl
+]
+
+-- a reader that stops, of what the text goes on with
+pub halts_with : {Y : Type 0} (on : Result Y ℕ → Verdict) (count : ℕ) (verdict : Verdict) (read : Result Y ℕ) (stop : Stop)
+    → ((left : ℕ) → on (Err left) ≡ unless_many the_limits count (NotRead left)) → verdict ≡ on read → Stops stop read → Halts stop count verdict
+halts_with on count verdict read (stop.At left) f e s = e ∙ ap on s ∙ f left
+halts_with on count verdict read stop.TooDeep f e s = absurd s
+halts_with on count verdict read stop.OutOfMemory f e s = tt
+
+pub halts_from : (count : ℕ) (one two : Verdict) (stop : Stop) → one ≡ two → Halts stop count two → Halts stop count one
+halts_from count one two stop e h = subst (λ (x : Verdict). Halts stop count x) (sym e) h
+
+pub comes_from : {X : Type 0} (one two : Verdict) (count : ℕ) (shown : X → Spelled) (r : Result X Stop) → one ≡ two → Comes two count shown r → Comes one count shown r
+comes_from one two count shown (Ok x) e h = e ∙ h
+comes_from one two count shown (Err stop) e h = halts_from count one two stop e h
+
+pub head_halts : (stop : Stop) (bs : List ℕ) → Stops stop (head_at bs) → Halts stop 0 (run the_limits (start OfCall) bs)
+head_halts stop bs s = halts_with (behind_content InMethod [] 0) 0 (run the_limits (start OfCall) bs) (head_at bs) stop (λ left. refl) (run_head bs) s
+
+pub head_goes : {X : Type 0} (bs method rest : List ℕ) (count : ℕ) (shown : X → Spelled) (r : Result X Stop) → head_at bs ≡ Ok (method, rest)
+    → Comes (run the_limits (at (At (AtCalled method)) [] 0) rest) count shown r → Comes (run the_limits (start OfCall) bs) count shown r
+head_goes bs method rest count shown r e h =
+    comes_from (run the_limits (start OfCall) bs) (run the_limits (at (At (AtCalled method)) [] 0) rest) count shown r (run_head bs ∙ ap (behind_content InMethod [] 0) e) h
+
+pub answer_halts : (stop : Stop) (bs : List ℕ) → Stops stop (answer_at bs) → Halts stop 0 (run the_limits (start OfReply) bs)
+answer_halts stop bs s = halts_with on_answer 0 (run the_limits (start OfReply) bs) (answer_at bs) stop (λ left. refl) (run_answer bs) s
+
+pub answer_value : {X : Type 0} (bs rest : List ℕ) (count : ℕ) (shown : X → Spelled) (r : Result X Stop) → answer_at bs ≡ Ok (true, rest)
+    → Comes (run the_limits (at (At AtValue) (InReply ∷ []) 0) rest) count shown r → Comes (run the_limits (start OfReply) bs) count shown r
+answer_value bs rest count shown r e h =
+    comes_from (run the_limits (start OfReply) bs) (run the_limits (at (At AtValue) (InReply ∷ []) 0) rest) count shown r (run_answer bs ∙ ap on_answer e) h
+
+pub answer_fault : {X : Type 0} (bs rest : List ℕ) (count : ℕ) (shown : X → Spelled) (r : Result X Stop) → answer_at bs ≡ Ok (false, rest)
+    → Comes (run the_limits (at (At AtValue) (InFault ∷ []) 0) rest) count shown r → Comes (run the_limits (start OfReply) bs) count shown r
+answer_fault bs rest count shown r e h =
+    comes_from (run the_limits (start OfReply) bs) (run the_limits (at (At AtValue) (InFault ∷ []) 0) rest) count shown r (run_answer bs ∙ ap on_answer e) h
+
+pub done_halts : (spelled : Spelled) (count : ℕ) (one : Verdict) (rest : List ℕ) (stop : Stop) → one ≡ run the_limits (at (At (AtDone spelled)) [] count) rest → Stops stop (end_at rest) → Halts stop count one
+done_halts spelled count one rest stop e s = halts_with (on_done spelled count) count one (end_at rest) stop (λ left. refl) (e ∙ run_done spelled count rest) s
+
+pub done_goes : (spelled : Spelled) (count : ℕ) (one : Verdict) (rest : List ℕ) → one ≡ run the_limits (at (At (AtDone spelled)) [] count) rest → end_at rest ≡ Ok tt → one ≡ unless_many the_limits count (Read spelled)
+done_goes spelled count one rest e s = e ∙ run_done spelled count rest ∙ ap (on_done spelled count) s
+
+pub begun_halts : (method : List ℕ) (count : ℕ) (bs : List ℕ) (stop : Stop) → Stops stop (begun_at bs) → Halts stop count (run the_limits (at (At (AtCalled method)) [] count) bs)
+begun_halts method count bs stop s =
+    halts_with (on_begun method count) count (run the_limits (at (At (AtCalled method)) [] count) bs) (begun_at bs) stop (λ left. refl) (run_begun method count bs) s
+
+pub begun_none : (method : List ℕ) (count : ℕ) (bs rest : List ℕ) → begun_at bs ≡ Ok (false, rest)
+    → run the_limits (at (At (AtCalled method)) [] count) bs ≡ run the_limits (at (At (AtDone (a_call method no_tree))) [] count) rest
+begun_none method count bs rest e = run_begun method count bs ∙ ap (on_begun method count) e
+
+pub begun_some : {X : Type 0} (method : List ℕ) (before : ℕ) (bs rest : List ℕ) (count : ℕ) (params : X → Trees) (behind : X → List ℕ) (r : Result X Stop) → begun_at bs ≡ Ok (true, rest)
+    → ReadsFurther method before rest count params behind r → ReadsParams method before bs count params behind r
+begun_some method before bs rest count params behind (Ok x) e h = run_begun method before bs ∙ ap (on_begun method before) e ∙ h
+begun_some method before bs rest count params behind (Err stop) e h =
+    halts_from count (run the_limits (at (At (AtCalled method)) [] before) bs) (run the_limits (at (At (AtParams method no_tree)) [] before) rest) stop (run_begun method before bs ∙ ap (on_begun method before) e) h
+
+pub param_halts : (method : List ℕ) (before : Trees) (count : ℕ) (bs : List ℕ) (one : Verdict) (stop : Stop)
+    → run the_limits (at (At (AtParams method before)) [] count) bs ≡ one → Stops stop (param_at bs) → Halts stop count one
+param_halts method before count bs one stop e s = halts_with (on_param method before count) count one (param_at bs) stop (λ left. refl) (sym e ∙ run_param method before count bs) s
+
+pub param_none : (method : List ℕ) (before : Trees) (count : ℕ) (bs rest : List ℕ) (one : Verdict)
+    → run the_limits (at (At (AtParams method before)) [] count) bs ≡ one → param_at bs ≡ Ok (false, rest) → one ≡ run the_limits (at (At (AtDone (a_call method before))) [] count) rest
+param_none method before count bs rest one e s = sym e ∙ run_param method before count bs ∙ ap (on_param method before count) s
+
+pub param_some : (method : List ℕ) (before : Trees) (count : ℕ) (bs rest : List ℕ) (one : Verdict)
+    → run the_limits (at (At (AtParams method before)) [] count) bs ≡ one → param_at bs ≡ Ok (true, rest) → one ≡ run the_limits (at (At AtValue) (InParam method before ∷ []) count) rest
+param_some method before count bs rest one e s = sym e ∙ run_param method before count bs ∙ ap (on_param method before count) s
+
+-- a closing tag that is read, and one that isn't
+pub closing_goes : (place : Place) (t : Tag) (count : ℕ) (bs rest : List ℕ) → Closes place t → closing_at (t ∷ []) bs ≡ Ok rest
+    → run the_limits (at (At place) [] count) bs ≡ run the_limits (leave the_limits place [] count) rest
+closing_goes place t count bs rest c e = run_closing place t [] count bs c ∙ ap (left_by place [] count) e
+
+pub closing_halts : (place : Place) (t : Tag) (count : ℕ) (bs : List ℕ) (one : Verdict) (stop : Stop) → Closes place t → one ≡ run the_limits (at (At place) [] count) bs
+    → Stops stop (closing_at (t ∷ []) bs) → Halts stop count one
+closing_halts place t count bs one stop c e s =
+    halts_with (left_by place [] count) count one (closing_at (t ∷ []) bs) stop (λ left. refl) (e ∙ run_closing place t [] count bs c) s
+
+abbrev on_value_end : Tree → ℕ → Result (Unit {0}) ℕ → Verdict
+on_value_end value count (Ok u) = unless_many the_limits count (Read (AReply (Returns value)))
+on_value_end value count (Err left) = unless_many the_limits count (NotRead left)
+
+ended_value : (value : Tree) (count : ℕ) (r : Result (Unit {0}) ℕ) → on_done (AReply (Returns value)) count r ≡ on_value_end value count r
+ended_value value count (Ok u) = refl
+ended_value value count (Err left) = refl
+
+value_ends : (value : Tree) (count : ℕ) (r : Result (List ℕ) ℕ) → on_end (Returns value) count r ≡ on_value_end value count (r >>= (λ rest. end_at rest))
+value_ends value count (Ok rest) = run_done (AReply (Returns value)) count rest ∙ ended_value value count (end_at rest)
+value_ends value count (Err left) = refl
+
+run_value_end : (value : Tree) (count : ℕ) (bs : List ℕ) → run the_limits (at (At (AtReplyParamEnd value)) [] count) bs ≡ on_value_end value count (value_end_at bs)
+run_value_end value count bs = run_param_end value count bs ∙ value_ends value count (param_end_at bs)
+
+pub value_end_halts : (value : Tree) (count : ℕ) (bs : List ℕ) (one : Verdict) (stop : Stop) → one ≡ run the_limits (at (At (AtReplyParamEnd value)) [] count) bs
+    → Stops stop (value_end_at bs) → Halts stop count one
+value_end_halts value count bs one stop e s = halts_with (on_value_end value count) count one (value_end_at bs) stop (λ left. refl) (e ∙ run_value_end value count bs) s
+
+pub value_end_goes : (value : Tree) (count : ℕ) (bs : List ℕ) (one : Verdict) → one ≡ run the_limits (at (At (AtReplyParamEnd value)) [] count) bs → value_end_at bs ≡ Ok tt
+    → one ≡ unless_many the_limits count (Read (AReply (Returns value)))
+value_end_goes value count bs one e s = e ∙ run_value_end value count bs ∙ ap (on_value_end value count) s
+
+abbrev on_faulty : ℕ → Result Reply ℕ → Verdict
+on_faulty count (Ok reply) = unless_many the_limits count (Read (AReply reply))
+on_faulty count (Err left) = unless_many the_limits count (NotRead left)
+
+fault_done : (reply : Reply) (count : ℕ) (r : Result (Unit {0}) ℕ) → on_done (AReply reply) count r ≡ on_faulty count (r >>= (λ u. Ok reply))
+fault_done reply count (Ok u) = refl
+fault_done reply count (Err left) = refl
+
+fault_ends : (reply : Reply) (count : ℕ) (r : Result (List ℕ) ℕ) → on_end reply count r ≡ on_faulty count (r >>= (λ rest. end_at rest >>= (λ u. Ok reply)))
+fault_ends reply count (Ok rest) = run_done (AReply reply) count rest ∙ fault_done reply count (end_at rest)
+fault_ends reply count (Err left) = refl
+
+run_faulty : (fault : Option Reply) (count : ℕ) (bs : List ℕ) → run the_limits (after_fault fault [] count) bs ≡ on_faulty count (faulty_at fault bs)
+run_faulty (Some reply) count bs = run_fault_end reply count bs ∙ fault_ends reply count (fault_end_at bs)
+run_faulty None count bs = run_stuck [] count bs
+
+pub faulty_comes : {X : Type 0} (shown : X → Reply) (value : Tree) (count : ℕ) (bs : List ℕ) (one : Verdict) (r : Result X Stop)
+    → one ≡ run the_limits (after_value the_limits value (InFault ∷ []) count) bs → Gives shown r (faulty_at (fault_of value) bs) → Comes one count (λ x. AReply (shown x)) r
+faulty_comes shown value count bs one (Ok x) e g = e ∙ run_faulty (fault_of value) count bs ∙ ap (on_faulty count) g
+faulty_comes shown value count bs one (Err stop) e g =
+    halts_with (on_faulty count) count one (faulty_at (fault_of value) bs) stop (λ left. refl) (e ∙ run_faulty (fault_of value) count bs) g
+
+pub with_flag : (read : Result (Bool × List ℕ) ℕ) (flag flag2 : Bool) (rest : List ℕ) → read ≡ Ok (flag, rest) → flag ≡ flag2 → read ≡ Ok (flag2, rest)
+with_flag read flag flag2 rest e f = e ∙ ap (λ (x : Bool). Ok (x, rest)) f

@@ -1,0 +1,10 @@
+mod Words
+mod Runs
+mod LetterLaws
+mod Texts
+mod Frames
+mod TextLaws
+mod StageLaws
+mod DocumentLaws
+mod LogLaws
+mod PlaceLaws

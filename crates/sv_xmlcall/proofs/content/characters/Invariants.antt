@@ -1,0 +1,16 @@
+use Rattle.std.proofs.Common.{◌≡◌, ◌≤◌, ◌++◌, List, ℕ, true, length}
+use Rattle.sv_xmlcall.specs.Characters.{are_letters}
+use Rattle.sv_xmlcall.specs.declared.letters.Letters.TheVariants.{OfXml}
+use Rattle.sv_xmlcall.specs.declared.letters.Awaits.TheVariants.{Character}
+use Rattle.sv_xmlcall.proofs.Texts.{Reaches}
+use Rattle.sv_xmlcall.proofs.content.characters.Given as goal
+
+abbrev pub invariant-loop-next : goal.invariant-loop-next
+invariant-loop-next l = record {
+  read : Reaches l.kept l.bytes l.value.items l.awaits l.rest;
+  letters : (tail : List ℕ) → are_letters OfXml l.awaits tail ≡ true → are_letters OfXml Character (l.value.items ++ tail) ≡ true;
+  shorter : length l.rest ≤ length l.bytes;
+}
+
+abbrev pub decreases-loop-next : goal.decreases-loop-next
+decreases-loop-next l = length l.rest

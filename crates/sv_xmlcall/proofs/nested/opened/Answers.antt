@@ -1,0 +1,5 @@
+use Rattle.sv_xmlcall.proofs.StageLaws.{opened_gives}
+use Rattle.sv_xmlcall.proofs.nested.opened.Goals as goal
+
+pub returns-clause-value : goal.returns-clause-value
+returns-clause-value c = opened_gives _ c.behind_white.result c.in_ok-white.white.items c.skip_white.result.now c.args.bytes.now c.in_ok-white.ensures c.skip_white.ensures.value c.behind_white.ensures.value

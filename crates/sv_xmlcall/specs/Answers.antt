@@ -1,0 +1,51 @@
+-- What the readers of whole texts answer.
+use Rattle.std.specs.Prelude.{ℕ, ◌≡◌, ◌-◌, List, [], ◌∷◌, Result, Ok, Err, nat_lt, if◌then◌else◌}
+use Rattle.sv_xmlcall.specs.Trees.{Trees, no_tree, call_view, reply_view}
+use Rattle.sv_xmlcall.specs.Spelled.{ACall, AReply}
+use Rattle.sv_xmlcall.specs.Machine.{Verdict, Read, NotRead, TooMany, TooDeep, AtCalled, AtParams, AtDone, AtValue, At, at, run, the_limits, InParam}
+use Rattle.sv_xmlcall.specs.Running.{Halts}
+use Rattle.sv_xmlcall.specs.declared.call.Call.{Call}
+use Rattle.sv_xmlcall.specs.declared.call.Answered.{Answered}
+use Rattle.sv_xmlcall.specs.declared.call.CallFault.{CallFault}
+use Rattle.sv_xmlcall.specs.declared.call.CallFault.TheVariants as fault
+use Rattle.sv_xmlcall.specs.declared.stop.Stop.{Stop}
+use Rattle.sv_xmlcall.specs.declared.stop.Stop.TheVariants as stop
+
+-- how a text goes on behind the params of a call of this method
+abbrev pub ReadsParams : {X : Type 0} → List ℕ → ℕ → List ℕ → ℕ → (X → Trees) → (X → List ℕ) → Result X Stop → Type 0
+ReadsParams method before bytes count params rest (Ok x) =
+    run the_limits (at (At (AtCalled method)) [] before) bytes
+    ≡ run the_limits (at (At (AtDone (ACall (record { method = method; params = params x })))) [] count) (rest x)
+ReadsParams method before bytes count params rest (Err stop) = Halts stop count (run the_limits (at (At (AtCalled method)) [] before) bytes)
+
+-- a verdict as a fault of a text of so many bytes
+abbrev pub FaultIs : CallFault → ℕ → Verdict → Type 0
+FaultIs (fault.NotACall place) size verdict = (left : ℕ) × ((verdict ≡ NotRead left) × (place ≡ size - left))
+FaultIs fault.TooManyValues size verdict = verdict ≡ TooMany
+FaultIs fault.TooDeep size verdict = verdict ≡ TooDeep
+FaultIs fault.OutOfMemory size verdict = Unit {0}
+
+abbrev pub ReadsCall : Verdict → ℕ → Result Call CallFault → Type 0
+ReadsCall verdict size (Ok call) = verdict ≡ Read (ACall (call_view call))
+ReadsCall verdict size (Err fault) = FaultIs fault size verdict
+
+abbrev pub ReadsReply : Verdict → ℕ → Result Answered CallFault → Type 0
+ReadsReply verdict size (Ok answered) = verdict ≡ Read (AReply (reply_view answered))
+ReadsReply verdict size (Err fault) = FaultIs fault size verdict
+
+abbrev pub faulted : Stop → ℕ → ℕ → CallFault
+faulted (stop.At left) opened size = if nat_lt 65536 opened then fault.TooManyValues else fault.NotACall (size - left)
+faulted stop.TooDeep opened size = fault.TooDeep
+faulted stop.OutOfMemory opened size = fault.OutOfMemory
+
+abbrev pub ReadsFurther : {X : Type 0} → List ℕ → ℕ → List ℕ → ℕ → (X → Trees) → (X → List ℕ) → Result X Stop → Type 0
+ReadsFurther method before bytes count params rest (Ok x) =
+    run the_limits (at (At (AtParams method no_tree)) [] before) bytes
+    ≡ run the_limits (at (At (AtDone (ACall (record { method = method; params = params x })))) [] count) (rest x)
+ReadsFurther method before bytes count params rest (Err stop) = Halts stop count (run the_limits (at (At (AtParams method no_tree)) [] before) bytes)
+
+-- how a text goes on behind one more param
+abbrev pub ReadsOne : {X : Type 0} → List ℕ → Trees → ℕ → List ℕ → ℕ → (X → Trees) → (X → List ℕ) → Result X Stop → Type 0
+ReadsOne method params before bytes count more rest (Ok x) =
+    run the_limits (at (At AtValue) (InParam method params ∷ []) before) bytes ≡ run the_limits (at (At (AtParams method (more x))) [] count) (rest x)
+ReadsOne method params before bytes count more rest (Err stop) = Halts stop count (run the_limits (at (At AtValue) (InParam method params ∷ []) before) bytes)

@@ -1,0 +1,14 @@
+pub mod Answers
+pub mod Atoms
+pub mod Characters
+pub mod Documents
+pub mod Machine
+pub mod Outcome
+pub mod Reading
+pub mod Running
+pub mod Spelled
+pub mod Stages
+pub mod Tags
+pub mod Trees
+pub mod Turns
+pub mod Written

@@ -1,0 +1,37 @@
+use crate::value::Value;
+use sv_base::text::Text;
+use thiserror::Error;
+
+/// A call of a method.
+#[derive(Drop)]
+pub struct Call {
+    pub method: Text,
+    pub params: Vec<Value>,
+}
+
+/// What a call is answered.
+#[derive(Drop)]
+pub enum Answered {
+    /// The value of the method.
+    Value(Value),
+    /// A fault: its number and its text.
+    Fault(i64, Text),
+}
+
+/// Why a text is no call, or no reply. The good front of a text is its longest front with which a text that spells
+/// something begins. The causes are tried in the order given here.
+#[derive(Clone, Copy, Debug, PartialEq, Eq, Error)]
+pub enum CallFault {
+    /// The good front opens a value inside 32 others.
+    #[error("2 TooDeep")]
+    TooDeep,
+    /// The good front opens more than 65,536 values.
+    #[error("3 TooManyValues")]
+    TooManyValues,
+    /// Nothing is spelled. The number is the length of the good front in bytes.
+    #[error("1 NotACall {0}")]
+    NotACall(usize),
+    /// There was no memory left for the answer.
+    #[error("out of memory")]
+    OutOfMemory,
+}

@@ -1,0 +1,210 @@
+ghost use Rattle.std.specs.Prelude.{◌≡◌, ◌++◌, ◌<◌, ◌≤◌, [], length, true, false, Bool, IfOk, IfSome, OnOk, IsUtf8, IsTrue};
+ghost use Rattle.sv_xmlcall.specs.Characters.{is_allowed, are_letters};
+ghost use Rattle.std.specs.Char.{encode_utf8};
+ghost use Rattle.std.specs.Option.{option_map};
+ghost use Rattle.sv_xmlcall.specs.declared.letters.Letters.TheVariants.{OfXml};
+ghost use Rattle.sv_xmlcall.specs.declared.letters.Awaits.{Awaits};
+ghost use Rattle.sv_xmlcall.specs.Machine.{is_digit, digit_value};
+ghost use Rattle.sv_xmlcall.specs.Outcome.{Gives};
+ghost use Rattle.sv_xmlcall.specs.Reading.{numeral_at, numbered_at, entity_at, piece_at, text_at, content_at, method_at};
+
+use crate::atoms::shut;
+use crate::letters::{Awaits, Letters};
+use crate::stop::Stop;
+use crate::tag::{Tag, next_tag};
+use std::alloc::{AllocError, Global};
+use sv_base::text::Text;
+
+/// The greatest number of a character.
+const LAST: u32 = 1_114_111;
+
+/// Whether XML allows the character of this number (XML 1.0, production 2).
+fn is_allowed(number: u32) -> bool
+    ensures { result ≡ is_allowed number }
+{
+    number == 9
+        || number == 10
+        || number == 13
+        || 32 <= number && number <= 55_295
+        || 57_344 <= number && number <= 65_533
+        || 65_536 <= number && number <= LAST
+}
+
+fn is_digit(hex: bool, byte: u8) -> bool
+    ensures { result ≡ is_digit hex byte }
+{
+    byte.is_ascii_digit() || hex && (b'A' <= byte && byte <= b'F' || b'a' <= byte && byte <= b'f')
+}
+
+fn digit_value(byte: u8) -> u8
+    requires { (hex : Bool) × IsTrue (is_digit hex byte) }
+    ensures { result ≡ digit_value byte }
+{
+    if byte <= b'9' {
+        byte - b'0'
+    } else if byte <= b'F' {
+        byte - 55
+    } else {
+        byte - 87
+    }
+}
+
+/// Reads the number of an entity and its semicolon, and gives the character.
+fn numeral(hex: bool, bytes: &[u8]) -> Result<(char, &[u8]), Stop>
+    ensures value { Gives (λ x. (x.0, x.1.now)) result (numeral_at hex false 0 bytes.now) }
+    ensures shorter { IfOk result (λ x. length x.1.now < length bytes.now) }
+{
+    let mut number: u32 = 0;
+    let mut seen = false;
+    let mut rest = bytes;
+    while let [byte, after @ ..] = rest {
+        if is_digit(hex, *byte) {
+            let more = number * (if hex { 16 } else { 10 }) + u32::from(digit_value(*byte));
+            if more > LAST {
+                return Err(Stop::At(rest.len()));
+            }
+            number = more;
+            seen = true;
+            rest = after;
+        } else if *byte == b';' && seen && is_allowed(number) {
+            return match char::from_u32(number) {
+                Some(character) => Ok((character, after)),
+                None => Err(Stop::At(rest.len())),
+            };
+        } else {
+            return Err(Stop::At(rest.len()));
+        }
+    }
+    Err(Stop::At(0))
+}
+
+/// Reads what follows the `&#` of an entity.
+fn numbered(bytes: &[u8]) -> Result<(char, &[u8]), Stop>
+    ensures value { Gives (λ x. (x.0, x.1.now)) result (numbered_at bytes.now) }
+    ensures shorter { IfOk result (λ x. length x.1.now < length bytes.now) }
+{
+    match bytes {
+        [b'x', rest @ ..] => numeral(true, rest),
+        _ => numeral(false, bytes),
+    }
+}
+
+/// Reads an entity, and gives its character.
+#[tactic(auto, unfolding(crate::specs::Reading::entity_at))]
+fn entity(bytes: &[u8]) -> Result<(char, &[u8]), Stop>
+    ensures value { Gives (λ x. (x.0, x.1.now)) result (entity_at bytes.now) }
+    ensures shorter { IfOk result (λ x. length x.1.now < length bytes.now) }
+{
+    let (tag, rest) = next_tag(
+        &[
+            Tag::Ampersand,
+            Tag::Less,
+            Tag::Greater,
+            Tag::Quote,
+            Tag::Apostrophe,
+            Tag::Numbered,
+        ],
+        bytes,
+    )?;
+    match tag {
+        Tag::Ampersand => Ok(('&', rest)),
+        Tag::Less => Ok(('<', rest)),
+        Tag::Greater => Ok(('>', rest)),
+        Tag::Quote => Ok(('"', rest)),
+        Tag::Apostrophe => Ok(('\'', rest)),
+        _ => numbered(rest),
+    }
+}
+
+/// Reads a character or an entity, adds it to those that were kept, and gives what may come then and what follows; at
+/// the `<` that ends the text it gives none.
+#[tactic(auto, unfolding(crate::specs::Reading::piece_at))]
+fn piece<'a>(
+    kept: &mut Vec<u8>,
+    awaits: Awaits,
+    bytes: &'a [u8],
+) -> Result<Option<(Awaits, &'a [u8])>, Stop>
+    ensures value { Gives (λ o. (kept.new.items, option_map (λ x. (x.0, x.1.now)) o)) result (piece_at kept.old.items awaits bytes.now) }
+    ensures shorter { IfOk result (λ o. IfSome o (λ x. length x.1.now < length bytes.now)) }
+{
+    match bytes {
+        [] => Err(Stop::At(0)),
+        [b'<', ..] if awaits == Awaits::Character => Ok(None),
+        [b'&', ..] if awaits == Awaits::Character => {
+            let (character, rest) = entity(bytes)?;
+            put_character(kept, character)?;
+            Ok(Some((Awaits::Character, rest)))
+        }
+        [byte, rest @ ..]
+            if *byte != b'<' && *byte != b'&' && awaits.allows(Letters::OfXml, *byte) => {
+            kept.push(*byte)?;
+            Ok(Some((awaits.after(Letters::OfXml, *byte), rest)))
+        }
+        _ => Err(Stop::At(bytes.len())),
+    }
+}
+
+/// Reads characters up to the `<` that ends the text, and gives them behind those that were kept.
+#[tactic(auto, using(crate::proofs::Texts::reaches_begin_at, crate::proofs::Texts::reaches_more, crate::proofs::Texts::reaches_end, crate::proofs::Texts::reaches_bad, crate::proofs::Texts::piece_open, crate::proofs::Texts::whole_utf8))]
+pub fn characters<'a>(alloc: Global, kept: &[u8], bytes: &'a [u8]) -> Result<(Text, &'a [u8]), Stop>
+    requires { IsTrue (are_letters OfXml Awaits.Character kept.now) }
+    ensures value { Gives (λ x. (x.0, x.1.now)) result (text_at kept.now bytes.now) }
+    ensures shorter { IfOk result (λ x. length x.1.now ≤ length bytes.now) }
+{
+    let mut value = Vec::from_slice(alloc, kept)?;
+    let mut awaits = Awaits::Character;
+    let mut rest = bytes;
+    loop {
+        match piece(&mut value, awaits, rest) {
+            Ok(Some((next, behind))) => {
+                awaits = next;
+                rest = behind;
+            }
+            Ok(None) => return Ok((text_of(value), rest)),
+            Err(stop) => return Err(stop),
+        }
+    }
+}
+
+fn put_character(out: &mut Vec<u8>, character: char) -> Result<(), AllocError>
+    ensures { OnOk result (out.new.items ≡ out.old.items ++ encode_utf8 character) }
+{
+    let mut buffer = [0; 4];
+    out.extend_from_slice(character.encode_utf8(&mut buffer).as_bytes())
+}
+
+/// The text of these bytes, which are UTF-8.
+pub fn text_of(bytes: Vec<u8>) -> Text
+    requires { IsUtf8 bytes.items }
+    ensures { result ≡ bytes.items }
+{
+    match String::from_utf8(bytes) {
+        Ok(text) => Text::from_string(text),
+        Err(_) => unreachable!(),
+    }
+}
+
+/// Reads a text and its closing tag.
+#[tactic(auto, unfolding(crate::specs::Reading::content_at))]
+pub fn content(alloc: Global, end: Tag, bytes: &[u8]) -> Result<(Text, &[u8]), Stop>
+    ensures value { Gives (λ x. (x.0, x.1.now)) result (content_at end bytes.now) }
+    ensures shorter { IfOk result (λ x. length x.1.now < length bytes.now) }
+{
+    let (text, rest) = characters(alloc, b"", bytes)?;
+    let rest = shut(end, rest)?;
+    Ok((text, rest))
+}
+
+/// Reads the name of a method behind its opening tag, and the closing tag.
+#[tactic(auto, unfolding(crate::specs::Reading::method_at))]
+pub fn method_name(alloc: Global, bytes: &[u8]) -> Result<(Text, &[u8]), Stop>
+    ensures value { Gives (λ x. (x.0, x.1.now)) result (method_at bytes.now) }
+    ensures shorter { IfOk result (λ x. length x.1.now < length bytes.now) }
+{
+    let (method, rest) = characters(alloc, b"", bytes)?;
+    if method.as_str().as_bytes().is_empty() {
+        return Err(Stop::At(rest.len()));
+    }
+    let rest = shut(Tag::EndMethodName, rest)?;
+    Ok((method, rest))
+}

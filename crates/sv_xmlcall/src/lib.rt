@@ -1,0 +1,23 @@
+//! The texts of XML-RPC, read and written: `specs/Machine.antt` says how a text is read byte by byte, which call or
+//! reply it comes to, and where it is refused; `specs/Written.antt` says which one text is written for a call or a
+//! reply. Nesting and the number of values are bounded while a text is read, before anything is built beyond them.
+#![tactic(auto)]
+
+mod atoms;
+pub mod call;
+mod content;
+mod document;
+mod integer;
+pub mod laws;
+mod letters;
+pub mod log;
+mod nested;
+pub mod read;
+mod stop;
+#[cfg(test)]
+mod tables;
+mod tag;
+#[cfg(test)]
+mod tests;
+pub mod value;
+pub mod write;

@@ -1,0 +1,31 @@
+ghost use Rattle.std.specs.Prelude.{◌≡◌};
+ghost use Rattle.sv_xmlcall.specs.declared.stop.Stop.{Stop};
+
+use std::alloc::{AllocError, AllocFailed};
+
+/// Why reading stops within a text.
+#[derive(Clone, Copy, Debug, PartialEq, Eq)]
+pub enum Stop {
+    /// At the first byte with which no text goes on: the number of bytes from it to the end.
+    At(usize),
+    /// Before a value inside too many others.
+    TooDeep,
+    /// Out of memory.
+    OutOfMemory,
+}
+
+impl From<AllocError> for Stop {
+    ghost from_gives = { λ error stop. stop ≡ Stop.OutOfMemory };
+
+    fn from(_error: AllocError) -> Stop {
+        Stop::OutOfMemory
+    }
+}
+
+impl<T: Drop> From<AllocFailed<T>> for Stop {
+    ghost from_gives = { λ error stop. stop ≡ Stop.OutOfMemory };
+
+    fn from(_error: AllocFailed<T>) -> Stop {
+        Stop::OutOfMemory
+    }
+}
