@@ -99,6 +99,7 @@ pub struct Draft {
 
 // For all processes of a program in a group.
 
+/// How many processes the section stands for in a group.
 pub fn numprocs(
     alloc: Global,
     keys: &[(Text, Text)],
@@ -109,6 +110,7 @@ pub fn numprocs(
     rows::number(alloc, Key::Numprocs, Count::new(1).unwrap(), keys, names)
 }
 
+/// The number of the first of them.
 pub fn numprocs_start(
     alloc: Global,
     keys: &[(Text, Text)],
@@ -119,6 +121,7 @@ pub fn numprocs_start(
     rows::number(alloc, Key::NumprocsStart, Start::least(), keys, names)
 }
 
+/// The priority of a section; that of a listener is lower by default.
 pub fn priority(
     alloc: Global,
     listener: bool,

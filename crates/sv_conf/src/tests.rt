@@ -323,16 +323,26 @@ fn log_said(alloc: Global, log: &LogSpec) -> Result<String, AllocError> {
     format!(in alloc; "{file} {maxbytes} {backups} {capture} {events}")
 }
 
+fn words_said(alloc: Global, spec: &Spec) -> Result<String, AllocError> {
+    let mut said = String::new(alloc);
+    for word in spec.words.as_slice() {
+        said.push_str(word.as_str())?;
+        said.push('|')?;
+    }
+    Ok(said)
+}
+
+fn codes_said(alloc: Global, spec: &Spec) -> Result<String, AllocError> {
+    let mut said = String::new(alloc);
+    for code in spec.exitcodes.as_slice() {
+        said.push_str(format!(in alloc; "{},", *code)?.as_str())?;
+    }
+    Ok(said)
+}
+
 pub fn spec_said(alloc: Global, spec: &Spec, question: &str) -> Result<String, AllocError> {
     match question {
-        "words" => {
-            let mut said = String::new(alloc);
-            for word in spec.words.as_slice() {
-                said.push_str(word.as_str())?;
-                said.push('|')?;
-            }
-            Ok(said)
-        }
+        "words" => words_said(alloc, spec),
         "name" => String::from_str(alloc, spec.name.as_str()),
         "priority" => format!(in alloc; "{}", spec.priority),
         "autostart" => format!(in alloc; "{}", spec.autostart),
@@ -340,13 +350,7 @@ pub fn spec_said(alloc: Global, spec: &Spec, question: &str) -> Result<String, A
         "startretries" => format!(in alloc; "{}", spec.startretries.get()),
         "stopwaitsecs" => format!(in alloc; "{}", spec.stopwaitsecs.get()),
         "autorestart" => format!(in alloc; "{:?}", spec.autorestart),
-        "exitcodes" => {
-            let mut said = String::new(alloc);
-            for code in spec.exitcodes.as_slice() {
-                said.push_str(format!(in alloc; "{},", *code)?.as_str())?;
-            }
-            Ok(said)
-        }
+        "exitcodes" => codes_said(alloc, spec),
         "stopsignal" => String::from_str(alloc, spec.stopsignal.name()),
         "stopasgroup" => format!(in alloc; "{}", spec.stopasgroup),
         "killasgroup" => format!(in alloc; "{}", spec.killasgroup),
