@@ -1,6 +1,0 @@
-pub mod Boundaries
-pub mod Drafts
-pub mod Folds
-pub mod Parts
-pub mod Places
-pub mod Words
