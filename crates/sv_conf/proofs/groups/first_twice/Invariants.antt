@@ -1,0 +1,10 @@
+use Rattle.std.proofs.Common.{◌≡◌, ◌++◌, ◌≤◌, ◌+◌, [], length, map, Ok}
+use Rattle.std.proofs.Common.{take, drop}
+use Rattle.sv_conf.specs.Configuration.{first_twice}
+use Rattle.sv_conf.proofs.groups.first_twice.Given as goal
+
+abbrev pub invariant-loop-left : goal.invariant-loop-left
+invariant-loop-left l = record { same : first_twice (take l.place l.members) l.left ≡ first_twice [] l.members; rest : l.left ≡ drop l.place l.members; few : l.place + length l.left ≡ length l.members }
+
+abbrev pub decreases-loop-left : goal.decreases-loop-left
+decreases-loop-left l = length l.left

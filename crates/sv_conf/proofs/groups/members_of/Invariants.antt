@@ -1,0 +1,6 @@
+use Rattle.std.proofs.Common.{◌≡◌, ◌++◌, ◌≤◌, ◌+◌, [], length, map, Ok}
+use Rattle.sv_conf.specs.Configuration.{members_of}
+use Rattle.sv_conf.proofs.groups.members_of.Given as goal
+
+abbrev pub invariant-loop-part : goal.invariant-loop-part
+invariant-loop-part l = l.members ≡ members_of l.yielded

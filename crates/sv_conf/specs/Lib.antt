@@ -1,0 +1,16 @@
+pub mod Chunks
+pub mod Configuration
+pub mod Cuts
+pub mod Environments
+pub mod FaultTexts
+pub mod Homes
+pub mod Includes
+pub mod Judged
+pub mod KeyNames
+pub mod KeyTable
+pub mod KnownNames
+pub mod Processes
+pub mod ProgramNames
+pub mod Rows
+pub mod ServerSections
+pub mod Values

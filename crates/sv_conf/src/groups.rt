@@ -1,0 +1,308 @@
+ghost use Rattle.std.specs.Prelude.{◌≡◌, ◌++◌, ◌≤◌, [], IfOk, OnOk, List, ℤ, ℕ, map, length, codes};
+ghost use Rattle.sv_conf.specs.ProgramNames.{titled};
+ghost use Rattle.std.specs.List.{find, list_any, prefix_len};
+ghost use Rattle.std.specs.Option.{option_map};
+ghost use Rattle.std.specs.Ordering.{is_lt};
+ghost use Rattle.std.specs.Str.{bytes_eq};
+ghost use Rattle.sv_base.specs.Order.{start_order};
+ghost use Rattle.sv_base.specs.declared.spec.GroupSpec.{GroupSpec};
+ghost use Rattle.sv_base.specs.declared.spec.Spec.{Spec};
+ghost use Rattle.sv_conf.specs.Configuration.{is_program, is_missing, missing_in, members_of, group_at, groups_by, groups_from, all_groups, twice_at, first_twice, twice_in, each_once, placed, sorted_from, sorted_members, with_sorted, sorted_groups};
+
+use crate::fault::ConfFault;
+use crate::key::Key;
+use crate::programs::named_section;
+use crate::server::{Decided, is_set, missing, or_section_fault};
+use crate::table::priority;
+use crate::titles::titled;
+use crate::{names, rows};
+use std::alloc::{AllocError, Global};
+use sv_base::config::Host;
+use sv_base::items::Items;
+use sv_base::ranked::{Ranked, start_order};
+use sv_base::spec::{GroupSpec, Spec};
+use sv_base::text::Text;
+use sv_expand::names::Names;
+use sv_ini::section::Section;
+
+fn is_program(sections: &[Section], program: &str) -> bool
+    ensures { result ≡ is_program sections.now program.now }
+{
+    sections
+        .iter()
+        .any(|section| is_titled(section.name.as_str(), program))
+}
+
+fn is_titled(title: &str, program: &str) -> bool
+    ensures { result ≡ bytes_eq title.now (codes "program:" ++ program.now) }
+{
+    match titled("program", title) {
+        Some(name) => name == program,
+        None => false,
+    }
+}
+
+fn missing_in(
+    alloc: Global,
+    sections: &[Section],
+    group: &str,
+    programs: &[Text],
+) -> Result<Decided<bool>, AllocError>
+    ensures { IfOk result (λ good. good ≡ missing_in group.now (find (is_missing sections.now) programs.now)) }
+{
+    let mut left = programs;
+    while let [program, rest @ ..] = left {
+        if !is_program(sections, program.as_str()) {
+            return Ok(Err(ConfFault::NoSuchProgram(
+                Text::from_str(alloc, group)?,
+                program.clone()?,
+            )));
+        }
+        left = rest;
+    }
+    Ok(Ok(true))
+}
+
+fn members_of(alloc: Global, parts: Items<GroupSpec>) -> Result<Items<Spec>, AllocError>
+    ensures { IfOk result (λ members. members ≡ members_of parts) }
+{
+    let mut members = Items::new(alloc);
+    for part in parts.into_vec() {
+        add_members(&mut members, part.members)?;
+    }
+    Ok(members)
+}
+
+fn add_members(members: &mut Items<Spec>, more: Items<Spec>) -> Result<(), AllocError>
+    ensures { OnOk result (members.new ≡ members.old ++ more) }
+{
+    for member in more.into_vec() {
+        members.push(member)?;
+    }
+    Ok(())
+}
+
+#[tactic(auto, unfolding(crate::specs::Configuration::group_at))]
+fn group_at(
+    alloc: Global,
+    sections: &[Section],
+    names: &Names,
+    title: &str,
+    group: &str,
+    keys: &[(Text, Text)],
+    parts: Items<GroupSpec>,
+) -> Result<Decided<GroupSpec>, AllocError>
+    ensures { IfOk result (λ made. made ≡ group_at sections.now names.now title.now group.now keys.now parts) }
+{
+    if !is_set(Key::Programs, keys) {
+        return Ok(Err(missing(alloc, title, Key::Programs)?));
+    }
+    match named_section(alloc, title, group)? {
+        Ok(_) => {}
+        Err(fault) => return Ok(Err(fault)),
+    }
+    let programs = rows::programs(alloc, Key::Programs, keys, names)?;
+    let programs = match or_section_fault(alloc, title, programs)? {
+        Ok(programs) => programs,
+        Err(fault) => return Ok(Err(fault)),
+    };
+    let priority = priority(alloc, false, keys, names)?;
+    let priority = match or_section_fault(alloc, title, priority)? {
+        Ok(priority) => priority,
+        Err(fault) => return Ok(Err(fault)),
+    };
+    match missing_in(alloc, sections, group, programs.as_slice())? {
+        Ok(_) => Ok(Ok(GroupSpec {
+            name: Text::from_str(alloc, group)?,
+            priority,
+            members: members_of(alloc, parts)?,
+            pool: None,
+        })),
+        Err(fault) => Ok(Err(fault)),
+    }
+}
+
+/// The groups that a section makes, behind those of the sections before it.
+#[tactic(auto, unfolding(crate::specs::Configuration::groups_by))]
+fn groups_by(
+    alloc: Global,
+    sections: &[Section],
+    names: &Names,
+    section: &Section,
+    parts: Items<GroupSpec>,
+) -> Result<Decided<Items<GroupSpec>>, AllocError>
+    ensures { IfOk result (λ made. made ≡ groups_by sections.now names.now section.now parts (titled (codes "group") section.now.name)) }
+{
+    let title = section.name.as_str();
+    let keys = section.keys.as_slice();
+    match titled("group", title) {
+        None => Ok(Ok(parts)),
+        Some(group) => match group_at(alloc, sections, names, title, group, keys, parts)? {
+            Ok(made) => {
+                let mut groups = Items::new(alloc);
+                groups.push(made)?;
+                Ok(Ok(groups))
+            }
+            Err(fault) => Ok(Err(fault)),
+        },
+    }
+}
+
+/// The groups that the sections make, in their order.
+#[tactic(auto, unfolding(crate::specs::Configuration::all_groups))]
+pub fn all_groups(
+    alloc: Global,
+    host: &Host,
+    sections: &[Section],
+    parts: Items<Items<GroupSpec>>,
+) -> Result<Decided<Items<GroupSpec>>, AllocError>
+    ensures { IfOk result (λ groups. groups ≡ all_groups host.now sections.now parts) }
+{
+    let names = names::host_names(alloc, host)?;
+    let mut groups = Items::new(alloc);
+    let mut there = parts.into_vec().into_iter();
+    let mut left = sections;
+    while let [section, rest @ ..] = left {
+        let Some(part) = there.next() else {
+            return Ok(Ok(groups));
+        };
+        match groups_by(alloc, sections, &names, section, part)? {
+            Ok(made) => add_groups(&mut groups, made)?,
+            Err(fault) => return Ok(Err(fault)),
+        }
+        left = rest;
+    }
+    Ok(Ok(groups))
+}
+
+fn add_groups(groups: &mut Items<GroupSpec>, more: Items<GroupSpec>) -> Result<(), AllocError>
+    ensures { OnOk result (groups.new ≡ groups.old ++ more) }
+{
+    for group in more.into_vec() {
+        groups.push(group)?;
+    }
+    Ok(())
+}
+
+fn is_named(members: &[Spec], name: &str) -> bool
+    ensures { result ≡ list_any (λ (other : Spec). bytes_eq other.name name.now) members.now }
+{
+    members.iter().any(|member| member.name.as_str() == name)
+}
+
+fn is_group(groups: &[GroupSpec], name: &str) -> bool
+    ensures { result ≡ list_any (λ (other : GroupSpec). bytes_eq other.name name.now) groups.now }
+{
+    groups.iter().any(|group| group.name.as_str() == name)
+}
+
+/// The first process that has the name of one before it.
+#[tactic(auto, using(crate::proofs::Folds::taken_more, crate::proofs::Folds::dropped_more))]
+fn first_twice(members: &[Spec]) -> Option<&Text>
+    ensures { option_map (λ x. x.now) result ≡ first_twice [] members.now }
+{
+    let mut place = 0;
+    let mut left = members;
+    while let [member, rest @ ..] = left {
+        match twice_at(&members[..place], member) {
+            Some(name) => return Some(name),
+            None => {}
+        }
+        place += 1;
+        left = rest;
+    }
+    None
+}
+
+#[tactic(auto, unfolding(crate::specs::Configuration::twice_at))]
+fn twice_at<'a>(before: &[Spec], member: &'a Spec) -> Option<&'a Text>
+    ensures { option_map (λ x. x.now) result ≡ twice_at before.now member.now }
+{
+    if is_named(before, member.name.as_str()) {
+        Some(&member.name)
+    } else {
+        None
+    }
+}
+
+#[tactic(auto, unfolding(crate::specs::Configuration::twice_in))]
+fn twice_in<'a>(before: &[GroupSpec], group: &'a GroupSpec) -> Option<&'a Text>
+    ensures { option_map (λ x. x.now) result ≡ twice_in before.now group.now }
+{
+    if is_group(before, group.name.as_str()) {
+        return Some(&group.name);
+    }
+    first_twice(group.members.as_slice())
+}
+
+/// Whether each name stands once, or the first that stands twice as a fault.
+#[tactic(auto, using(crate::proofs::Folds::taken_more, crate::proofs::Folds::dropped_more))]
+pub fn each_once(groups: &[GroupSpec]) -> Result<Decided<bool>, AllocError>
+    ensures { IfOk result (λ once. once ≡ each_once [] groups.now) }
+{
+    let mut place = 0;
+    let mut left = groups;
+    while let [group, rest @ ..] = left {
+        match twice_in(&groups[..place], group) {
+            Some(name) => return Ok(Err(ConfFault::TwiceNamed(name.clone()?))),
+            None => {}
+        }
+        place += 1;
+        left = rest;
+    }
+    Ok(Ok(true))
+}
+
+/// How many of these start before this one.
+fn place_for<T: Ranked>(done: &[T], one: &T) -> usize
+    ensures value { result ≡ prefix_len (λ other. is_lt (start_order T.priority_of T.name_of other one.now)) done.now }
+    ensures within { result ≤ length done.now }
+{
+    done.iter()
+        .take_while(|other| start_order(*other, one).is_lt())
+        .count()
+}
+
+#[tactic(auto, unfolding(crate::specs::Configuration::placed))]
+fn place<T: Ranked + Drop>(done: &mut Vec<T>, one: T) -> Result<(), AllocError>
+    ensures { OnOk result (done.new.items ≡ placed T.priority_of T.name_of done.old.items one) }
+{
+    let place = place_for(done.as_slice(), &one);
+    done.insert(place, one)?;
+    Ok(())
+}
+
+#[tactic(auto, using(crate::proofs::Folds::sorted_more))]
+fn sorted<T: Ranked + Drop>(alloc: Global, items: Items<T>) -> Result<Vec<T>, AllocError>
+    ensures { IfOk result (λ sorted. sorted.items ≡ sorted_from T.priority_of T.name_of [] items) }
+{
+    let mut done = Vec::new(alloc);
+    for one in items.into_vec() {
+        place(&mut done, one)?;
+    }
+    Ok(done)
+}
+
+#[tactic(auto, unfolding(crate::specs::Configuration::with_sorted))]
+fn with_sorted(alloc: Global, group: GroupSpec) -> Result<GroupSpec, AllocError>
+    ensures { IfOk result (λ made. made ≡ with_sorted group) }
+{
+    Ok(GroupSpec {
+        name: group.name,
+        priority: group.priority,
+        members: Items::from_vec(sorted(alloc, group.members)?),
+        pool: group.pool,
+    })
+}
+
+/// The groups in start order, each with its members in start order.
+#[tactic(auto, unfolding(crate::specs::Configuration::sorted_groups))]
+pub fn sorted_groups(alloc: Global, groups: Items<GroupSpec>) -> Result<Vec<GroupSpec>, AllocError>
+    ensures { IfOk result (λ sorted. sorted.items ≡ sorted_groups groups) }
+{
+    let mut made = Items::new(alloc);
+    for group in groups.into_vec() {
+        made.push(with_sorted(alloc, group)?)?;
+    }
+    sorted(alloc, made)
+}

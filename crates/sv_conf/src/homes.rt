@@ -1,0 +1,179 @@
+ghost use Rattle.std.specs.Prelude.{◌≡◌, ◌++◌, ◌+◌, ◌≤◌, IfOk, OnOk, length};
+ghost use Rattle.sv_conf.specs.Homes.{named_by, named_in, all_named, homes_in, homes_from, own_home, or_own, homes_of, with_part, with_parts};
+ghost use Rattle.std.specs.Option.{option_map};
+ghost use Rattle.std.specs.Prelude.{[], ◌∷◌};
+ghost use Rattle.sv_conf.specs.KeyTable.{or_default};
+
+use crate::judged::Judged;
+use crate::key::Key;
+use crate::titles::titled;
+use crate::{names, rows};
+use std::alloc::{AllocError, Global};
+use sv_base::config::Host;
+use sv_base::items::Items;
+use sv_base::spec::GroupSpec;
+use sv_base::text::Text;
+use sv_expand::names::Names;
+use sv_ini::section::Section;
+
+/// What a section names as a group; nothing where it isn't one.
+#[derive(Debug, Drop)]
+pub struct Named {
+    pub group: Text,
+    pub programs: Items<Text>,
+}
+
+/// A group that a program belongs to: the place of the section that makes it, and its name.
+#[derive(Debug, Drop)]
+pub struct Home {
+    pub place: usize,
+    pub group: Text,
+}
+
+/// The processes of a section in a group, and the place of the section that makes the group.
+#[derive(Debug, Drop)]
+pub struct Part {
+    pub place: usize,
+    pub group: GroupSpec,
+}
+
+fn named_by(
+    alloc: Global,
+    group: Option<&str>,
+    programs: Judged<Items<Text>>,
+) -> Result<Named, AllocError>
+    ensures { IfOk result (λ named. named ≡ named_by (option_map (λ x. x.now) group.entry) programs) }
+{
+    match group {
+        None => Ok(Named {
+            group: Text::fixed(""),
+            programs: Items::new(alloc),
+        }),
+        Some(group) => Ok(Named {
+            group: Text::from_str(alloc, group)?,
+            programs: or_none(alloc, programs),
+        }),
+    }
+}
+
+fn or_none(alloc: Global, programs: Judged<Items<Text>>) -> Items<Text>
+    ensures { result ≡ or_default [] programs }
+{
+    match programs {
+        Ok(programs) => programs,
+        Err(_) => Items::new(alloc),
+    }
+}
+
+#[tactic(auto, unfolding(crate::specs::Homes::named_in))]
+fn named_in(alloc: Global, names: &Names, section: &Section) -> Result<Named, AllocError>
+    ensures { IfOk result (λ named. named ≡ named_in names.now section.now) }
+{
+    let programs = rows::programs(alloc, Key::Programs, section.keys.as_slice(), names)?;
+    named_by(alloc, titled("group", section.name.as_str()), programs)
+}
+
+/// What each of these sections names as a group.
+#[tactic(auto, unfolding(crate::specs::Homes::all_named))]
+pub fn all_named(
+    alloc: Global,
+    host: &Host,
+    sections: &[Section],
+) -> Result<Items<Named>, AllocError>
+    ensures { IfOk result (λ named. named ≡ all_named host.now sections.now) }
+{
+    let names = names::host_names(alloc, host)?;
+    let mut named = Items::new(alloc);
+    let mut left = sections;
+    while let [section, rest @ ..] = left {
+        named.push(named_in(alloc, &names, section)?)?;
+        left = rest;
+    }
+    Ok(named)
+}
+
+fn homes_in(
+    alloc: Global,
+    homes: &mut Items<Home>,
+    place: usize,
+    program: &str,
+    named: &Named,
+) -> Result<(), AllocError>
+    ensures { OnOk result (homes.new ≡ homes.old ++ homes_in place program.now named.now.group named.now.programs) }
+{
+    let mut left = named.programs.as_slice();
+    while let [name, rest @ ..] = left {
+        if name.as_str() == program {
+            homes.push(Home {
+                place,
+                group: named.group.clone()?,
+            })?;
+        }
+        left = rest;
+    }
+    Ok(())
+}
+
+/// The groups of the program whose section has this place.
+#[tactic(auto, unfolding(crate::specs::Homes::homes_of))]
+pub fn homes_of(
+    alloc: Global,
+    place: usize,
+    program: &str,
+    named: &[Named],
+) -> Result<Items<Home>, AllocError>
+    ensures { IfOk result (λ homes. homes ≡ homes_of place program.now named.now) }
+{
+    let homes = homes_from(alloc, program, named)?;
+    if homes.as_slice().is_empty() {
+        return own_home(alloc, place, program);
+    }
+    Ok(homes)
+}
+
+fn homes_from(alloc: Global, program: &str, named: &[Named]) -> Result<Items<Home>, AllocError>
+    ensures { IfOk result (λ homes. homes ≡ homes_from 0 program.now named.now) }
+{
+    let mut homes = Items::new(alloc);
+    let mut place = 0;
+    let mut left = named;
+    while let [one, rest @ ..] = left {
+        homes_in(alloc, &mut homes, place, program, one)?;
+        place += 1;
+        left = rest;
+    }
+    Ok(homes)
+}
+
+/// The group that a section makes for itself alone.
+pub fn own_home(alloc: Global, place: usize, program: &str) -> Result<Items<Home>, AllocError>
+    ensures { IfOk result (λ homes. homes ≡ own_home place program.now ∷ []) }
+{
+    let mut homes = Items::new(alloc);
+    homes.push(Home {
+        place,
+        group: Text::from_str(alloc, program)?,
+    })?;
+    Ok(homes)
+}
+
+/// Adds parts to those of their groups.
+#[tactic(auto, using(crate::proofs::Folds::parts_more))]
+pub fn put_parts(parts: &mut Vec<Items<GroupSpec>>, more: Items<Part>) -> Result<(), AllocError>
+    ensures { OnOk result (parts.new.items ≡ with_parts parts.old.items more) }
+{
+    for part in more.into_vec() {
+        put_part(parts, part)?;
+    }
+    Ok(())
+}
+
+fn put_part(parts: &mut Vec<Items<GroupSpec>>, part: Part) -> Result<(), AllocError>
+    ensures { OnOk result (parts.new.items ≡ with_part parts.old.items part) }
+{
+    if part.place < parts.as_slice().len() {
+        let there = &mut parts[part.place];
+        there.push(part.group)?;
+    }
+    Ok(())
+}
