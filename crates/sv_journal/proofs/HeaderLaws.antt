@@ -1,5 +1,5 @@
 -- Each line that is read as a header is the line of that header, and the line of each header is read as it.
-use Rattle.std.proofs.Common.{◌≡◌, ℕ, ◌≤◌, List, [], ◌++◌, Result, Ok, None, refl, sym, ap, ◌∙◌, subst, arith, append_assoc, append-nil}
+use Rattle.std.proofs.Common.{◌≡◌, ℕ, zero, suc, ◌+◌, ◌≤◌, List, [], ◌∷◌, ◌++◌, Result, Ok, None, IsUtf8, refl, sym, ap, ◌∙◌, subst, arith, append_assoc, append-nil}
 use Rattle.std.specs.Prelude.{codes}
 use Rattle.std.specs.Fmt.{decimal}
 use Rattle.std.proofs.lemmas.Fmt.{decimal_digit}
@@ -14,18 +14,19 @@ use Rattle.sv_journal.specs.declared.header.Header.TheVariants as header_is
 use Rattle.sv_journal.specs.declared.header.Program.{Program}
 use Rattle.sv_journal.specs.declared.words.Opening.{Opening}
 use Rattle.sv_journal.specs.declared.words.Opening.TheVariants as opening_is
-use Rattle.sv_journal.specs.declared.token.Letters.TheVariants.{OfName}
-use Rattle.sv_journal.specs.Limits.{program_limit}
+use Rattle.sv_journal.specs.declared.token.Letters.{Letters}
+use Rattle.sv_journal.specs.declared.token.Letters.TheVariants.{OfText, OfName, OfBytes}
+use Rattle.sv_journal.specs.Limits.{number_limit, run_limit, program_limit}
 use Rattle.sv_journal.specs.Spelling.{token, comma_list}
-use Rattle.sv_journal.specs.JournalLine.{IsName, autorestart_word, header_line, FitsProgram, FitsHeader}
+use Rattle.sv_journal.specs.JournalLine.{IsName, AreBytes, autorestart_word, header_line, FitsProgram, FitsHeader}
 use Rattle.sv_journal.specs.Reading.{◌>>=◌, end_at, keyword_at, codes_from}
-use Rattle.sv_journal.specs.ReadingLines.{opening_word, openings, signals, autorestarts, word_then, keyword_then, number_then, codes_then, codes_at, restart_at, start_at, header_of, header_at}
+use Rattle.sv_journal.specs.ReadingLines.{opening_word, openings, signals, autorestarts, word_then, keyword_then, number_then, codes_then, last_token_then, codes_at, restart_at, start_at, program_at, env_at, size_at, include_at, header_of, header_at}
 use Rattle.sv_journal.proofs.CommaLaws.{CodesTaken, codes_take, codes_again}
-use Rattle.sv_journal.proofs.InputLaws.{moment_fits}
-use Rattle.sv_journal.proofs.LineParts.{bind_then, end_takes, word_then_takes, keyword_then_takes, number_then_takes, token_then_takes}
-use Rattle.sv_journal.proofs.Names.{good_name, name_good}
+use Rattle.sv_journal.proofs.InputLaws.{moment_fits, run_fits, number_fits, end_number, end_token}
+use Rattle.sv_journal.proofs.LineParts.{bind_then, end_takes, word_then_takes, keyword_then_takes, number_then_takes, token_then_takes, last_token_takes}
+use Rattle.sv_journal.proofs.Names.{good_name, name_good, good_text, text_good, good_bytes, bytes_good}
 use Rattle.sv_journal.proofs.NumberLaws.{IsLimit, number_again}
-use Rattle.sv_journal.proofs.TokenLaws.{token_again}
+use Rattle.sv_journal.proofs.TokenLaws.{TokenTaken, token_again}
 
 pub program_fits : IsLimit program_limit
 program_fits = (omega arith, omega arith)
@@ -116,15 +117,9 @@ start_takes name bs h is_name e =
     regroup : (a b c d e f : List ℕ) → a ++ (b ++ (c ++ (d ++ (e ++ f)))) ≡ ((((a ++ b) ++ c) ++ d) ++ e) ++ f
     regroup a b c d e f = simp append_assoc
 
-header_of_takes : (opening : Opening) (bs : List ℕ) (h : Header) → header_of opening bs ≡ Ok h → Meant (opening_word opening ++ bs) h
-unfolding header_of
-header_of_takes opening_is.Journal bs h e =
-    let end = end_takes (header_is.Journal 0) h bs e in
-    record {
-      same = ap (λ (l : List ℕ). codes "supervisor-journal 0" ++ l) end.0 ∙ ap (λ (l : List ℕ). codes "supervisor-journal " ++ l) (sym (decimal_digit 0 (omega arith))) ∙ ap header_line end.1;
-      fits = subst FitsHeader end.1 refl;
-    }
-header_of_takes opening_is.Program bs h e =
+program_takes : (bs : List ℕ) (h : Header) → program_at bs ≡ Ok h → Meant (codes "program " ++ bs) h
+unfolding program_at
+program_takes bs h e =
     token_then_takes OfName (λ name. word_then (codes " ") (start_at name)) bs h e (λ name rest taken e.
     word_then_takes (codes " ") (start_at name) rest h e (λ rest2 is e.
     let m = start_takes name rest2 h (name_good name taken.good) e in
@@ -135,6 +130,93 @@ header_of_takes opening_is.Program bs h e =
   where
     regroup : (a b c d : List ℕ) → a ++ (b ++ (c ++ d)) ≡ ((a ++ b) ++ c) ++ d
     regroup a b c d = simp append_assoc
+
+-- a token that ends the line
+last_is : (letters : Letters) (bs v : List ℕ) → TokenTaken letters bs v [] → bs ≡ token v
+last_is letters bs v t = t.same ∙ append-nil (token v)
+
+-- a token, a space and a last part
+two_parts : (word bs first after part : List ℕ) → bs ≡ first ++ after → after ≡ codes " " ++ part → word ++ bs ≡ word ++ first ++ codes " " ++ part
+two_parts word bs first after part is more =
+    ap (λ (l : List ℕ). word ++ l) (is ∙ ap (λ (l : List ℕ). first ++ l) more) ∙ regroup word first (codes " ") part
+  where
+    regroup : (a b c d : List ℕ) → a ++ (b ++ (c ++ d)) ≡ ((a ++ b) ++ c) ++ d
+    regroup a b c d = simp append_assoc
+
+env_takes : (bs : List ℕ) (h : Header) → env_at bs ≡ Ok h → Meant (codes "env " ++ bs) h
+unfolding env_at
+env_takes bs h e =
+    token_then_takes OfText (λ name. word_then (codes " ") (last_token_then OfText (λ value. header_is.Env name value))) bs h e (λ name rest taken e.
+    word_then_takes (codes " ") (last_token_then OfText (λ value. header_is.Env name value)) rest h e (λ rest2 is e.
+    last_token_takes OfText (λ value. header_is.Env name value) rest2 h e (λ value last is_env.
+    record {
+      same = two_parts (codes "env ") bs (token name) rest (token value) taken.same (is ∙ ap (λ (l : List ℕ). codes " " ++ l) (last_is OfText rest2 value last)) ∙ ap header_line (sym is_env);
+      fits = subst FitsHeader (sym is_env) (text_good name taken.good, text_good value last.good);
+    })))
+
+size_takes : (bs : List ℕ) (h : Header) → size_at bs ≡ Ok h → Meant (codes "size " ++ bs) h
+unfolding size_at
+size_takes bs h e =
+    token_then_takes OfText (λ file. word_then (codes " ") (number_then 0 number_limit (λ size. end_at (header_is.Size file size)))) bs h e (λ file rest taken e.
+    word_then_takes (codes " ") (number_then 0 number_limit (λ size. end_at (header_is.Size file size))) rest h e (λ rest2 is e.
+    number_then_takes 0 number_limit (λ size. end_at (header_is.Size file size)) rest2 h number_fits e (λ size rest3 number e.
+    let end = end_takes (header_is.Size file size) h rest3 e in
+    let last : rest2 ≡ decimal size = number.same ∙ ap (λ (l : List ℕ). decimal size ++ l) end.0 ∙ append-nil (decimal size) in
+    record {
+      same = two_parts (codes "size ") bs (token file) rest (decimal size) taken.same (is ∙ ap (λ (l : List ℕ). codes " " ++ l) last) ∙ ap header_line end.1;
+      fits = subst FitsHeader end.1 (text_good file taken.good, number.high);
+    })))
+
+include_takes : (bs : List ℕ) (h : Header) → include_at bs ≡ Ok h → Meant (codes "include " ++ bs) h
+unfolding include_at
+include_takes bs h e =
+    token_then_takes OfText (λ name. word_then (codes " ") (last_token_then OfBytes (λ text. header_is.Include name text))) bs h e (λ name rest taken e.
+    word_then_takes (codes " ") (last_token_then OfBytes (λ text. header_is.Include name text)) rest h e (λ rest2 is e.
+    last_token_takes OfBytes (λ text. header_is.Include name text) rest2 h e (λ text last is_include.
+    record {
+      same = two_parts (codes "include ") bs (token name) rest (token text) taken.same (is ∙ ap (λ (l : List ℕ). codes " " ++ l) (last_is OfBytes rest2 text last)) ∙ ap header_line (sym is_include);
+      fits = subst FitsHeader (sym is_include) (text_good name taken.good, bytes_good text last.good);
+    })))
+
+-- the title of a journal of this version
+title_takes : (version : ℕ) (bs : List ℕ) (h : Header) → version ≤ 1 → end_at (header_is.Journal version) bs ≡ Ok h → Meant (codes "supervisor-journal " ++ ((48 + version) ∷ bs)) h
+title_takes version bs h fits e =
+    let end = end_takes (header_is.Journal version) h bs e in
+    record {
+      same = ap (λ (l : List ℕ). codes "supervisor-journal " ++ ((48 + version) ∷ l)) end.0 ∙ ap (λ (l : List ℕ). codes "supervisor-journal " ++ l) (sym (decimal_digit version (omega arith))) ∙ ap header_line end.1;
+      fits = subst FitsHeader end.1 fits;
+    }
+
+header_of_takes : (opening : Opening) (bs : List ℕ) (h : Header) → header_of opening bs ≡ Ok h → Meant (opening_word opening ++ bs) h
+unfolding header_of
+header_of_takes opening_is.Short bs h e = title_takes 0 bs h (omega arith) e
+header_of_takes opening_is.Long bs h e = title_takes 1 bs h (omega arith) e
+header_of_takes opening_is.Program bs h e = program_takes bs h e
+header_of_takes opening_is.Host bs h e =
+    last_token_takes OfText (λ name. header_is.Host name) bs h e (λ name last is. record {
+      same = ap (λ (l : List ℕ). codes "host " ++ l) (last_is OfText bs name last) ∙ ap header_line (sym is);
+      fits = subst FitsHeader (sym is) (text_good name last.good);
+    })
+header_of_takes opening_is.Here bs h e =
+    last_token_takes OfText (λ directory. header_is.Here directory) bs h e (λ directory last is. record {
+      same = ap (λ (l : List ℕ). codes "here " ++ l) (last_is OfText bs directory last) ∙ ap header_line (sym is);
+      fits = subst FitsHeader (sym is) (text_good directory last.good);
+    })
+header_of_takes opening_is.Pid bs h e =
+    number_then_takes 0 run_limit (λ pid. end_at (header_is.Pid pid)) bs h run_fits e (λ pid rest taken e.
+    let end = end_takes (header_is.Pid pid) h rest e in
+    record {
+      same = ap (λ (l : List ℕ). codes "pid " ++ l) (taken.same ∙ ap (λ (l : List ℕ). decimal pid ++ l) end.0 ∙ append-nil (decimal pid)) ∙ ap header_line end.1;
+      fits = subst FitsHeader end.1 taken.high;
+    })
+header_of_takes opening_is.Env bs h e = env_takes bs h e
+header_of_takes opening_is.Size bs h e = size_takes bs h e
+header_of_takes opening_is.Conf bs h e =
+    last_token_takes OfBytes (λ text. header_is.Conf text) bs h e (λ text last is. record {
+      same = ap (λ (l : List ℕ). codes "conf " ++ l) (last_is OfBytes bs text last) ∙ ap header_line (sym is);
+      fits = subst FitsHeader (sym is) (bytes_good text last.good);
+    })
+header_of_takes opening_is.Include bs h e = include_takes bs h e
 header_of_takes opening_is.Go bs h e =
     number_then_takes 0 moment_limit (λ at. end_at (header_is.Go at)) bs h moment_fits e (λ at rest taken e.
     let end = end_takes (header_is.Go at) h rest e in
@@ -157,8 +239,16 @@ pub header_fits : (bs : List ℕ) (h : Header) → header_at bs ≡ Ok h → Fit
 header_fits bs h e = (header_means bs h e).fits
 
 pub opening_again : (opening : Opening) (rest : List ℕ) → keyword_at opening_word openings (opening_word opening ++ rest) ≡ Ok (opening, rest)
-opening_again opening_is.Journal rest = refl
+opening_again opening_is.Short rest = refl
+opening_again opening_is.Long rest = refl
 opening_again opening_is.Program rest = refl
+opening_again opening_is.Host rest = refl
+opening_again opening_is.Here rest = refl
+opening_again opening_is.Pid rest = refl
+opening_again opening_is.Env rest = refl
+opening_again opening_is.Size rest = refl
+opening_again opening_is.Conf rest = refl
+opening_again opening_is.Include rest = refl
 opening_again opening_is.Go rest = refl
 
 pub signal_again : (signal : Signal) (rest : List ℕ) → keyword_at signal_name signals (signal_name signal ++ rest) ≡ Ok (signal, rest)
@@ -200,7 +290,7 @@ codes_part p fits =
 program_part : (p : Program) → FitsProgram p
     → header_at (codes "program " ++ (token p.name ++ (codes " " ++ (decimal p.startsecs ++ (codes " " ++ (decimal p.startretries ++ (codes " " ++ (autorestart_word p.autorestart ++ (codes " "
     ++ (comma_list p.exitcodes ++ (codes " " ++ (signal_name p.stopsignal ++ (codes " " ++ (decimal p.stopwaitsecs ++ [])))))))))))))) ≡ Ok (header_is.Program p)
-unfolding header_at header_of start_at restart_at
+unfolding header_at header_of program_at start_at restart_at
 program_part p fits =
     let last = comma_list p.exitcodes ++ (codes " " ++ (signal_name p.stopsignal ++ (codes " " ++ (decimal p.stopwaitsecs ++ [])))) in
     let third = autorestart_word p.autorestart ++ (codes " " ++ last) in
@@ -216,12 +306,54 @@ program_regroup : (a b c d e f g h i j k l m n : List ℕ)
     → a ++ b ++ c ++ d ++ e ++ f ++ g ++ h ++ i ++ j ++ k ++ l ++ m ++ n ≡ a ++ (b ++ (c ++ (d ++ (e ++ (f ++ (g ++ (h ++ (i ++ (j ++ (k ++ (l ++ (m ++ (n ++ [])))))))))))))
 program_regroup a b c d e f g h i j k l m n = simp (append_assoc, append-nil)
 
+-- a first token, a space and a last part, as the reader finds them
+apart : (word first part : List ℕ) → word ++ first ++ codes " " ++ part ≡ word ++ (first ++ (codes " " ++ part))
+apart word first part = regroup word first (codes " ") part
+  where
+    regroup : (a b c d : List ℕ) → ((a ++ b) ++ c) ++ d ≡ a ++ (b ++ (c ++ d))
+    regroup a b c d = simp append_assoc
+
+opened : (opening : Opening) (rest : List ℕ) → header_at (opening_word opening ++ rest) ≡ header_of opening rest
+unfolding header_at
+opened opening rest = ap (λ (r : Result (Opening × List ℕ) ℕ). r >>= (λ r. header_of r.0 r.1)) (opening_again opening rest)
+
+env_again : (name value : List ℕ) → IsUtf8 name → IsUtf8 value → env_at (token name ++ (codes " " ++ token value)) ≡ Ok (header_is.Env name value)
+unfolding env_at
+env_again name value f g =
+    ap (λ (r : Result (List ℕ × List ℕ) ℕ). r >>= (λ r. word_then (codes " ") (last_token_then OfText (λ value. header_is.Env r.0 value)) r.1)) (token_again OfText name (codes " " ++ token value) (good_text name f) refl)
+    ∙ end_token OfText (λ value. header_is.Env name value) value (good_text value g)
+
+size_again : (file : List ℕ) (size : ℕ) → IsUtf8 file → size ≤ number_limit → size_at (token file ++ (codes " " ++ decimal size)) ≡ Ok (header_is.Size file size)
+unfolding size_at
+size_again file size f g =
+    ap (λ (r : Result (List ℕ × List ℕ) ℕ). r >>= (λ r. word_then (codes " ") (number_then 0 number_limit (λ size. end_at (header_is.Size r.0 size))) r.1)) (token_again OfText file (codes " " ++ decimal size) (good_text file f) refl)
+    ∙ end_number 0 number_limit size (λ size. header_is.Size file size) number_fits (omega arith) (omega arith) g
+
+include_again : (name text : List ℕ) → IsUtf8 name → AreBytes text → include_at (token name ++ (codes " " ++ token text)) ≡ Ok (header_is.Include name text)
+unfolding include_at
+include_again name text f g =
+    ap (λ (r : Result (List ℕ × List ℕ) ℕ). r >>= (λ r. word_then (codes " ") (last_token_then OfBytes (λ text. header_is.Include r.0 text)) r.1)) (token_again OfText name (codes " " ++ token text) (good_text name f) refl)
+    ∙ end_token OfBytes (λ text. header_is.Include name text) text (good_bytes text g)
+
+title_again : (version : ℕ) → version ≤ 1 → header_at (codes "supervisor-journal " ++ decimal version) ≡ Ok (header_is.Journal version)
+unfolding header_at header_of
+title_again zero fits = ap (λ (l : List ℕ). header_at (codes "supervisor-journal " ++ l)) (decimal_digit 0 (omega arith))
+title_again (suc zero) fits = ap (λ (l : List ℕ). header_at (codes "supervisor-journal " ++ l)) (decimal_digit 1 (omega arith))
+title_again (suc (suc n)) fits = absurd (omega arith)
+
 pub header_again : (h : Header) → FitsHeader h → header_at (header_line h) ≡ Ok h
 unfolding header_at header_of
-header_again (header_is.Journal version) fits =
-    ap (λ (v : ℕ). header_at (codes "supervisor-journal " ++ decimal v)) fits
-    ∙ ap (λ (l : List ℕ). header_at (codes "supervisor-journal " ++ l)) (decimal_digit 0 (omega arith))
-    ∙ ap (λ (v : ℕ). Ok (header_is.Journal v)) (sym fits)
+header_again (header_is.Journal version) fits = title_again version fits
+header_again (header_is.Host name) fits = opened opening_is.Host (token name) ∙ end_token OfText (λ name. header_is.Host name) name (good_text name fits)
+header_again (header_is.Here directory) fits = opened opening_is.Here (token directory) ∙ end_token OfText (λ directory. header_is.Here directory) directory (good_text directory fits)
+header_again (header_is.Pid pid) fits = opened opening_is.Pid (decimal pid) ∙ end_number 0 run_limit pid (λ pid. header_is.Pid pid) run_fits (omega arith) (omega arith) fits
+header_again (header_is.Env name value) fits =
+    ap header_at (apart (codes "env ") (token name) (token value)) ∙ opened opening_is.Env (token name ++ (codes " " ++ token value)) ∙ env_again name value fits.0 fits.1
+header_again (header_is.Size file size) fits =
+    ap header_at (apart (codes "size ") (token file) (decimal size)) ∙ opened opening_is.Size (token file ++ (codes " " ++ decimal size)) ∙ size_again file size fits.0 fits.1
+header_again (header_is.Conf text) fits = opened opening_is.Conf (token text) ∙ end_token OfBytes (λ text. header_is.Conf text) text (good_bytes text fits)
+header_again (header_is.Include name text) fits =
+    ap header_at (apart (codes "include ") (token name) (token text)) ∙ opened opening_is.Include (token name ++ (codes " " ++ token text)) ∙ include_again name text fits.0 fits.1
 header_again (header_is.Program p) fits =
     ap header_at (program_regroup (codes "program ") (token p.name) (codes " ") (decimal p.startsecs) (codes " ") (decimal p.startretries) (codes " ") (autorestart_word p.autorestart) (codes " ") (comma_list p.exitcodes) (codes " ") (signal_name p.stopsignal) (codes " ") (decimal p.stopwaitsecs))
     ∙ program_part p fits

@@ -18,16 +18,17 @@ use Rattle.sv_journal.specs.declared.words.Ending.{Ending}
 use Rattle.sv_journal.specs.declared.words.Ending.TheVariants as ending_is
 use Rattle.sv_journal.specs.declared.words.Answer.{Answer}
 use Rattle.sv_journal.specs.declared.words.Answer.TheVariants as answer_is
+use Rattle.sv_journal.specs.declared.token.Letters.{Letters}
 use Rattle.sv_journal.specs.declared.token.Letters.TheVariants.{OfText}
 use Rattle.sv_journal.specs.Limits.{number_limit, run_limit}
 use Rattle.sv_journal.specs.Spelling.{token}
 use Rattle.sv_journal.specs.JournalLine.{how_words, FitsHow, input_line, FitsInput}
 use Rattle.sv_journal.specs.Reading.{◌>>=◌, end_at, keyword_at}
-use Rattle.sv_journal.specs.ReadingLines.{verb_word, verbs, told_signal, told_signals, told_word, ending_word, endings, answer_word, answers, word_then, keyword_then, number_then, text_then, how_at, exit_at, event_of, event_at, answer_of, answer_at, begins_with_digit, input_at}
-use Rattle.sv_journal.proofs.LineParts.{end_takes, word_then_takes, keyword_then_takes, number_then_takes, text_then_takes}
+use Rattle.sv_journal.specs.ReadingLines.{verb_word, verbs, told_signal, told_signals, told_word, ending_word, endings, answer_word, answers, word_then, keyword_then, number_then, last_token_then, how_at, exit_at, event_of, event_at, answer_of, answer_at, begins_with_digit, input_at}
+use Rattle.sv_journal.proofs.LineParts.{end_takes, word_then_takes, keyword_then_takes, number_then_takes, last_token_takes}
 use Rattle.sv_journal.proofs.Names.{good_text, text_good}
 use Rattle.sv_journal.proofs.NumberLaws.{IsLimit, number_again, digit_from}
-use Rattle.sv_journal.proofs.TokenLaws.{token_again}
+use Rattle.sv_journal.proofs.TokenLaws.{Good, token_again}
 
 pub moment_fits : IsLimit moment_limit
 moment_fits = (omega arith, omega arith)
@@ -109,13 +110,13 @@ event_of_takes at verb_is.Tick bs i fits e =
     }
 event_of_takes at verb_is.Exit bs i fits e = exit_takes at bs i fits e
 event_of_takes at verb_is.Start bs i fits e =
-    text_then_takes (λ name. input_is.Start at name) bs i e (λ name taken is.
+    last_token_takes OfText (λ name. input_is.Start at name) bs i e (λ name taken is.
     record {
       same = ap (λ (l : List ℕ). decimal at ++ (codes " start " ++ l)) (taken.same ∙ append-nil (token name)) ∙ sym (append_assoc (decimal at) (codes " start ") (token name)) ∙ ap input_line (sym is);
       fits = subst FitsInput (sym is) (fits, text_good name taken.good);
     })
 event_of_takes at verb_is.Stop bs i fits e =
-    text_then_takes (λ name. input_is.Stop at name) bs i e (λ name taken is.
+    last_token_takes OfText (λ name. input_is.Stop at name) bs i e (λ name taken is.
     record {
       same = ap (λ (l : List ℕ). decimal at ++ (codes " stop " ++ l)) (taken.same ∙ append-nil (token name)) ∙ sym (append_assoc (decimal at) (codes " stop ") (token name)) ∙ ap input_line (sym is);
       fits = subst FitsInput (sym is) (fits, text_good name taken.good);
@@ -157,7 +158,7 @@ answer_of_takes answer_is.NotExecutable bs i e =
     let end = end_takes input_is.NotExecutable i bs e in
     record { same = ap (λ (l : List ℕ). codes "notexec" ++ l) end.0 ∙ ap input_line end.1; fits = subst FitsInput end.1 tt }
 answer_of_takes answer_is.Refused bs i e =
-    text_then_takes (λ reason. input_is.Refused reason) bs i e (λ reason taken is.
+    last_token_takes OfText (λ reason. input_is.Refused reason) bs i e (λ reason taken is.
     record {
       same = ap (λ (l : List ℕ). codes "refused " ++ l) (taken.same ∙ append-nil (token reason)) ∙ ap input_line (sym is);
       fits = subst FitsInput (sym is) (text_good reason taken.good);
@@ -231,15 +232,18 @@ event_again at verb rest fits =
     ∙ ap (λ (r : Result (ℕ × List ℕ) ℕ). r >>= (λ r. word_then (codes " ") (keyword_then verb_word verbs (event_of r.0)) r.1)) (number_again 0 moment_limit at (codes " " ++ (verb_word verb ++ rest)) moment_fits (omega arith) (omega arith) fits refl)
     ∙ ap (λ (r : Result (Verb × List ℕ) ℕ). r >>= (λ r. event_of at r.0 r.1)) (verb_again verb rest)
 
-end_number : {X : Type 0} (least limit n : ℕ) (value : ℕ → X) → IsLimit limit → least ≤ 1 → least ≤ n → n ≤ limit → number_then least limit (λ n. end_at (value n)) (decimal n) ≡ Ok (value n)
+pub end_number : {X : Type 0} (least limit n : ℕ) (value : ℕ → X) → IsLimit limit → least ≤ 1 → least ≤ n → n ≤ limit → number_then least limit (λ n. end_at (value n)) (decimal n) ≡ Ok (value n)
 end_number {X} least limit n value fits one low high =
     ap (number_then least limit (λ n. end_at (value n))) (sym (append-nil (decimal n)))
     ∙ ap (λ (r : Result (ℕ × List ℕ) ℕ). r >>= (λ r. end_at (value r.0) r.1)) (number_again least limit n [] fits one low high refl)
 
-end_text : {X : Type 0} (value : List ℕ → X) (v : List ℕ) → IsUtf8 v → text_then value (token v) ≡ Ok (value v)
-end_text {X} value v fits =
-    ap (text_then value) (sym (append-nil (token v)))
-    ∙ ap (λ (r : Result (List ℕ × List ℕ) ℕ). (r >>= (λ r. end_at r.0 r.1)) >>= (λ v. Ok (value v))) (token_again OfText v [] (good_text v fits) refl)
+pub end_token : {X : Type 0} (letters : Letters) (value : List ℕ → X) (v : List ℕ) → Good letters v → last_token_then letters value (token v) ≡ Ok (value v)
+end_token {X} letters value v good =
+    ap (last_token_then letters value) (sym (append-nil (token v)))
+    ∙ ap (λ (r : Result (List ℕ × List ℕ) ℕ). (r >>= (λ r. end_at r.0 r.1)) >>= (λ v. Ok (value v))) (token_again letters v [] good refl)
+
+end_text : {X : Type 0} (value : List ℕ → X) (v : List ℕ) → IsUtf8 v → last_token_then OfText value (token v) ≡ Ok (value v)
+end_text value v fits = end_token OfText value v (good_text v fits)
 
 how_again : (at : ℕ) (run : Run) (how : How) → FitsHow how → keyword_then ending_word endings (how_at at run) (how_words how) ≡ Ok (input_is.Exit at run how)
 unfolding how_at

@@ -1,10 +1,9 @@
 -- What was read where a line goes on with a word, a number or a token.
 use Rattle.std.proofs.Common.{◌≡◌, ℕ, eqb, List, [], ◌∷◌, ◌++◌, length, Result, Ok, Err, inl, inr, refl, sym, ap, ◌∙◌, min}
 use Rattle.std.proofs.lemmas.Bool.{eqb-true}
-use Rattle.sv_journal.specs.Reading.{◌>>=◌, end_at, word_at, keyword_or, keyword_from, keyword_at, number_at, token_at, text_line_at}
-use Rattle.sv_journal.specs.ReadingLines.{word_then, keyword_then, number_then, token_then, text_then}
+use Rattle.sv_journal.specs.Reading.{◌>>=◌, end_at, word_at, keyword_or, keyword_from, keyword_at, number_at, token_at, last_token_at}
+use Rattle.sv_journal.specs.ReadingLines.{word_then, keyword_then, number_then, token_then, last_token_then}
 use Rattle.sv_journal.specs.declared.token.Letters.{Letters}
-use Rattle.sv_journal.specs.declared.token.Letters.TheVariants.{OfText}
 use Rattle.sv_journal.proofs.Results.{ok_value, ok_pair}
 use Rattle.sv_journal.proofs.TokenLaws.{chosen, TokenTaken, token_at_takes}
 use Rattle.sv_journal.proofs.NumberLaws.{IsLimit, NumberTaken, number_takes}
@@ -58,10 +57,10 @@ pub token_then_takes : {X P : Type 0} (letters : Letters) (next : List ℕ → L
 token_then_takes letters next bs x e k =
     bind_then (token_at letters bs) (λ r. next r.0 r.1) x e (λ r is e. k r.0 r.1 (token_at_takes letters bs r.0 r.1 is) e)
 
-pub text_then_takes : {X P : Type 0} (value : List ℕ → X) (bs : List ℕ) (x : X) → text_then value bs ≡ Ok x
-    → ((v : List ℕ) → TokenTaken OfText bs v [] → x ≡ value v → P) → P
-text_then_takes value bs x e k =
-    bind_then (text_line_at bs) (λ v. Ok (value v)) x e (λ v is e.
-    bind_then (token_at OfText bs) (λ r. end_at r.0 r.1) v is (λ r is f.
+pub last_token_takes : {X P : Type 0} (letters : Letters) (value : List ℕ → X) (bs : List ℕ) (x : X) → last_token_then letters value bs ≡ Ok x
+    → ((v : List ℕ) → TokenTaken letters bs v [] → x ≡ value v → P) → P
+last_token_takes letters value bs x e k =
+    bind_then (last_token_at letters bs) (λ v. Ok (value v)) x e (λ v is e.
+    bind_then (token_at letters bs) (λ r. end_at r.0 r.1) v is (λ r is f.
     let p = end_takes r.0 v r.1 f in
-    k v (token_at_takes OfText bs v [] (is ∙ ap (λ (q : List ℕ). Ok (r.0, q)) p.0 ∙ ap (λ (q : List ℕ). Ok (q, [])) p.1)) (sym (ok_value (value v) x e))))
+    k v (token_at_takes letters bs v [] (is ∙ ap (λ (q : List ℕ). Ok (r.0, q)) p.0 ∙ ap (λ (q : List ℕ). Ok (q, [])) p.1)) (sym (ok_value (value v) x e))))

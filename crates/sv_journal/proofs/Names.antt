@@ -1,11 +1,13 @@
--- What tokens of texts and of names spell.
-use Rattle.std.proofs.Common.{◌≡◌, ℕ, true, List, [], ◌∷◌, refl, IsUtf8}
+-- What tokens of texts, of names and of any bytes spell.
+use Rattle.std.proofs.Common.{◌≡◌, ℕ, true, ltb, List, [], ◌∷◌, inl, inr, refl, sym, ◌∙◌, IsUtf8}
+use Rattle.std.proofs.lemmas.Bool.{cases_Bool}
 use Rattle.std.specs.Prelude.{chars}
 use Rattle.std.specs.List.{list_all}
-use Rattle.sv_journal.specs.JournalLine.{IsName}
+use Rattle.sv_journal.specs.JournalLine.{IsName, is_byte, AreBytes}
 use Rattle.sv_journal.specs.Tokens.{is_letter}
-use Rattle.sv_journal.specs.declared.token.Letters.TheVariants.{OfText, OfName}
-use Rattle.sv_journal.proofs.Letters.{read_accepted, read_utf8, read_letters, accepts_read}
+use Rattle.sv_journal.specs.declared.token.Letters.TheVariants.{OfText, OfName, OfBytes}
+use Rattle.sv_journal.specs.declared.token.Awaits.TheVariants.{Character}
+use Rattle.sv_journal.proofs.Letters.{accepts, read_accepted, read_utf8, read_letters, accepts_read}
 use Rattle.sv_journal.proofs.TokenLaws.{Good}
 
 all_true : (cs : List ℕ) → list_all (is_letter OfText) cs ≡ true
@@ -13,13 +15,23 @@ all_true [] = refl
 all_true (c ∷ cs) = all_true cs
 
 pub good_text : (v : List ℕ) → IsUtf8 v → Good OfText v
-good_text v u = accepts_read OfText v u (all_true (chars v))
+good_text v u = accepts_read OfText refl v u (all_true (chars v))
 
 pub text_good : (v : List ℕ) → Good OfText v → IsUtf8 v
-text_good v g = read_utf8 OfText v (read_accepted OfText v g)
+text_good v g = read_utf8 OfText v (read_accepted OfText refl v g)
 
 pub good_name : (v : List ℕ) → IsName v → Good OfName v
-good_name v n = (accepts_read OfName v n.0 n.1, n.2)
+good_name v n = (accepts_read OfName refl v n.0 n.1, n.2)
 
 pub name_good : (v : List ℕ) → Good OfName v → IsName v
-name_good v g = let r = read_accepted OfName v g.0 in (read_utf8 OfName v r, read_letters OfName v r, g.1)
+name_good v g = let r = read_accepted OfName refl v g.0 in (read_utf8 OfName v r, read_letters OfName v r, g.1)
+
+same_bytes : (v : List ℕ) → accepts OfBytes Character v ≡ list_all is_byte v
+same_bytes [] = refl
+same_bytes (b ∷ v) = elim (cases_Bool (ltb b 256)) [ inl e ↦ rw e (same_bytes v) | inr e ↦ rw e refl ]
+
+pub good_bytes : (v : List ℕ) → AreBytes v → Good OfBytes v
+good_bytes v a = same_bytes v ∙ a
+
+pub bytes_good : (v : List ℕ) → Good OfBytes v → AreBytes v
+bytes_good v g = sym (same_bytes v) ∙ g

@@ -148,4 +148,13 @@ program p fits =
 pub plain_header : (h : Header) → FitsHeader h → Plain (header_line h)
 plain_header (header_is.Journal version) fits = joined (codes "supervisor-journal ") (decimal version) refl (number version (omega arith))
 plain_header (header_is.Program p) fits = program p fits
+plain_header (header_is.Host name) fits = joined (codes "host ") (token name) refl (text name)
+plain_header (header_is.Here directory) fits = joined (codes "here ") (token directory) refl (text directory)
+plain_header (header_is.Pid pid) fits = joined (codes "pid ") (decimal pid) refl (number pid (omega arith))
+plain_header (header_is.Env name value) fits = spaced (codes "env " ++ token name) (token value) (joined (codes "env ") (token name) refl (text name)) (text value)
+plain_header (header_is.Size file size) fits =
+    let most = fits.1 in
+    spaced (codes "size " ++ token file) (decimal size) (joined (codes "size ") (token file) refl (text file)) (number size (omega arith))
+plain_header (header_is.Conf bytes) fits = joined (codes "conf ") (token bytes) refl (text bytes)
+plain_header (header_is.Include name bytes) fits = spaced (codes "include " ++ token name) (token bytes) (joined (codes "include ") (token name) refl (text name)) (text bytes)
 plain_header (header_is.Go at) fits = joined (codes "go ") (decimal at) refl (number at (omega arith))

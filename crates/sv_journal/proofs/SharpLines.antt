@@ -23,11 +23,12 @@ use Rattle.sv_journal.specs.declared.words.Answer.TheVariants as answer_is
 use Rattle.sv_journal.specs.declared.words.Told.TheVariants as told_is
 use Rattle.sv_journal.specs.declared.words.Opening.{Opening}
 use Rattle.sv_journal.specs.declared.words.Opening.TheVariants as opening_is
-use Rattle.sv_journal.specs.declared.token.Letters.TheVariants.{OfText, OfName}
+use Rattle.sv_journal.specs.declared.token.Letters.{Letters}
+use Rattle.sv_journal.specs.declared.token.Letters.TheVariants.{OfText, OfName, OfBytes}
 use Rattle.sv_journal.specs.Limits.{number_limit, run_limit, program_limit}
 use Rattle.sv_journal.specs.JournalLine.{autorestart_word, input_line, FitsInput, header_line, FitsHeader}
 use Rattle.sv_journal.specs.Reading.{◌>>=◌, end_at, token_at}
-use Rattle.sv_journal.specs.ReadingLines.{verb_word, verbs, told_signal, told_signals, told_word, ending_word, endings, answer_word, answers, opening_word, openings, signals, autorestarts, word_then, keyword_then, number_then, token_then, text_then, how_at, exit_at, event_of, event_at, answer_of, answer_at, begins_with_digit, input_at, codes_at, restart_at, start_at, header_of, header_at}
+use Rattle.sv_journal.specs.ReadingLines.{verb_word, verbs, told_signal, told_signals, told_word, ending_word, endings, answer_word, answers, opening_word, openings, signals, autorestarts, word_then, keyword_then, number_then, token_then, last_token_then, how_at, exit_at, event_of, event_at, answer_of, answer_at, begins_with_digit, input_at, codes_at, restart_at, start_at, program_at, env_at, size_at, include_at, header_of, header_at}
 use Rattle.sv_journal.proofs.CommaLaws.{ends_codes}
 use Rattle.sv_journal.proofs.Columns.{Exact}
 use Rattle.sv_journal.proofs.HeaderLaws.{program_fits, header_takes, header_fits, header_again, opening_again, signal_again, autorestart_again}
@@ -72,8 +73,8 @@ sharp_same g h Q same s = record {
   };
 }
 
-text_same : {X : Type 0} (value : List ℕ → X) (bs : List ℕ) → text_then value bs ≡ token_then OfText (λ v. end_at (value v)) bs
-text_same {X} value bs = go (token_at OfText bs)
+last_same : {X : Type 0} (letters : Letters) (value : List ℕ → X) (bs : List ℕ) → last_token_then letters value bs ≡ token_then letters (λ v. end_at (value v)) bs
+last_same {X} letters value bs = go (token_at letters bs)
   where
     at_end : (v rest : List ℕ) → (end_at v rest >>= (λ v. Ok (value v))) ≡ end_at (value v) rest
     at_end v [] = refl
@@ -83,8 +84,9 @@ text_same {X} value bs = go (token_at OfText bs)
     go (Ok r) = at_end r.0 r.1
     go (Err left) = refl
 
-sharp_text : {X : Type 0} (value : List ℕ → X) → Sharp (text_then value) any
-sharp_text value = sharp_same (text_then value) (token_then OfText (λ v. end_at (value v))) any (text_same value) (sharp_token OfText (λ v. end_at (value v)) plain plain_ends (λ v. sharp_end (value v)))
+last_token : {X : Type 0} (letters : Letters) (value : List ℕ → X) → Sharp (last_token_then letters value) any
+last_token letters value =
+    sharp_same (last_token_then letters value) (token_then letters (λ v. end_at (value v))) any (last_same letters value) (sharp_token letters (λ v. end_at (value v)) plain plain_ends (λ v. sharp_end (value v)))
 
 last_number : {X : Type 0} (least limit : ℕ) (value : ℕ → X) → IsLimit limit → least ≤ 1 → Sharp (number_then least limit (λ n. end_at (value n))) any
 last_number least limit value fits one = sharp_number least limit (λ n. end_at (value n)) plain any fits one plain_no_digit (λ n x h. refl) (λ n. sharp_end (value n))
@@ -115,8 +117,8 @@ event_of_sharp : (at : ℕ) (verb : Verb) → Sharp (event_of at verb) any
 unfolding event_of
 event_of_sharp at verb_is.Tick = weaker (sharp_end (input_is.Tick at))
 event_of_sharp at verb_is.Exit = exit_sharp at
-event_of_sharp at verb_is.Start = sharp_text (λ name. input_is.Start at name)
-event_of_sharp at verb_is.Stop = sharp_text (λ name. input_is.Stop at name)
+event_of_sharp at verb_is.Start = last_token OfText (λ name. input_is.Start at name)
+event_of_sharp at verb_is.Stop = last_token OfText (λ name. input_is.Stop at name)
 event_of_sharp at verb_is.Signal =
     sharp_keyword told_word told_signals told_is.Term (λ told. end_at (input_is.Signal at (told_signal told))) any told_again (λ k x. refl) (λ told. weaker (sharp_end (input_is.Signal at (told_signal told))))
 
@@ -132,7 +134,7 @@ unfolding answer_of
 answer_of_sharp answer_is.Pid = last_number 1 run_limit (λ pid. input_is.Pid pid) run_fits (omega arith)
 answer_of_sharp answer_is.NoFile = weaker (sharp_end input_is.NoFile)
 answer_of_sharp answer_is.NotExecutable = weaker (sharp_end input_is.NotExecutable)
-answer_of_sharp answer_is.Refused = sharp_text (λ reason. input_is.Refused reason)
+answer_of_sharp answer_is.Refused = last_token OfText (λ reason. input_is.Refused reason)
 answer_of_sharp answer_is.Failed = last_number 0 number_limit (λ number. input_is.Failed number) number_fits (omega arith)
 
 abbrev no_digit : List ℕ → Bool
@@ -234,11 +236,40 @@ start_sharp name =
     (sharp_number 0 program_limit (λ startretries. word_then (codes " ") (restart_at name startsecs startretries)) plain any program_fits (omega arith) plain_no_digit (λ n x h. refl) (λ startretries.
     sharp_word 32 [] (restart_at name startsecs startretries) any plain (λ x. refl) (restart_sharp name startsecs startretries))))
 
+program_sharp : Sharp program_at any
+unfolding program_at
+program_sharp = sharp_token OfName (λ name. word_then (codes " ") (start_at name)) plain plain_ends (λ name. sharp_word 32 [] (start_at name) any plain (λ x. refl) (start_sharp name))
+
+env_sharp : Sharp env_at any
+unfolding env_at
+env_sharp =
+    sharp_token OfText (λ name. word_then (codes " ") (last_token_then OfText (λ value. header_is.Env name value))) plain plain_ends (λ name.
+    sharp_word 32 [] (last_token_then OfText (λ value. header_is.Env name value)) any plain (λ x. refl) (last_token OfText (λ value. header_is.Env name value)))
+
+size_sharp : Sharp size_at any
+unfolding size_at
+size_sharp =
+    sharp_token OfText (λ file. word_then (codes " ") (number_then 0 number_limit (λ size. end_at (header_is.Size file size)))) plain plain_ends (λ file.
+    sharp_word 32 [] (number_then 0 number_limit (λ size. end_at (header_is.Size file size))) any plain (λ x. refl) (last_number 0 number_limit (λ size. header_is.Size file size) number_fits (omega arith)))
+
+include_sharp : Sharp include_at any
+unfolding include_at
+include_sharp =
+    sharp_token OfText (λ name. word_then (codes " ") (last_token_then OfBytes (λ text. header_is.Include name text))) plain plain_ends (λ name.
+    sharp_word 32 [] (last_token_then OfBytes (λ text. header_is.Include name text)) any plain (λ x. refl) (last_token OfBytes (λ text. header_is.Include name text)))
+
 header_of_sharp : (opening : Opening) → Sharp (header_of opening) any
 unfolding header_of
-header_of_sharp opening_is.Journal = weaker (sharp_end (header_is.Journal 0))
-header_of_sharp opening_is.Program =
-    sharp_token OfName (λ name. word_then (codes " ") (start_at name)) plain plain_ends (λ name. sharp_word 32 [] (start_at name) any plain (λ x. refl) (start_sharp name))
+header_of_sharp opening_is.Short = weaker (sharp_end (header_is.Journal 0))
+header_of_sharp opening_is.Long = weaker (sharp_end (header_is.Journal 1))
+header_of_sharp opening_is.Program = program_sharp
+header_of_sharp opening_is.Host = last_token OfText (λ name. header_is.Host name)
+header_of_sharp opening_is.Here = last_token OfText (λ directory. header_is.Here directory)
+header_of_sharp opening_is.Pid = last_number 0 run_limit (λ pid. header_is.Pid pid) run_fits (omega arith)
+header_of_sharp opening_is.Env = env_sharp
+header_of_sharp opening_is.Size = size_sharp
+header_of_sharp opening_is.Conf = last_token OfBytes (λ text. header_is.Conf text)
+header_of_sharp opening_is.Include = include_sharp
 header_of_sharp opening_is.Go = last_number 0 moment_limit (λ at. header_is.Go at) moment_fits (omega arith)
 
 header_sharp : Sharp header_at any

@@ -3,12 +3,12 @@ use Rattle.std.proofs.Common.{◌≡◌, ℕ, zero, suc, ◌+◌, ◌*◌, ◌/�
 use Rattle.std.specs.List.{list_any, list_all}
 use Rattle.std.proofs.lemmas.Bool.{false≢true, cases_Bool, cases_eq, lt-ltb, le-leb, lt-leb, eq-eqb, ne_eqb, eqb-true, ltb-true, and_parts, or_cases, not-true}
 use Rattle.sv_journal.specs.Spelling.{stands_for_itself, hex_digit, byte_spelling, bytes_spelling, token}
-use Rattle.sv_journal.specs.Tokens.{allows, second_of_two, after, escapes, is_hex, hex_value, sixteen, may_begin, is_first_digit, is_second_digit}
+use Rattle.sv_journal.specs.Tokens.{whole_below, allows, second_of_two, after, escapes, is_hex, hex_value, sixteen, may_begin, is_first_digit, is_second_digit}
 use Rattle.sv_journal.specs.Reading.{◌>>=◌, Stage, closed, token_from, with_first, is_lone, nonempty, token_at}
 use Rattle.sv_journal.specs.Reading.Stage.{Between, Percent, Digit}
 use Rattle.sv_journal.specs.ReadingLines.{token_then}
 use Rattle.sv_journal.specs.declared.token.Letters.{Letters}
-use Rattle.sv_journal.specs.declared.token.Letters.TheVariants.{OfText, OfName}
+use Rattle.sv_journal.specs.declared.token.Letters.TheVariants.{OfText, OfName, OfBytes}
 use Rattle.sv_journal.specs.declared.token.Awaits.{Awaits}
 use Rattle.sv_journal.specs.declared.token.Awaits.TheVariants.{Character, Continuation}
 use Rattle.sv_journal.proofs.Letters.{accepts, second_128}
@@ -26,6 +26,7 @@ good_choice false x y g h = h
 
 second_191 : (letters : Letters) (b : ℕ) → second_of_two letters b ≤ 191
 second_191 OfText b = omega arith
+second_191 OfBytes b = omega arith
 second_191 OfName b = elim (cases_Bool (eqb b 194)) [ inl e ↦ rw e (omega arith) | inr e ↦ rw e (omega arith) ]
 
 -- two bounds that two leads set
@@ -40,7 +41,7 @@ bounds b m n low high more apart a b1 c d = elim (cases_eq b m) [
 
 after_good : (letters : Letters) (awaits : Awaits) (b : ℕ) → IsGood (after letters awaits b)
 after_good letters Character b =
-    good_choice (ltb b 128) _ _ tt (good_choice (ltb b 224) _ _ (second_128 letters b, second_191 letters b, omega arith)
+    good_choice (ltb b (whole_below letters)) _ _ tt (good_choice (ltb b 224) _ _ (second_128 letters b, second_191 letters b, omega arith)
     (good_choice (ltb b 240) _ _ (bounds b 224 237 160 159 1 (λ e. omega arith) (omega arith) (omega arith) (omega arith) (omega arith))
     (bounds b 240 244 144 143 2 (λ e. omega arith) (omega arith) (omega arith) (omega arith) (omega arith))))
 after_good letters (Continuation low high zero) b = tt
@@ -91,6 +92,7 @@ escaped letters awaits high h e =
 percent_letter : (letters : Letters) → escapes letters Character 37 ≡ true
 percent_letter OfText = refl
 percent_letter OfName = refl
+percent_letter OfBytes = refl
 
 record AnyEscape (letters : Letters) (awaits : Awaits) : Type 0 where
   b : ℕ
@@ -300,6 +302,8 @@ lone_head : (letters : Letters) (front : List ℕ) (b : ℕ) (more other : List 
 lone_head OfText [] b more other = refl
 lone_head OfText (c ∷ front) b more other = refl
 lone_head OfName front b more other = refl
+lone_head OfBytes [] b more other = refl
+lone_head OfBytes (c ∷ front) b more other = refl
 
 follows_head : (letters : Letters) (v front : List ℕ) (b : ℕ) (more other : List ℕ) → may_follow letters v (front ++ b ∷ more) ≡ true → may_follow letters v (front ++ b ∷ other) ≡ true
 follows_head letters [] front b more other e = sym (lone_head letters front b more other) ∙ e
@@ -347,6 +351,7 @@ tail_of a b xs ys e = ap (λ (l : List ℕ). drop 1 l) e
 
 sample_good : (letters : Letters) → Good letters (65 ∷ [])
 sample_good OfText = refl
+sample_good OfBytes = refl
 sample_good OfName = (refl, omega arith)
 
 token_read : {X : Type 0} (letters : Letters) (h : List ℕ → List ℕ → Result X ℕ) (v rest : List ℕ) → Good letters v → may_follow letters v rest ≡ true → token_then letters h (token v ++ rest) ≡ h v rest

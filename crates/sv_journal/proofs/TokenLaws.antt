@@ -1,5 +1,5 @@
 -- What a reader of a token has read is the token of what it gives, and each token is read again.
-use Rattle.std.proofs.Common.{◌≡◌, ℕ, zero, suc, ◌+◌, ◌*◌, ◌-◌, ◌/◌, ◌%◌, ◌<◌, Bool, true, false, not, cond, ◌&&◌, eqb, ltb, leb, ◌⊎◌, List, [], ◌∷◌, ◌++◌, length, Result, Ok, Err, inl, inr, refl, sym, ap, ◌∙◌, subst, arith, append_assoc, IsUtf8, get_or}
+use Rattle.std.proofs.Common.{◌≡◌, ℕ, zero, suc, ◌+◌, ◌*◌, ◌-◌, ◌/◌, ◌%◌, ◌<◌, ◌≢◌, Bool, true, false, not, cond, ◌&&◌, eqb, ltb, leb, ◌⊎◌, List, [], ◌∷◌, ◌++◌, length, Result, Ok, Err, inl, inr, refl, sym, ap, ◌∙◌, subst, arith, append_assoc, IsUtf8, get_or}
 use Rattle.std.proofs.lemmas.Bool.{false≢true, cases_Bool, cases_lt, lt-ltb, le-ltb, lt-leb, le-leb, ne_eqb, and_parts, and_from, or_cases, ltb-true, leb-true, eqb-true, not-true, not_from_false}
 use Rattle.std.proofs.lemmas.List.Folds.{list_any_at}
 use Rattle.sv_journal.specs.Spelling.{stands_for_itself, hex_digit, byte_spelling, bytes_spelling, token}
@@ -7,10 +7,10 @@ use Rattle.sv_journal.specs.Tokens.{allows, after, escapes, is_hex, hex_value, s
 use Rattle.sv_journal.specs.Reading.{Stage, closed, token_from, with_first, is_lone, nonempty, token_at}
 use Rattle.sv_journal.specs.Reading.Stage.{Between, Percent, Digit}
 use Rattle.sv_journal.specs.declared.token.Letters.{Letters}
-use Rattle.sv_journal.specs.declared.token.Letters.TheVariants.{OfText, OfName}
+use Rattle.sv_journal.specs.declared.token.Letters.TheVariants.{OfText, OfName, OfBytes}
 use Rattle.sv_journal.specs.declared.token.Awaits.{Awaits}
 use Rattle.sv_journal.specs.declared.token.Awaits.TheVariants.{Character, Continuation}
-use Rattle.sv_journal.proofs.Letters.{accepts, at_end, read_accepted, read_utf8}
+use Rattle.sv_journal.proofs.Letters.{IsText, accepts, at_end, read_accepted, read_utf8}
 use Rattle.sv_journal.proofs.Results.{ok_pair}
 
 abbrev pub before : Stage → List ℕ
@@ -155,9 +155,6 @@ token_takes letters (Digit awaits high) (d ∷ bs) v rest fit e = elim (chosen (
   | inr p ↦ cc p.1
 ]
 
-pub token_utf8 : (letters : Letters) (bs v rest : List ℕ) → token_from letters (Between Character) bs ≡ Ok (v, rest) → IsUtf8 v
-token_utf8 letters bs v rest e = read_utf8 letters v (read_accepted letters v (token_takes letters (Between Character) bs v rest tt e).good)
-
 -- a token of these letters ends before this
 abbrev pub closes : Letters → List ℕ → Bool
 closes letters [] = true
@@ -297,18 +294,22 @@ bytes_again letters awaits (b ∷ v) rest e end =
 -- what a token of these letters may spell
 abbrev pub Good : Letters → List ℕ → Type 0
 Good OfText v = accepts OfText Character v ≡ true
+Good OfBytes v = accepts OfBytes Character v ≡ true
 Good OfName v = (accepts OfName Character v ≡ true) × (0 < length v)
 
 good_accepts : (letters : Letters) (v : List ℕ) → Good letters v → accepts letters Character v ≡ true
 good_accepts OfText v g = g
+good_accepts OfBytes v g = g
 good_accepts OfName v g = g.0
 
 pub good_nonempty : (letters : Letters) (b : ℕ) (v : List ℕ) → accepts letters Character (b ∷ v) ≡ true → Good letters (b ∷ v)
 good_nonempty OfText b v e = e
+good_nonempty OfBytes b v e = e
 good_nonempty OfName b v e = (e, omega arith)
 
 lone_is_text : (letters : Letters) (bs : List ℕ) → is_lone letters bs ≡ true → Good letters []
 lone_is_text OfText bs e = refl
+lone_is_text OfBytes bs e = refl
 lone_is_text OfName bs e = absurd (false≢true e)
 
 nonempty_ok : (left : ℕ) (r : Result (List ℕ × List ℕ) ℕ) (v rest : List ℕ) → nonempty left r ≡ Ok (v, rest) → (r ≡ Ok (v, rest)) × (0 < length v)
@@ -342,6 +343,15 @@ token_at_takes letters (b ∷ bs) v rest e = elim (chosen (eqb b 37 && is_lone l
       taken_nonempty letters (b ∷ bs) v rest t.same t.good q.1
 ]
 
+text_letters : (letters : Letters) → (letters ≢ OfBytes) → IsText letters
+text_letters OfText n = refl
+text_letters OfName n = refl
+text_letters OfBytes n = absurd (n refl)
+
+-- what is read as a text or a name is UTF-8
+pub token_utf8 : (letters : Letters) (bs v rest : List ℕ) → (letters ≢ OfBytes) → token_at letters bs ≡ Ok (v, rest) → IsUtf8 v
+token_utf8 letters bs v rest n e = read_utf8 letters v (read_accepted letters (text_letters letters n) v (good_accepts letters v (token_at_takes letters bs v rest e).good))
+
 hex_stands : (d : ℕ) → is_hex d ≡ true → stands_for_itself d ≡ true
 hex_stands d h = elim (or_cases (leb 48 d && leb d 57) (leb 65 d && leb d 70) h) [
   | inl e ↦
@@ -357,19 +367,25 @@ hex_stands d h = elim (or_cases (leb 48 d && leb d 57) (leb 65 d && leb d 70) h)
 ]
 
 -- what follows a token is no digit of an escape
-ends_not_first : (d : ℕ) (bs : List ℕ) → ends (d ∷ bs) ≡ true → is_first_digit OfText Character d ≡ false
-ends_not_first d bs e =
+ends_not_first : (letters : Letters) (d : ℕ) (bs : List ℕ) → ends (d ∷ bs) ≡ true → is_first_digit letters Character d ≡ false
+ends_not_first letters d bs e =
     let p = and_parts (not (eqb d 37)) (not (stands_for_itself d)) e in
-    elim (cases_Bool (is_first_digit OfText Character d)) [
+    elim (cases_Bool (is_first_digit letters Character d)) [
       | inl f ↦
-          let h = and_parts (is_hex d) (may_begin OfText Character (hex_value d)) f in
+          let h = and_parts (is_hex d) (may_begin letters Character (hex_value d)) f in
           absurd (false≢true (sym (not-true (stands_for_itself d) p.1) ∙ hex_stands d h.0))
       | inr f ↦ f
     ]
 
-lone_ends : (bs : List ℕ) → ends bs ≡ true → is_lone OfText bs ≡ true
-lone_ends [] e = refl
-lone_ends (d ∷ bs) e = not_from_false (is_first_digit OfText Character d) (ends_not_first d bs e)
+not_first : (letters : Letters) (d : ℕ) (bs : List ℕ) → ends (d ∷ bs) ≡ true → not (is_first_digit letters Character d) ≡ true
+not_first letters d bs e = not_from_false (is_first_digit letters Character d) (ends_not_first letters d bs e)
+
+lone_ends : (letters : Letters) (bs : List ℕ) → Good letters [] → ends bs ≡ true → is_lone letters bs ≡ true
+lone_ends OfText [] g e = refl
+lone_ends OfText (d ∷ bs) g e = not_first OfText d bs e
+lone_ends OfBytes [] g e = refl
+lone_ends OfBytes (d ∷ bs) g e = not_first OfBytes d bs e
+lone_ends OfName bs g e = absurd (omega (arith, g.1))
 
 token_cons : (letters : Letters) (x b : ℕ) (xs v rest : List ℕ) → (eqb x 37 && is_lone letters xs) ≡ false
     → token_from letters (Between Character) (x ∷ xs) ≡ Ok (b ∷ v, rest) → token_at letters (x ∷ xs) ≡ Ok (b ∷ v, rest)
@@ -377,6 +393,7 @@ token_cons letters x b xs v rest e read = rw e (ap (nonempty (suc (length xs))) 
 
 not_lone : (letters : Letters) (d : ℕ) (bs : List ℕ) → is_first_digit letters Character d ≡ true → is_lone letters (d ∷ bs) ≡ false
 not_lone OfText d bs e = ap not e
+not_lone OfBytes d bs e = ap not e
 not_lone OfName d bs e = refl
 
 -- this ends a token of these bytes
@@ -386,6 +403,7 @@ may_follow letters (b ∷ v) rest = closes letters rest
 
 pub token_before : (letters : Letters) (v rest : List ℕ) → Good letters v → may_follow letters v rest ≡ true → token_at letters (token v ++ rest) ≡ Ok (v, rest)
 token_before OfText [] rest g end = ap (λ (t : Bool). cond t (Ok ([], rest)) (nonempty (suc (length rest)) (token_from OfText (Between Character) (37 ∷ rest)))) end
+token_before OfBytes [] rest g end = ap (λ (t : Bool). cond t (Ok ([], rest)) (nonempty (suc (length rest)) (token_from OfBytes (Between Character) (37 ∷ rest)))) end
 token_before OfName [] rest g end = absurd (omega (arith, g.1))
 token_before letters (b ∷ v) rest g end =
     let a = good_accepts letters (b ∷ v) g in
@@ -406,8 +424,7 @@ token_before letters (b ∷ v) rest g end =
     ]
 
 follows : (letters : Letters) (v rest : List ℕ) → Good letters v → ends rest ≡ true → may_follow letters v rest ≡ true
-follows OfText [] rest g e = lone_ends rest e
-follows OfName [] rest g e = absurd (omega (arith, g.1))
+follows letters [] rest g e = lone_ends letters rest g e
 follows letters (b ∷ v) rest g e = ends_closes letters rest e
 
 pub token_again : (letters : Letters) (v rest : List ℕ) → Good letters v → ends rest ≡ true → token_at letters (token v ++ rest) ≡ Ok (v, rest)

@@ -1,5 +1,5 @@
 -- The one line of each input, order and header, without its line feed, and which of them a journal may hold.
-use Rattle.std.specs.Prelude.{ℕ, ◌<◌, ◌≤◌, ◌≡◌, ◌≢◌, List, ◌++◌, length, Bool, true, false, codes, IsUtf8, chars, nat_le}
+use Rattle.std.specs.Prelude.{ℕ, ◌<◌, ◌≤◌, ◌≡◌, ◌≢◌, List, ◌++◌, length, Bool, true, false, codes, IsUtf8, chars, nat_lt, nat_le}
 use Rattle.std.specs.List.{flat_map, list_all}
 use Rattle.std.specs.Fmt.{decimal}
 use Rattle.sv_base.specs.Limits.{moment_limit}
@@ -24,6 +24,13 @@ use Rattle.sv_journal.specs.Tokens.{is_name_letter}
 -- a name of a program: characters of which none is a space, a control character, a colon, a slash or an asterisk
 abbrev pub IsName : List ℕ → Type 0
 IsName name = IsUtf8 name × (list_all is_name_letter (chars name) ≡ true) × (0 < length name)
+
+-- any bytes
+abbrev pub is_byte : ℕ → Bool
+is_byte b = nat_lt b 256
+
+abbrev pub AreBytes : List ℕ → Type 0
+AreBytes bytes = list_all is_byte bytes ≡ true
 
 -- how a process ended
 abbrev pub how_words : How → List ℕ
@@ -121,6 +128,13 @@ program_line program =
 abbrev pub header_line : Header → List ℕ
 header_line (header_is.Journal version) = codes "supervisor-journal " ++ decimal version
 header_line (header_is.Program program) = program_line program
+header_line (header_is.Host name) = codes "host " ++ token name
+header_line (header_is.Here directory) = codes "here " ++ token directory
+header_line (header_is.Pid pid) = codes "pid " ++ decimal pid
+header_line (header_is.Env name value) = codes "env " ++ token name ++ codes " " ++ token value
+header_line (header_is.Size file size) = codes "size " ++ token file ++ codes " " ++ decimal size
+header_line (header_is.Conf text) = codes "conf " ++ token text
+header_line (header_is.Include name text) = codes "include " ++ token name ++ codes " " ++ token text
 header_line (header_is.Go at) = codes "go " ++ decimal at
 
 abbrev pub is_exit_code : ℕ → Bool
@@ -135,8 +149,15 @@ FitsProgram program =
     × (list_all is_exit_code program.exitcodes ≡ true)
     × (program.stopwaitsecs ≤ program_limit)
 
--- the short header is version 0
+-- the short header is version 0, the long one version 1
 abbrev pub FitsHeader : Header → Type 0
-FitsHeader (header_is.Journal version) = version ≡ 0
+FitsHeader (header_is.Journal version) = version ≤ 1
 FitsHeader (header_is.Program program) = FitsProgram program
+FitsHeader (header_is.Host name) = IsUtf8 name
+FitsHeader (header_is.Here directory) = IsUtf8 directory
+FitsHeader (header_is.Pid pid) = pid ≤ run_limit
+FitsHeader (header_is.Env name value) = IsUtf8 name × IsUtf8 value
+FitsHeader (header_is.Size file size) = IsUtf8 file × (size ≤ number_limit)
+FitsHeader (header_is.Conf text) = AreBytes text
+FitsHeader (header_is.Include name text) = IsUtf8 name × AreBytes text
 FitsHeader (header_is.Go at) = at ≤ moment_limit

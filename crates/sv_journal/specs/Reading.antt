@@ -6,7 +6,7 @@ use Rattle.sv_journal.specs.Tokens.{allows, after, is_first_digit, is_second_dig
 use Rattle.sv_journal.specs.declared.stop.Stop.{Stop}
 use Rattle.sv_journal.specs.declared.stop.Stop.TheVariants.{At, OutOfMemory}
 use Rattle.sv_journal.specs.declared.token.Letters.{Letters}
-use Rattle.sv_journal.specs.declared.token.Letters.TheVariants.{OfText, OfName}
+use Rattle.sv_journal.specs.declared.token.Letters.TheVariants.{OfText, OfName, OfBytes}
 use Rattle.sv_journal.specs.declared.token.Awaits.{Awaits}
 use Rattle.sv_journal.specs.declared.token.Awaits.TheVariants.{Character, Continuation}
 
@@ -106,11 +106,13 @@ token_from letters (Digit awaits high) (d ∷ bs) =
     then with_first (16 * high + hex_value d) (token_from letters (Between (after letters awaits (16 * high + hex_value d))) bs)
     else Err (suc (length bs))
 
--- a percent sign whose escape does not go on is the empty text; a name is not empty
+-- a percent sign whose escape does not go on is the empty text, or no bytes; a name is not empty
 abbrev pub is_lone : Letters → List ℕ → Bool
 is_lone OfText [] = true
 is_lone OfText (d ∷ bs) = not (is_first_digit OfText Character d)
 is_lone OfName bs = false
+is_lone OfBytes [] = true
+is_lone OfBytes (d ∷ bs) = not (is_first_digit OfBytes Character d)
 
 abbrev pub nonempty : ℕ → Result (List ℕ × List ℕ) ℕ → Result (List ℕ × List ℕ) ℕ
 nonempty left (Ok ([], rest)) = Err left
@@ -157,5 +159,5 @@ codes_tail n [] = Ok (n ∷ [], [])
 codes_tail n (b ∷ bs) = if b == 44 then with_first n (codes_from None bs) else Ok (n ∷ [], b ∷ bs)
 
 -- a token that ends the line
-abbrev pub text_line_at : List ℕ → Result (List ℕ) ℕ
-text_line_at bs = token_at OfText bs >>= (λ r. end_at r.0 r.1)
+abbrev pub last_token_at : Letters → List ℕ → Result (List ℕ) ℕ
+last_token_at letters bs = token_at letters bs >>= (λ r. end_at r.0 r.1)

@@ -24,10 +24,10 @@ use Rattle.sv_journal.specs.declared.words.Told.TheVariants as told_is
 use Rattle.sv_journal.specs.declared.words.Opening.{Opening}
 use Rattle.sv_journal.specs.declared.words.Opening.TheVariants as opening_is
 use Rattle.sv_journal.specs.declared.token.Letters.{Letters}
-use Rattle.sv_journal.specs.declared.token.Letters.TheVariants.{OfName}
+use Rattle.sv_journal.specs.declared.token.Letters.TheVariants.{OfText, OfName, OfBytes}
 use Rattle.sv_journal.specs.JournalLine.{autorestart_word}
 use Rattle.sv_journal.specs.Limits.{number_limit, run_limit, program_limit}
-use Rattle.sv_journal.specs.Reading.{◌>>=◌, word_at, keyword_at, number_at, token_at, end_at, text_line_at, codes_from}
+use Rattle.sv_journal.specs.Reading.{◌>>=◌, word_at, keyword_at, number_at, token_at, end_at, last_token_at, codes_from}
 
 abbrev pub verb_word : Verb → List ℕ
 verb_word verb_is.Tick = codes "tick"
@@ -72,12 +72,32 @@ abbrev pub answers : List Answer
 answers = answer_is.Pid ∷ answer_is.NoFile ∷ answer_is.NotExecutable ∷ answer_is.Refused ∷ answer_is.Failed ∷ []
 
 abbrev pub opening_word : Opening → List ℕ
-opening_word opening_is.Journal = codes "supervisor-journal 0"
+opening_word opening_is.Short = codes "supervisor-journal 0"
+opening_word opening_is.Long = codes "supervisor-journal 1"
 opening_word opening_is.Program = codes "program "
+opening_word opening_is.Host = codes "host "
+opening_word opening_is.Here = codes "here "
+opening_word opening_is.Pid = codes "pid "
+opening_word opening_is.Env = codes "env "
+opening_word opening_is.Size = codes "size "
+opening_word opening_is.Conf = codes "conf "
+opening_word opening_is.Include = codes "include "
 opening_word opening_is.Go = codes "go "
 
 abbrev pub openings : List Opening
-openings = opening_is.Journal ∷ opening_is.Program ∷ opening_is.Go ∷ []
+openings =
+    opening_is.Short
+    ∷ opening_is.Long
+    ∷ opening_is.Program
+    ∷ opening_is.Host
+    ∷ opening_is.Here
+    ∷ opening_is.Pid
+    ∷ opening_is.Env
+    ∷ opening_is.Size
+    ∷ opening_is.Conf
+    ∷ opening_is.Include
+    ∷ opening_is.Go
+    ∷ []
 
 abbrev pub signals : List Signal
 signals = signal_is.Term ∷ signal_is.Hup ∷ signal_is.Int ∷ signal_is.Quit ∷ signal_is.Kill ∷ signal_is.Usr1 ∷ signal_is.Usr2 ∷ []
@@ -98,8 +118,8 @@ number_then least limit next bs = number_at least limit bs >>= (λ r. next r.0 r
 abbrev pub token_then : {X : Type 0} → Letters → (List ℕ → List ℕ → Result X ℕ) → List ℕ → Result X ℕ
 token_then letters next bs = token_at letters bs >>= (λ r. next r.0 r.1)
 
-abbrev pub text_then : {X : Type 0} → (List ℕ → X) → List ℕ → Result X ℕ
-text_then value bs = text_line_at bs >>= (λ text. Ok (value text))
+abbrev pub last_token_then : {X : Type 0} → Letters → (List ℕ → X) → List ℕ → Result X ℕ
+last_token_then letters value bs = last_token_at letters bs >>= (λ bytes. Ok (value bytes))
 
 abbrev pub codes_then : {X : Type 0} → (List ℕ → List ℕ → Result X ℕ) → List ℕ → Result X ℕ
 codes_then next bs = codes_from None bs >>= (λ r. next r.0 r.1)
@@ -115,8 +135,8 @@ exit_at at = number_then 0 run_limit (λ run. word_then (codes " ") (keyword_the
 unfoldable pub event_of : ℕ → Verb → List ℕ → Result Input ℕ
 event_of at verb_is.Tick = end_at (input_is.Tick at)
 event_of at verb_is.Exit = exit_at at
-event_of at verb_is.Start = text_then (λ name. input_is.Start at name)
-event_of at verb_is.Stop = text_then (λ name. input_is.Stop at name)
+event_of at verb_is.Start = last_token_then OfText (λ name. input_is.Start at name)
+event_of at verb_is.Stop = last_token_then OfText (λ name. input_is.Stop at name)
 event_of at verb_is.Signal = keyword_then told_word told_signals (λ told. end_at (input_is.Signal at (told_signal told)))
 
 unfoldable pub event_at : List ℕ → Result Input ℕ
@@ -126,7 +146,7 @@ unfoldable pub answer_of : Answer → List ℕ → Result Input ℕ
 answer_of answer_is.Pid = number_then 1 run_limit (λ pid. end_at (input_is.Pid pid))
 answer_of answer_is.NoFile = end_at input_is.NoFile
 answer_of answer_is.NotExecutable = end_at input_is.NotExecutable
-answer_of answer_is.Refused = text_then (λ reason. input_is.Refused reason)
+answer_of answer_is.Refused = last_token_then OfText (λ reason. input_is.Refused reason)
 answer_of answer_is.Failed = number_then 0 number_limit (λ number. end_at (input_is.Failed number))
 
 unfoldable pub answer_at : List ℕ → Result Input ℕ
@@ -164,9 +184,29 @@ unfoldable pub start_at : List ℕ → List ℕ → Result Header ℕ
 start_at name =
     number_then 0 program_limit (λ startsecs. word_then (codes " ") (number_then 0 program_limit (λ startretries. word_then (codes " ") (restart_at name startsecs startretries))))
 
+unfoldable pub program_at : List ℕ → Result Header ℕ
+program_at = token_then OfName (λ name. word_then (codes " ") (start_at name))
+
+unfoldable pub env_at : List ℕ → Result Header ℕ
+env_at = token_then OfText (λ name. word_then (codes " ") (last_token_then OfText (λ value. header_is.Env name value)))
+
+unfoldable pub size_at : List ℕ → Result Header ℕ
+size_at = token_then OfText (λ file. word_then (codes " ") (number_then 0 number_limit (λ size. end_at (header_is.Size file size))))
+
+unfoldable pub include_at : List ℕ → Result Header ℕ
+include_at = token_then OfText (λ name. word_then (codes " ") (last_token_then OfBytes (λ text. header_is.Include name text)))
+
 unfoldable pub header_of : Opening → List ℕ → Result Header ℕ
-header_of opening_is.Journal = end_at (header_is.Journal 0)
-header_of opening_is.Program = token_then OfName (λ name. word_then (codes " ") (start_at name))
+header_of opening_is.Short = end_at (header_is.Journal 0)
+header_of opening_is.Long = end_at (header_is.Journal 1)
+header_of opening_is.Program = program_at
+header_of opening_is.Host = last_token_then OfText (λ name. header_is.Host name)
+header_of opening_is.Here = last_token_then OfText (λ directory. header_is.Here directory)
+header_of opening_is.Pid = number_then 0 run_limit (λ pid. end_at (header_is.Pid pid))
+header_of opening_is.Env = env_at
+header_of opening_is.Size = size_at
+header_of opening_is.Conf = last_token_then OfBytes (λ text. header_is.Conf text)
+header_of opening_is.Include = include_at
 header_of opening_is.Go = number_then 0 moment_limit (λ at. end_at (header_is.Go at))
 
 unfoldable pub header_at : List ℕ → Result Header ℕ

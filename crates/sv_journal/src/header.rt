@@ -1,3 +1,4 @@
+use sv_base::bytes::Bytes;
 use sv_base::items::Items;
 use sv_base::moment::Moment;
 use sv_base::number::{Retries, Seconds};
@@ -8,10 +9,24 @@ use sv_base::text::Text;
 /// One line of a journal's header.
 #[derive(Debug, Drop)]
 pub enum Header {
-    /// The first line, with the version of the journal; the short header has version 0.
+    /// The first line, with the version of the journal: 0 of the short header, 1 of the long one.
     Journal(u8),
     /// A program, by the keys that a short header gives it.
     Program(Program),
+    /// The name of the host.
+    Host(Text),
+    /// The directory of the configuration, which is `here` in it.
+    Here(Text),
+    /// The daemon's process id, which may be 0.
+    Pid(u32),
+    /// A name in the environment, and its value.
+    Env(Text, Text),
+    /// A log file, and its size in bytes.
+    Size(Text, u64),
+    /// The text of the configuration, which may be any bytes.
+    Conf(Bytes),
+    /// The name of a file that the configuration includes, and its text, which may be any bytes.
+    Include(Text, Bytes),
     /// The last line, with the moment at which the daemon starts.
     Go(Moment),
 }

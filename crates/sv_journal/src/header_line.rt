@@ -1,13 +1,13 @@
 ghost use Rattle.std.specs.Prelude.{◌≡◌, ◌≤◌};
 ghost use Rattle.sv_journal.specs.Reading.{Gives};
-ghost use Rattle.sv_journal.specs.ReadingLines.{codes_at, restart_at, start_at, header_of, header_at};
+ghost use Rattle.sv_journal.specs.ReadingLines.{codes_at, restart_at, start_at, program_at, env_at, size_at, include_at, header_of, header_at};
 
 use crate::exit_codes::exit_codes;
 use crate::header::{Header, Program};
 use crate::input_line::moment;
 use crate::number::number;
 use crate::stop::Stop;
-use crate::token::{Letters, token};
+use crate::token::{Letters, bytes_of_line, rest_of_line, token};
 use crate::word::{end, keyword, word};
 use crate::words::{AUTORESTARTS, OPENINGS, Opening, SIGNALS};
 use std::alloc::Global;
@@ -33,18 +33,77 @@ fn header_of(alloc: Global, opening: Opening, bytes: &[u8]) -> Result<Header, St
     ensures { Gives (λ x. x) result (header_of opening bytes.now) }
 {
     match opening {
-        Opening::Journal => end(Header::Journal(0), bytes),
-        Opening::Program => match token(alloc, Letters::OfName, bytes) {
-            Ok((name, rest)) => {
-                let rest = word(b" ", rest)?;
-                start(alloc, name, rest)
-            }
-            Err(stop) => Err(stop),
-        },
+        Opening::Short => end(Header::Journal(0), bytes),
+        Opening::Long => end(Header::Journal(1), bytes),
+        Opening::Program => program(alloc, bytes),
+        Opening::Host => {
+            let name = rest_of_line(alloc, bytes)?;
+            Ok(Header::Host(name))
+        }
+        Opening::Here => {
+            let directory = rest_of_line(alloc, bytes)?;
+            Ok(Header::Here(directory))
+        }
+        Opening::Pid => {
+            let (pid, rest) = number(0, u64::from(u32::MAX), bytes)?;
+            end(Header::Pid(pid as u32), rest)
+        }
+        Opening::Env => environment(alloc, bytes),
+        Opening::Size => size(alloc, bytes),
+        Opening::Conf => {
+            let text = bytes_of_line(alloc, bytes)?;
+            Ok(Header::Conf(text))
+        }
+        Opening::Include => include(alloc, bytes),
         Opening::Go => {
             let (milliseconds, rest) = number(0, MOMENT_LIMIT, bytes)?;
             end(Header::Go(moment(milliseconds)), rest)
         }
+    }
+}
+
+/// Reads a name in the environment and its value.
+#[tactic(auto, unfolding(crate::specs::ReadingLines::env_at))]
+fn environment(alloc: Global, bytes: &[u8]) -> Result<Header, Stop>
+    ensures { Gives (λ x. x) result (env_at bytes.now) }
+{
+    match token(alloc, Letters::OfText, bytes) {
+        Ok((name, rest)) => {
+            let rest = word(b" ", rest)?;
+            let value = rest_of_line(alloc, rest)?;
+            Ok(Header::Env(name, value))
+        }
+        Err(stop) => Err(stop),
+    }
+}
+
+/// Reads a log file and its size.
+#[tactic(auto, unfolding(crate::specs::ReadingLines::size_at))]
+fn size(alloc: Global, bytes: &[u8]) -> Result<Header, Stop>
+    ensures { Gives (λ x. x) result (size_at bytes.now) }
+{
+    match token(alloc, Letters::OfText, bytes) {
+        Ok((file, rest)) => {
+            let rest = word(b" ", rest)?;
+            let (size, rest) = number(0, u64::MAX, rest)?;
+            end(Header::Size(file, size), rest)
+        }
+        Err(stop) => Err(stop),
+    }
+}
+
+/// Reads the name of an included file and its text.
+#[tactic(auto, unfolding(crate::specs::ReadingLines::include_at))]
+fn include(alloc: Global, bytes: &[u8]) -> Result<Header, Stop>
+    ensures { Gives (λ x. x) result (include_at bytes.now) }
+{
+    match token(alloc, Letters::OfText, bytes) {
+        Ok((name, rest)) => {
+            let rest = word(b" ", rest)?;
+            let text = bytes_of_line(alloc, rest)?;
+            Ok(Header::Include(name, text))
+        }
+        Err(stop) => Err(stop),
     }
 }
 
@@ -53,6 +112,20 @@ fn setting(number: u64) -> Seconds
     ensures { result ≡ number }
 {
     Seconds::new(number as u32).unwrap()
+}
+
+/// Reads a program's name and keys.
+#[tactic(auto, unfolding(crate::specs::ReadingLines::program_at))]
+fn program(alloc: Global, bytes: &[u8]) -> Result<Header, Stop>
+    ensures { Gives (λ x. x) result (program_at bytes.now) }
+{
+    match token(alloc, Letters::OfName, bytes) {
+        Ok((name, rest)) => {
+            let rest = word(b" ", rest)?;
+            start(alloc, name, rest)
+        }
+        Err(stop) => Err(stop),
+    }
 }
 
 /// Reads a program's keys from `startsecs` on.

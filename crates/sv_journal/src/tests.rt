@@ -1,4 +1,5 @@
 use crate::fault::LineFault;
+use crate::header::Header;
 use crate::read::{read_header, read_input};
 use crate::write::{write_input, write_order};
 use std::alloc::Global;
@@ -9,6 +10,19 @@ use sv_base::signal::Signal;
 use sv_base::state::State;
 use sv_base::text::Text;
 use sv_out::order::{Order, SpawnOrder};
+
+/// A line of a long header, as it is to be read.
+#[derive(Clone, Copy)]
+enum Wanted {
+    Journal(u8),
+    Host(&'static str),
+    Here(&'static str),
+    Pid(u32),
+    Env(&'static str, &'static str),
+    Size(&'static str, u64),
+    Conf(&'static [u8]),
+    Include(&'static str, &'static [u8]),
+}
 
 /// Input lines, each with the column at which it breaks; a good line has none.
 const INPUTS: [(&str, Option<usize>); 88] = [
@@ -130,9 +144,10 @@ const ANSWERS: [(&str, Option<usize>); 24] = [
 ];
 
 /// Header lines, in the same way.
-const HEADERS: [(&str, Option<usize>); 62] = [
+const HEADERS: [(&str, Option<usize>); 63] = [
     ("supervisor-journal 0", None),
-    ("supervisor-journal 1", Some(19)),
+    ("supervisor-journal 1", None),
+    ("supervisor-journal 2", Some(19)),
     ("supervisor-journal 00", Some(20)),
     ("supervisor-journal", Some(18)),
     ("supervisor-journal 0 ", Some(20)),
@@ -195,6 +210,89 @@ const HEADERS: [(&str, Option<usize>); 62] = [
     ("program  x 1 3 true 0 TERM 10", Some(8)),
 ];
 
+/// Lines of a long header, in the same way.
+const LONG_HEADERS: [(&str, Option<usize>); 79] = [
+    ("supervisor-journal 10", Some(20)),
+    ("supervisor-journal 1 ", Some(20)),
+    ("host box", None),
+    ("host %", None),
+    ("host %C3%A4", None),
+    ("host", Some(4)),
+    ("host ", Some(5)),
+    ("host a b", Some(6)),
+    ("host a ", Some(6)),
+    ("host %FF", Some(7)),
+    ("host %80", Some(6)),
+    ("hosts a", Some(4)),
+    ("Host a", Some(0)),
+    ("here .", None),
+    ("here %", None),
+    ("here /etc/a%20b", None),
+    ("here a%41", Some(7)),
+    ("here %ED%A0%80", Some(9)),
+    ("her", Some(3)),
+    ("hi", Some(1)),
+    ("pid 0", None),
+    ("pid 4294967295", None),
+    ("pid 4294967296", Some(13)),
+    ("pid 00", Some(5)),
+    ("pid -1", Some(4)),
+    ("pid 1 ", Some(5)),
+    ("pid", Some(3)),
+    ("env PATH /bin:/usr/bin", None),
+    ("env A %", None),
+    ("env % %", None),
+    ("env A%00 %0A", None),
+    ("env A=b", Some(7)),
+    ("env A", Some(5)),
+    ("env A ", Some(6)),
+    ("env A  b", Some(6)),
+    ("env A b c", Some(7)),
+    ("env A %C3", Some(9)),
+    ("env %FF a", Some(6)),
+    ("size /var/log/x.log 0", None),
+    ("size % 7", None),
+    ("size out.log 18446744073709551615", None),
+    ("size out.log 18446744073709551616", Some(32)),
+    ("size out.log 01", Some(14)),
+    ("size out.log", Some(12)),
+    ("size out.log ", Some(13)),
+    ("size  1", Some(5)),
+    ("size x y", Some(7)),
+    ("size x 1 ", Some(8)),
+    ("conf %", None),
+    ("conf %00%FF", None),
+    ("conf [supervisord]%0Alogfile=NONE%0A", None),
+    ("conf %80%C3%ED%A0%80", None),
+    ("conf %7F%20%25", None),
+    ("conf", Some(4)),
+    ("conf ", Some(5)),
+    ("conf a b", Some(6)),
+    ("conf a ", Some(6)),
+    ("conf %41", Some(6)),
+    ("conf %7E", Some(7)),
+    ("conf %2e", Some(7)),
+    ("conf %ff", Some(6)),
+    ("conf %Ff", Some(7)),
+    ("conf %2", Some(7)),
+    ("conf %%", Some(6)),
+    ("conf a%", Some(7)),
+    ("conf a%g0", Some(7)),
+    ("conf a%3F", Some(7)),
+    ("conf a%2F", Some(8)),
+    ("conf a\n", Some(6)),
+    ("include a.conf [program:x]%0A", None),
+    ("include a.conf %", None),
+    ("include % %FF", None),
+    ("include %FF x", Some(10)),
+    ("include a.conf", Some(14)),
+    ("include a.conf ", Some(15)),
+    ("include a.conf a b", Some(16)),
+    ("include a.conf %C3%5B", Some(19)),
+    ("includes", Some(7)),
+    ("inc", Some(3)),
+];
+
 fn input_column(rt: &impl Abort, alloc: Global, line: &str) -> Option<usize> {
     match read_input(alloc, line.as_bytes()) {
         Ok(_) => None,
@@ -246,6 +344,69 @@ fn lines_are_read_or_break_at_their_column(rt: HostRuntime) {
     for (line, column) in &HEADERS {
         same_column(&rt, line, header_column(&rt, alloc, line), *column);
     }
+    for (line, column) in &LONG_HEADERS {
+        same_column(&rt, line, header_column(&rt, alloc, line), *column);
+    }
+}
+
+fn is_wanted(header: &Header, wanted: Wanted) -> bool {
+    match (header, wanted) {
+        (Header::Journal(version), Wanted::Journal(wanted)) => *version == wanted,
+        (Header::Host(name), Wanted::Host(wanted)) => name.as_str() == wanted,
+        (Header::Here(directory), Wanted::Here(wanted)) => directory.as_str() == wanted,
+        (Header::Pid(pid), Wanted::Pid(wanted)) => *pid == wanted,
+        (Header::Env(name, value), Wanted::Env(wanted, other)) => {
+            name.as_str() == wanted && value.as_str() == other
+        }
+        (Header::Size(file, size), Wanted::Size(wanted, other)) => {
+            file.as_str() == wanted && *size == other
+        }
+        (Header::Conf(text), Wanted::Conf(wanted)) => text.as_slice() == wanted,
+        (Header::Include(name, text), Wanted::Include(wanted, other)) => {
+            name.as_str() == wanted && text.as_slice() == other
+        }
+        _ => false,
+    }
+}
+
+fn header_is(rt: &impl Abort, alloc: Global, line: &str, wanted: Wanted) {
+    let Ok(header) = read_header(alloc, line.as_bytes()) else {
+        panic!(rt; "{line}")
+    };
+    assert!(rt; is_wanted(&header, wanted), "{line}");
+}
+
+#[test]
+fn long_headers_are_read(rt: HostRuntime) {
+    let alloc = rt.alloc();
+    header_is(&rt, alloc, "supervisor-journal 0", Wanted::Journal(0));
+    header_is(&rt, alloc, "supervisor-journal 1", Wanted::Journal(1));
+    header_is(&rt, alloc, "host %C3%A4", Wanted::Host("\u{e4}"));
+    header_is(&rt, alloc, "here /etc/a%20b", Wanted::Here("/etc/a b"));
+    header_is(&rt, alloc, "pid 0", Wanted::Pid(0));
+    header_is(&rt, alloc, "pid 4294967295", Wanted::Pid(u32::MAX));
+    header_is(&rt, alloc, "env A %", Wanted::Env("A", ""));
+    header_is(&rt, alloc, "env % a=b", Wanted::Env("", "a=b"));
+    header_is(
+        &rt,
+        alloc,
+        "size x.log 18446744073709551615",
+        Wanted::Size("x.log", u64::MAX),
+    );
+    header_is(&rt, alloc, "conf %", Wanted::Conf(b""));
+    header_is(&rt, alloc, "conf %00%FF", Wanted::Conf(b"\x00\xff"));
+    header_is(
+        &rt,
+        alloc,
+        "conf [x]%0Aa=%25%0A",
+        Wanted::Conf(b"[x]\na=%\n"),
+    );
+    header_is(
+        &rt,
+        alloc,
+        "include a.conf %80~",
+        Wanted::Include("a.conf", b"\x80~"),
+    );
 }
 
 const STATES: [(State, State, &str); 8] = [

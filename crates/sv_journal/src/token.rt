@@ -1,25 +1,27 @@
-ghost use Rattle.std.specs.Prelude.{◌≡◌, ◌+◌, ◌*◌, ◌<◌, ◌≤◌, IfOk, IsTrue, IsUtf8, IfSome, length};
+ghost use Rattle.std.specs.Prelude.{◌≡◌, ◌≢◌, ◌+◌, ◌*◌, ◌<◌, ◌≤◌, nat_lt, IfOk, IsTrue, IsUtf8, IfSome, length};
 ghost use Rattle.std.specs.Option.{SomeIff, option_map};
 ghost use Rattle.sv_journal.specs.declared.token.Letters.{Letters};
 ghost use Rattle.sv_journal.specs.declared.token.Awaits.{Awaits};
 ghost use Rattle.sv_journal.specs.Spelling.{stands_for_itself};
-ghost use Rattle.sv_journal.specs.Tokens.{is_name_letter, allows, after, after_lead, escapes, is_hex, hex_value, may_begin, is_first_digit, is_second_digit};
-ghost use Rattle.sv_journal.specs.Reading.{Gives, Stage, first_digit_at, second_digit_at, escape_at, spelled_byte_at, token_from, is_lone, token_at, text_line_at};
+ghost use Rattle.sv_journal.specs.Tokens.{is_name_letter, whole_below, allows, after, after_lead, escapes, is_hex, hex_value, may_begin, is_first_digit, is_second_digit};
+ghost use Rattle.sv_journal.specs.Reading.{Gives, Stage, first_digit_at, second_digit_at, escape_at, spelled_byte_at, token_from, is_lone, token_at, last_token_at};
 
 use crate::stop::Stop;
 use crate::word::end;
 use std::alloc::Global;
+use sv_base::bytes::Bytes;
 use sv_base::text::Text;
 
-/// Which texts a token may spell: any text, or only a name of a program.
+/// What a token may spell: any text, only a name of a program, or any bytes.
 #[derive(Clone, Copy, Debug, PartialEq, Eq)]
 pub enum Letters {
     OfText,
     OfName,
+    OfBytes,
 }
 
-/// What a token whose bytes are UTF-8 goes on with: a character, or a byte within a character, from `low` to `high`,
-/// and so many more bytes after it.
+/// What a token goes on with: a character, or a byte within a character, from `low` to `high`, and so many more bytes
+/// after it.
 #[derive(Clone, Copy, Debug, PartialEq, Eq)]
 enum Awaits {
     Character,
@@ -41,13 +43,25 @@ fn is_name_letter(byte: u8) -> bool
     b' ' < byte && byte != 127 && byte != b':' && byte != b'/' && byte != b'*'
 }
 
+impl Letters {
+    /// Whether this byte is a character by itself: in UTF-8 one of ASCII, among any bytes each of them.
+    fn is_whole(self, byte: u8) -> bool
+        ensures { result ≡ nat_lt byte (whole_below self) }
+    {
+        match self {
+            Letters::OfText | Letters::OfName => byte < 128,
+            Letters::OfBytes => true,
+        }
+    }
+}
+
 impl Awaits {
     fn allows(self, letters: Letters, byte: u8) -> bool
         ensures { result ≡ allows letters self byte }
     {
         match self {
-            Awaits::Character if byte < 128 => match letters {
-                Letters::OfText => true,
+            Awaits::Character if letters.is_whole(byte) => match letters {
+                Letters::OfText | Letters::OfBytes => true,
                 Letters::OfName => is_name_letter(byte),
             },
             Awaits::Character => 194 <= byte && byte <= 244,
@@ -81,8 +95,8 @@ fn after_lead(letters: Letters, lead: u8) -> Awaits
     ensures { result ≡ after_lead letters lead }
 {
     match lead {
-        0..=127 => Awaits::Character,
-        128..=223 => Awaits::Continuation {
+        _ if letters.is_whole(lead) => Awaits::Character,
+        0..=223 => Awaits::Continuation {
             low: if letters == Letters::OfName && lead == 194 {
                 160
             } else {
@@ -222,24 +236,34 @@ fn is_lone(letters: Letters, bytes: &[u8]) -> bool
     ensures { result ≡ is_lone letters bytes.now }
 {
     match (letters, bytes) {
-        (Letters::OfText, [digit, ..]) => !is_first_digit(letters, Awaits::Character, *digit),
-        (Letters::OfText, []) => true,
         (Letters::OfName, _) => false,
+        (_, [digit, ..]) => !is_first_digit(letters, Awaits::Character, *digit),
+        (_, []) => true,
     }
 }
 
-/// Reads a token.
-pub fn token(alloc: Global, letters: Letters, bytes: &[u8]) -> Result<(Text, &[u8]), Stop>
-    ensures { Gives (λ x. (x.0, x.1.now)) result (token_at letters bytes.now) }
+/// Reads a token, as the bytes that it spells.
+fn spelling(alloc: Global, letters: Letters, bytes: &[u8]) -> Result<(Vec<u8>, &[u8]), Stop>
+    ensures { Gives (λ x. (x.0.items, x.1.now)) result (token_at letters bytes.now) }
 {
     match bytes {
         [] => Err(Stop::At(0)),
-        [b'%', rest @ ..] if is_lone(letters, rest) => Ok((Text::fixed(""), rest)),
+        [b'%', rest @ ..] if is_lone(letters, rest) => Ok((Vec::new(alloc), rest)),
         _ => match spelled(alloc, letters, bytes) {
             Ok((value, _)) if value.as_slice().is_empty() => Err(Stop::At(bytes.len())),
-            Ok((value, rest)) => Ok((text_of(value), rest)),
-            Err(stop) => Err(stop),
+            read => read,
         },
+    }
+}
+
+/// Reads the token of a text or a name.
+pub fn token(alloc: Global, letters: Letters, bytes: &[u8]) -> Result<(Text, &[u8]), Stop>
+    requires { letters ≢ Letters.OfBytes }
+    ensures { Gives (λ x. (x.0, x.1.now)) result (token_at letters bytes.now) }
+{
+    match spelling(alloc, letters, bytes) {
+        Ok((value, rest)) => Ok((text_of(value), rest)),
+        Err(stop) => Err(stop),
     }
 }
 
@@ -254,9 +278,19 @@ fn text_of(bytes: Vec<u8>) -> Text
     }
 }
 
-/// Reads a token that ends the line.
+/// Reads the token of any bytes, which ends the line.
+pub fn bytes_of_line(alloc: Global, bytes: &[u8]) -> Result<Bytes, Stop>
+    ensures { Gives (λ x. x) result (last_token_at Letters.OfBytes bytes.now) }
+{
+    match spelling(alloc, Letters::OfBytes, bytes) {
+        Ok((value, rest)) => end(Bytes::from_vec(value), rest),
+        Err(stop) => Err(stop),
+    }
+}
+
+/// Reads the token of a text, which ends the line.
 pub fn rest_of_line(alloc: Global, bytes: &[u8]) -> Result<Text, Stop>
-    ensures { Gives (λ x. x) result (text_line_at bytes.now) }
+    ensures { Gives (λ x. x) result (last_token_at Letters.OfText bytes.now) }
 {
     match token(alloc, Letters::OfText, bytes) {
         Ok((text, rest)) => end(text, rest),

@@ -45,11 +45,19 @@ pub enum Answer {
     Failed,
 }
 
-/// The first word of a header line.
+/// How a header line begins: the title of a journal of each version, or a first word.
 #[derive(Clone, Copy, Debug)]
 pub enum Opening {
-    Journal,
+    Short,
+    Long,
     Program,
+    Host,
+    Here,
+    Pid,
+    Env,
+    Size,
+    Conf,
+    Include,
     Go,
 }
 
@@ -80,7 +88,19 @@ pub const ANSWERS: [Answer; 5] = [
     Answer::Failed,
 ];
 
-pub const OPENINGS: [Opening; 3] = [Opening::Journal, Opening::Program, Opening::Go];
+pub const OPENINGS: [Opening; 11] = [
+    Opening::Short,
+    Opening::Long,
+    Opening::Program,
+    Opening::Host,
+    Opening::Here,
+    Opening::Pid,
+    Opening::Env,
+    Opening::Size,
+    Opening::Conf,
+    Opening::Include,
+    Opening::Go,
+];
 
 pub const SIGNALS: [Signal; 7] = [
     Signal::Term,
@@ -173,8 +193,16 @@ impl Spelled for Opening {
 
     fn spelling(&self) -> &'static str {
         match self {
-            Opening::Journal => "supervisor-journal 0",
+            Opening::Short => "supervisor-journal 0",
+            Opening::Long => "supervisor-journal 1",
             Opening::Program => "program ",
+            Opening::Host => "host ",
+            Opening::Here => "here ",
+            Opening::Pid => "pid ",
+            Opening::Env => "env ",
+            Opening::Size => "size ",
+            Opening::Conf => "conf ",
+            Opening::Include => "include ",
             Opening::Go => "go ",
         }
     }
