@@ -1,7 +1,12 @@
 mod Judged
 mod OneReading
+mod Quiet
 mod ReadAll
+mod Refusals
+mod RisingNames
 mod RunSteps
 mod Says
+mod SaysInputs
+mod SaysLong
 mod Table
 mod Walks

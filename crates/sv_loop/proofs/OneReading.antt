@@ -6,21 +6,21 @@ use Rattle.sv_journal.proofs.NoLineFeed.{plain_input, plain_header}
 use Rattle.sv_journal.proofs.OneMeaning.{one_input, one_header}
 use Rattle.sv_journal.specs.Limits.{line_limit}
 use Rattle.sv_journal.specs.declared.header.Header.{Header}
-use Rattle.sv_journal.specs.declared.header.Header.TheVariants.{Journal, Program, Go}
-use Rattle.sv_loop.specs.JournalPlaces.{Line, line_text, FitsLine, Stage, Verdict, heads, judged, Walked, behind, walks_on, walked, journal_text, AllFit, IsMisplaced, IsRefused}
+use Rattle.sv_journal.specs.declared.header.Header.TheVariants as header_is
+use Rattle.sv_loop.specs.JournalPlaces.{Line, line_text, FitsLine, Stage, Verdict, heads, judged, Walked, behind, walks_on, walked, journal_text, AllFit, IsMisplaced, IsRefused, IsUnconfigured}
 use Rattle.sv_loop.specs.JournalPlaces.Line.{Head, Said}
-use Rattle.sv_loop.specs.JournalPlaces.Stage.{Fresh, Named, Running}
-use Rattle.sv_loop.specs.JournalPlaces.Verdict.{Stands, Misplaced, Refused}
+use Rattle.sv_loop.specs.JournalPlaces.Stage.{Fresh, Named, Long, Running}
+use Rattle.sv_loop.specs.JournalPlaces.Verdict.{Stands, Misplaced, Refused, Faulty, NotBuilt}
 use Rattle.sv_loop.specs.JournalPlaces.Walked.{Reaches, Stops}
-use Rattle.sv_loop.specs.Reading.{has_feed, IsRead, IsWhole, OutsideGrammar, NotAccepted}
-use Rattle.sv_loop.specs.Replaying.{EndsTooEarly, IsBeforeGo, Replays, journal_limit, status_number}
+use Rattle.sv_loop.specs.Reading.{has_feed, IsRead, IsWhole, OutsideGrammar, NotAccepted, NotConfigured}
+use Rattle.sv_loop.specs.Replaying.{EndsTooEarly, IsBeforeGo, Replays, TellsWhy, journal_limit, status_number}
 use Rattle.sv_loop.specs.WholeJournal.{HoldsGoodJournal, IsDoneOrHindered}
 use Rattle.sv_loop.specs.WholeJournal.IsDoneOrHindered.{Is_done, Source_failed, Words_refused, No_memory, Sink_failed}
 use Rattle.sv_loop.specs.declared.replay.Status.{Status}
 use Rattle.sv_loop.specs.declared.replay.Status.TheVariants as status
 use Rattle.sv_out.specs.declared.order.Order.{Order}
 
-plain_line : (line : Line) → FitsLine line → has_feed (line_text line) ≡ false
+pub plain_line : (line : Line) → FitsLine line → has_feed (line_text line) ≡ false
 plain_line (Head header) fits = plain_header header fits
 plain_line (Said input) fits = plain_input input fits
 
@@ -32,15 +32,15 @@ begins_with_feed : (c : ℕ) (bytes : List ℕ) → 10 ≡ c → has_feed (c ∷
 begins_with_feed c bytes same none =
     let hit : true ≡ false = subst (λ (z : ℕ). has_feed (z ∷ bytes) ≡ false) (sym same) none in cc
 
-feed_in : (front back : List ℕ) → has_feed (front ++ 10 ∷ back) ≡ false → ⊥
+pub feed_in : (front back : List ℕ) → has_feed (front ++ 10 ∷ back) ≡ false → ⊥
 feed_in [] back none = cc
 feed_in (c ∷ front) back none = feed_in front back (or_right (c == 10) (has_feed (front ++ 10 ∷ back)) none)
 
-not_empty : (front back : List ℕ) → [] ≡ front ++ 10 ∷ back → ⊥
+pub not_empty : (front back : List ℕ) → [] ≡ front ++ 10 ∷ back → ⊥
 not_empty [] back e = cc
 not_empty (c ∷ front) back e = cc
 
-same_front : (one other x y : List ℕ) → has_feed one ≡ false → has_feed other ≡ false → one ++ 10 ∷ x ≡ other ++ 10 ∷ y → (one ≡ other) × (x ≡ y)
+pub same_front : (one other x y : List ℕ) → has_feed one ≡ false → has_feed other ≡ false → one ++ 10 ∷ x ≡ other ++ 10 ∷ y → (one ≡ other) × (x ≡ y)
 same_front [] [] x y p q e = (refl, cc)
 same_front [] (d ∷ other) x y p q e = let same : 10 ≡ d = cc in absurd (begins_with_feed d other same q)
 same_front (c ∷ one) [] x y p q e = let same : 10 ≡ c = cc in absurd (begins_with_feed c one same p)
@@ -51,19 +51,29 @@ same_front (c ∷ one) (d ∷ other) x y p q e =
     (rw (first, rest.0) refl, rest.1)
 
 -- a text without a line feed goes no further than the line
-no_longer : (text x line y : List ℕ) → has_feed text ≡ false → line ++ 10 ∷ y ≡ text ++ x → length text ≤ length line
+pub no_longer : (text x line y : List ℕ) → has_feed text ≡ false → line ++ 10 ∷ y ≡ text ++ x → length text ≤ length line
 no_longer [] x line y none e = omega arith
 no_longer (c ∷ text) x [] y none e = let same : 10 ≡ c = cc in absurd (begins_with_feed c text same none)
 no_longer (c ∷ text) x (d ∷ line) y none e =
     let same : line ++ 10 ∷ y ≡ text ++ x = cc in
     let rest : length text ≤ length line = no_longer text x line y (or_right (c == 10) (has_feed text) none) same in omega arith
 
-no_head : (m : Model) (header : Header) (to : Stage) (given : List Order) → heads (Running m) header ≡ Stands to given → ⊥
-no_head m (Journal version) to given e = cc
-no_head m (Program program) to given e = cc
-no_head m (Go start) to given e = cc
+pub no_header_behind_go : (m : Model) (header : Header) → heads (Running m) header ≡ Misplaced
+no_header_behind_go m (header_is.Journal version) = refl
+no_header_behind_go m (header_is.Program program) = refl
+no_header_behind_go m (header_is.Host name) = refl
+no_header_behind_go m (header_is.Here here) = refl
+no_header_behind_go m (header_is.Pid pid) = refl
+no_header_behind_go m (header_is.Env name value) = refl
+no_header_behind_go m (header_is.Size file size) = refl
+no_header_behind_go m (header_is.Conf text) = refl
+no_header_behind_go m (header_is.Include name more) = refl
+no_header_behind_go m (header_is.Go start) = refl
 
-same_line : (at to onto : Stage) (given more : List Order) (one other : Line) → FitsLine one → FitsLine other → line_text one ≡ line_text other
+pub no_head : (m : Model) (header : Header) (to : Stage) (given : List Order) → heads (Running m) header ≡ Stands to given → ⊥
+no_head m header to given e = let both : Misplaced ≡ Stands to given = sym (no_header_behind_go m header) ∙ e in cc
+
+pub same_line : (at to onto : Stage) (given more : List Order) (one other : Line) → FitsLine one → FitsLine other → line_text one ≡ line_text other
     → judged at one ≡ Stands to given → judged at other ≡ Stands onto more → one ≡ other
 same_line Fresh to onto given more (Head one) (Head other) f g e p q = ap Head (one_header one other f g e)
 same_line Fresh to onto given more (Head one) (Said other) f g e p q = cc
@@ -71,17 +81,20 @@ same_line Fresh to onto given more (Said one) other f g e p q = cc
 same_line (Named groups) to onto given more (Head one) (Head other) f g e p q = ap Head (one_header one other f g e)
 same_line (Named groups) to onto given more (Head one) (Said other) f g e p q = cc
 same_line (Named groups) to onto given more (Said one) other f g e p q = cc
+same_line (Long place) to onto given more (Head one) (Head other) f g e p q = ap Head (one_header one other f g e)
+same_line (Long place) to onto given more (Head one) (Said other) f g e p q = cc
+same_line (Long place) to onto given more (Said one) other f g e p q = cc
 same_line (Running m) to onto given more (Head one) other f g e p q = absurd (no_head m one to given p)
 same_line (Running m) to onto given more (Said one) (Head other) f g e p q = absurd (no_head m other onto more q)
 same_line (Running m) to onto given more (Said one) (Said other) f g e p q = ap Said (one_input one other f g e)
 
 -- the first line of a walk stands
-record Step (at : Stage) (line : Line) (lines : List Line) (last : Stage) : Type 0 where
-  to : Stage
-  given : List Order
-  stands : judged at line ≡ Stands to given
-  more : List Order
-  walks : walked to lines ≡ Reaches last more
+pub record Step (at : Stage) (line : Line) (lines : List Line) (last : Stage) : Type 0 where
+  pub to : Stage
+  pub given : List Order
+  pub stands : judged at line ≡ Stands to given
+  pub more : List Order
+  pub walks : walked to lines ≡ Reaches last more
 
 step_in : (at to : Stage) (line : Line) (lines : List Line) (last : Stage) (given all : List Order) (onward : Walked)
     → judged at line ≡ Stands to given → walked to lines ≡ onward → behind given onward ≡ Reaches last all → Step at line lines last
@@ -90,11 +103,13 @@ step_in at to line lines last given all (Reaches there more) stands walks e =
     record { to = to; given = given; stands = stands; more = more; walks = walks ∙ ap (λ (s : Stage). Reaches s more) same }
 step_in at to line lines last given all Stops stands walks e = cc
 
-step_of : (verdict : Verdict) (at : Stage) (line : Line) (lines : List Line) (last : Stage) (all : List Order)
+pub step_of : (verdict : Verdict) (at : Stage) (line : Line) (lines : List Line) (last : Stage) (all : List Order)
     → judged at line ≡ verdict → walks_on verdict (λ next. walked next lines) ≡ Reaches last all → Step at line lines last
 step_of (Stands to given) at line lines last all stands e = step_in at to line lines last given all (walked to lines) stands refl e
 step_of Misplaced at line lines last all stands e = cc
 step_of Refused at line lines last all stands e = cc
+step_of (Faulty fault) at line lines last all stands e = cc
+step_of NotBuilt at line lines last all stands e = cc
 
 -- from this place on, the bytes are a good journal
 record Onward (at : Stage) (bytes : List ℕ) : Type 0 where
@@ -138,14 +153,14 @@ onward_from (line ∷ lines) at last got (good ∷ goods) m given rest fit walks
     (subst (λ (z : Stage). walked z goods ≡ Reaches (Running m) t.more) (sym next) t.walks) same.1
 
 -- the next whole line stands
-record Stood (at : Stage) (text : List ℕ) : Type 0 where
-  line : Line
-  fits : FitsLine line
-  short : length (line_text line) ≤ line_limit
-  spelled : line_text line ≡ text
-  to : Stage
-  given : List Order
-  stands : judged at line ≡ Stands to given
+pub record Stood (at : Stage) (text : List ℕ) : Type 0 where
+  pub line : Line
+  pub fits : FitsLine line
+  pub short : length (line_text line) ≤ line_limit
+  pub spelled : line_text line ≡ text
+  pub to : Stage
+  pub given : List Order
+  pub stands : judged at line ≡ Stands to given
 
 stood : (lines : List Line) (at : Stage) (m : Model) (given : List Order) (text back : List ℕ) → AllFit lines
     → walked at lines ≡ Reaches (Running m) given → has_feed text ≡ false → journal_text lines ≡ text ++ 10 ∷ back → Stood at text
@@ -165,23 +180,24 @@ not_long (line ∷ lines) text x fit none e =
     let short : length (line_text line) ≤ line_limit = fit.1 in
     omega arith
 
-stands_not : (at : Stage) (text : List ℕ) → Stood at text → IsMisplaced at text → ⊥
+pub stands_not : (at : Stage) (text : List ℕ) → Stood at text → IsMisplaced at text → ⊥
 stands_not at text s misplaced =
     let lost : judged at s.line ≡ Misplaced = misplaced s.line s.fits s.spelled (subst (λ (t : List ℕ). length t ≤ line_limit) s.spelled s.short) in
     let stands = s.stands in
     let both : Stands s.to s.given ≡ Misplaced = sym stands ∙ lost in cc
 
-never_refused : (at : Stage) (text : List ℕ) (line : Line) (to : Stage) (given : List Order) → FitsLine line → line_text line ≡ text
+pub never_refused : (at : Stage) (text : List ℕ) (line : Line) (to : Stage) (given : List Order) → FitsLine line → line_text line ≡ text
     → judged at line ≡ Stands to given → IsRefused at text → ⊥
 never_refused Fresh text line to given fits spelled stands r = let no = r.refused in cc
 never_refused (Named groups) text line to given fits spelled stands r = let no = r.refused in cc
+never_refused (Long place) text line to given fits spelled stands r = let no = r.refused in cc
 never_refused (Running m) text (Head header) to given fits spelled stands r = no_head m header to given stands
 never_refused (Running m) text (Said input) to given fits spelled stands r =
     let same : r.input ≡ input = one_input r.input input r.fits fits (r.spelled ∙ sym spelled) in
     let no : judged (Running m) (Said input) ≡ Refused = ap (λ i. judged (Running m) (Said i)) (sym same) ∙ r.refused in
     let both : Stands to given ≡ Refused = sym stands ∙ no in cc
 
-whole_line : (text rest left : List ℕ) (w : IsWhole rest) → (text ++ rest) ++ left ≡ text ++ 10 ∷ (w.behind ++ left)
+pub whole_line : (text rest left : List ℕ) (w : IsWhole rest) → (text ++ rest) ++ left ≡ text ++ 10 ∷ (w.behind ++ left)
 whole_line text rest left w =
     append_assoc text rest left ∙ ap (λ (z : List ℕ). text ++ (z ++ left)) w.feed
 
@@ -196,6 +212,29 @@ refused : (at : Stage) (text rest left : List ℕ) → has_feed text ≡ false �
 refused at text rest left none on (whole, r) =
     let s = stood on.lines at on.model on.given text (whole.behind ++ left) on.fit on.walks none (on.spelled ∙ whole_line text rest left whole) in
     never_refused at text s.line s.to s.given s.fits s.spelled s.stands r
+
+pub why_stands : (verdict : Verdict) (to : Stage) (given : List Order) (closing : List ℕ) → verdict ≡ Stands to given → TellsWhy verdict closing → ⊥
+why_stands verdict to given closing e why = subst (λ (v : Verdict). TellsWhy v closing) e why
+
+pub why_misplaced : (verdict : Verdict) (closing : List ℕ) → verdict ≡ Misplaced → TellsWhy verdict closing → ⊥
+why_misplaced verdict closing e why = subst (λ (v : Verdict). TellsWhy v closing) e why
+
+pub never_unconfigured : (at : Stage) (text closing : List ℕ) (verdict : Verdict) (line : Line) (to : Stage) (given : List Order) → FitsLine line → line_text line ≡ text
+    → judged at line ≡ Stands to given → IsUnconfigured at text verdict → TellsWhy verdict closing → ⊥
+never_unconfigured at text closing verdict (Head header) to given fits spelled stands u why =
+    let same : u.header ≡ header = one_header u.header header u.fits fits (u.spelled ∙ sym spelled) in
+    why_stands verdict to given closing (sym u.judged_so ∙ ap (heads at) same ∙ stands) why
+never_unconfigured Fresh text closing verdict (Said input) to given fits spelled stands u why = cc
+never_unconfigured (Named groups) text closing verdict (Said input) to given fits spelled stands u why = cc
+never_unconfigured (Long place) text closing verdict (Said input) to given fits spelled stands u why = cc
+never_unconfigured (Running m) text closing verdict (Said input) to given fits spelled stands u why =
+    why_misplaced verdict closing (sym u.judged_so ∙ no_header_behind_go m u.header) why
+
+unconfigured : (at : Stage) (text rest left closing : List ℕ) (verdict : Verdict) → has_feed text ≡ false → Onward at ((text ++ rest) ++ left)
+    → NotConfigured verdict at text rest → TellsWhy verdict closing → ⊥
+unconfigured at text rest left closing verdict none on (whole, u) why =
+    let s = stood on.lines at on.model on.given text (whole.behind ++ left) on.fit on.walks none (on.spelled ∙ whole_line text rest left whole) in
+    never_unconfigured at text closing verdict s.line s.to s.given s.fits s.spelled s.stands u why
 
 -- what is left at the end is no line
 none_left : (lines : List Line) (at : Stage) (m : Model) (given : List Order) (text : List ℕ) → walked at lines ≡ Reaches (Running m) given
@@ -248,10 +287,13 @@ by_row good m given left old new status.BadLine fits goes short row =
 by_row good m given left old new status.NotAccepted fits goes short row =
     let on = onward_read good m given row.bytes left row.given row.lines row.at row.text row.rest fits goes row.taken.consumed row.read in
     absurd (refused row.at row.text row.rest left row.read.unbroken on row.cause)
+by_row good m given left old new status.NotConfigured fits goes short row =
+    let on = onward_read good m given row.bytes left [] row.lines row.at row.text row.rest fits goes row.taken.consumed row.read in
+    absurd (unconfigured row.at row.text row.rest left row.closing row.verdict row.read.unbroken on row.cause row.why)
 by_row good m given left old new status.TooLong fits goes short row =
     absurd (too_many row.bytes left row.one_more (journal_text good) row.consumed row.size short)
 
-taken_from : (good : List Line) (left_after : Option (List ℕ)) (bytes : List ℕ) → Consumes (Some (journal_text good)) left_after bytes → left_after ≡ None → ⊥
+pub taken_from : (good : List Line) (left_after : Option (List ℕ)) (bytes : List ℕ) → Consumes (Some (journal_text good)) left_after bytes → left_after ≡ None → ⊥
 taken_from good None bytes took e = took
 taken_from good (Some left) bytes took e = cc
 
@@ -266,6 +308,7 @@ by_left good m given None old new status.NoMemory fits goes short row = No_memor
 by_left good m given None old new status.SinkFailed fits goes short row = Sink_failed
 by_left good m given None old new status.BadLine fits goes short row = absurd (taken_from good None row.bytes row.taken.consumed refl)
 by_left good m given None old new status.NotAccepted fits goes short row = absurd (taken_from good None row.bytes row.taken.consumed refl)
+by_left good m given None old new status.NotConfigured fits goes short row = absurd (taken_from good None row.bytes row.taken.consumed refl)
 by_left good m given None old new status.TooLong fits goes short row = absurd (taken_from good None (row.bytes ++ row.one_more ∷ []) row.consumed refl)
 
 pub good_is_done : (left left_after old new : Option (List ℕ)) (got : Status) → HoldsGoodJournal left

@@ -5,13 +5,14 @@ use Rattle.std.proofs.KnownBytes.{Appends-nil, Appends-trans}
 use Rattle.std.specs.Io.KnownBytes.{Appends}
 use Rattle.sv_journal.specs.Limits.{line_limit}
 use Rattle.sv_loop.proofs.Walks.{journal_text_more, order_text_append, all_fit_more, has_feed_more, walked_more}
-use Rattle.sv_loop.specs.JournalPlaces.{Line, line_text, Stage, journal_text, order_text, IsMisplaced, IsRefused}
+use Rattle.sv_loop.specs.JournalPlaces.{Line, line_text, Stage, Verdict, journal_text, order_text, IsMisplaced, IsRefused, IsUnconfigured}
 use Rattle.sv_loop.specs.JournalPlaces.Stage.{Fresh}
+use Rattle.sv_loop.specs.JournalPlaces.Verdict.{Faulty as As_faulty, NotBuilt as As_not_built}
 use Rattle.sv_loop.specs.Judging.{LeadsTo}
-use Rattle.sv_loop.specs.Reading.{IsRead, IsAt, GoesOn, AtFault, IsWhole, OutsideGrammar, NotAccepted, Anything, HalfWritten, StopsAt, Unwrote}
+use Rattle.sv_loop.specs.Reading.{IsRead, IsAt, GoesOn, AtFault, IsWhole, OutsideGrammar, NotAccepted, NotConfigured, Anything, HalfWritten, StopsAt, Unwrote}
 use Rattle.sv_loop.specs.declared.judge.Place.{Place}
 use Rattle.sv_loop.specs.declared.run.End.{End}
-use Rattle.sv_loop.specs.declared.run.End.TheVariants.{Misplaced, Refused, NoMemory, Unwritten}
+use Rattle.sv_loop.specs.declared.run.End.TheVariants.{Misplaced, Refused, Faulty, NotBuilt, NoMemory, Unwritten}
 use Rattle.sv_loop.specs.declared.run.Run.{Run}
 use Rattle.sv_out.specs.Written.{AppendsFront}
 use Rattle.sv_out.specs.declared.order.Order.{Order}
@@ -103,6 +104,8 @@ pub stopped_at_write : (end : End) (run later : Run) (lines : List Line) (at : S
     → StopsAt end later (bytes ++ 10 ∷ []) given old new
 stopped_at_write Misplaced run later lines at given bytes place orders old new is leads count wrote = absurd wrote
 stopped_at_write Refused run later lines at given bytes place orders old new is leads count wrote = absurd wrote
+stopped_at_write (Faulty fault) run later lines at given bytes place orders old new is leads count wrote = absurd wrote
+stopped_at_write NotBuilt run later lines at given bytes place orders old new is leads count wrote = absurd wrote
 stopped_at_write NoMemory run later lines at given bytes place orders old new is leads count wrote =
     at_fault run later Anything lines at given bytes (10 ∷ []) old new is count tt wrote
 stopped_at_write Unwritten run later lines at given bytes place orders old new is leads count wrote =
@@ -122,6 +125,12 @@ pub refused : (run later : Run) (lines : List Line) (at : Stage) (given : List O
     → AtFault later NotAccepted (bytes ++ 10 ∷ []) given same same
 refused run later lines at given bytes same is count cause =
     at_fault run later NotAccepted lines at given bytes (10 ∷ []) same same is count (whole, cause) (Appends-nil same)
+
+pub unconfigured : (run later : Run) (verdict : Verdict) (lines : List Line) (at : Stage) (given : List Order) (bytes : List ℕ) (same : Option (List ℕ))
+    → IsAt run lines at given bytes → later.lines ≡ run.lines → IsUnconfigured at run.line.items verdict
+    → AtFault later (NotConfigured verdict) (bytes ++ 10 ∷ []) given same same
+unconfigured run later verdict lines at given bytes same is count cause =
+    at_fault run later (NotConfigured verdict) lines at given bytes (10 ∷ []) same same is count (whole, cause) (Appends-nil same)
 
 pub no_memory : (run later : Run) (lines : List Line) (at : Stage) (given : List Order) (bytes : List ℕ) (byte : ℕ) (same : Option (List ℕ))
     → IsAt run lines at given bytes → later.lines ≡ run.lines
@@ -242,6 +251,12 @@ stops_further Misplaced run later bytes piece more given one two three first ste
 stops_further Refused run later bytes piece more given one two three first step =
     fault_later later NotAccepted (bytes ++ piece) more given first.more one two three (λ at text rest w. (whole_later rest more w.0, w.1)) first.wrote
     (step first.lines first.at (given ++ first.more) bytes first.is_at)
+stops_further (Faulty fault) run later bytes piece more given one two three first step =
+    fault_later later (NotConfigured (As_faulty fault)) (bytes ++ piece) more given first.more one two three
+    (λ at text rest w. (whole_later rest more w.0, w.1)) first.wrote (step first.lines first.at (given ++ first.more) bytes first.is_at)
+stops_further NotBuilt run later bytes piece more given one two three first step =
+    fault_later later (NotConfigured As_not_built) (bytes ++ piece) more given first.more one two three
+    (λ at text rest w. (whole_later rest more w.0, w.1)) first.wrote (step first.lines first.at (given ++ first.more) bytes first.is_at)
 stops_further NoMemory run later bytes piece more given one two three first step =
     fault_later later Anything (bytes ++ piece) more given first.more one two three (λ at text rest w. tt) first.wrote
     (step first.lines first.at (given ++ first.more) bytes first.is_at)

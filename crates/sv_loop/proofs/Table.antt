@@ -3,13 +3,15 @@ use Rattle.std.proofs.Common.{◌≡◌, ℕ, ◌+◌, ◌<◌, List, [], ◌∷
 use Rattle.std.proofs.KnownBytes.{Appends-trans}
 use Rattle.std.specs.Io.KnownBytes.{Appends, Consumes, IsAtEnd}
 use Rattle.sv_core.specs.MachineState.{Model}
+use Rattle.sv_loop.proofs.Quiet.{judged_before_go, quiet_until}
 use Rattle.sv_loop.proofs.RunSteps.{read_later}
-use Rattle.sv_loop.specs.JournalPlaces.{Line, Stage, order_text}
-use Rattle.sv_loop.specs.JournalPlaces.Stage.{Fresh, Named, Running}
+use Rattle.sv_loop.specs.JournalPlaces.{Line, Stage, Verdict, order_text}
+use Rattle.sv_loop.specs.JournalPlaces.Stage.{Fresh, Named, Long, Running}
+use Rattle.sv_loop.specs.JournalPlaces.Verdict.{Faulty as As_faulty, NotBuilt as As_not_built}
 use Rattle.sv_loop.specs.Judging.{IsPlace}
-use Rattle.sv_loop.specs.Reading.{IsRead, GoesOn, OutsideGrammar, NotAccepted, StopsAt}
-use Rattle.sv_loop.specs.Replaying.{bad_line, not_accepted, source_failed, too_long, IsBeforeGo, EndsTooEarly, Taken, Closed, IsClosing, HalfTold, line_behind, Replays, ReadOn, Ended}
-use Rattle.sv_loop.specs.Replaying.IsClosing.{Nothing_more, Of_source, Of_length, Of_line, Of_input}
+use Rattle.sv_loop.specs.Reading.{IsRead, GoesOn, OutsideGrammar, NotAccepted, NotConfigured, StopsAt}
+use Rattle.sv_loop.specs.Replaying.{bad_line, not_accepted, configuration_fault, not_built, TellsWhy, Unconfigured, source_failed, too_long, IsBeforeGo, EndsTooEarly, Taken, Closed, IsClosing, HalfTold, line_behind, Replays, ReadOn, Ended}
+use Rattle.sv_loop.specs.Replaying.IsClosing.{Nothing_more, Of_source, Of_length, Of_line, Of_input, Of_configuration}
 use Rattle.sv_loop.specs.Telling.{IsRunning, Tells, TellsLine, TellsOf, TellsOfLine, TellsOfWhole}
 use Rattle.sv_loop.specs.declared.judge.Place.{Place}
 use Rattle.sv_loop.specs.declared.judge.Place.TheVariants as place_is
@@ -18,7 +20,7 @@ use Rattle.sv_loop.specs.declared.replay.Ending.TheVariants.{Whole, Broken, Full
 use Rattle.sv_loop.specs.declared.replay.Status.{Status}
 use Rattle.sv_loop.specs.declared.replay.Status.TheVariants as status_is
 use Rattle.sv_loop.specs.declared.run.End.{End}
-use Rattle.sv_loop.specs.declared.run.End.TheVariants.{Misplaced, Refused, NoMemory, Unwritten}
+use Rattle.sv_loop.specs.declared.run.End.TheVariants.{Misplaced, Refused, Faulty, NotBuilt, NoMemory, Unwritten}
 use Rattle.sv_loop.specs.declared.run.Run.{Run}
 use Rattle.sv_out.specs.Written.{AppendsFront}
 use Rattle.sv_out.specs.declared.order.Order.{Order}
@@ -89,19 +91,28 @@ told_line one two old mid new bytes given lines at text rest shown want got clos
 running_stage : (place : Place) (at : Stage) → IsPlace place at → IsRunning place → (m : Model) × (at ≡ Running m)
 running_stage place_is.Fresh at is running = absurd running
 running_stage (place_is.Named groups) at is running = absurd running
+running_stage (place_is.Long long) at is running = absurd running
 running_stage (place_is.Running machine) Fresh is running = absurd is
 running_stage (place_is.Running machine) (Named groups) is running = absurd is
+running_stage (place_is.Running machine) (Long place) is running = absurd is
 running_stage (place_is.Running machine) (Running m) is running = (m, refl)
 
 before_go : (place : Place) (at : Stage) → IsPlace place at → (IsRunning place → ⊥) → IsBeforeGo at
 before_go place_is.Fresh Fresh is not_running = tt
 before_go place_is.Fresh (Named groups) is not_running = tt
+before_go place_is.Fresh (Long place) is not_running = tt
 before_go place_is.Fresh (Running m) is not_running = absurd is
 before_go (place_is.Named kept) Fresh is not_running = tt
 before_go (place_is.Named kept) (Named groups) is not_running = tt
+before_go (place_is.Named kept) (Long place) is not_running = tt
 before_go (place_is.Named kept) (Running m) is not_running = absurd is
+before_go (place_is.Long long) Fresh is not_running = tt
+before_go (place_is.Long long) (Named groups) is not_running = tt
+before_go (place_is.Long long) (Long place) is not_running = tt
+before_go (place_is.Long long) (Running m) is not_running = absurd is
 before_go (place_is.Running machine) Fresh is not_running = tt
 before_go (place_is.Running machine) (Named groups) is not_running = tt
+before_go (place_is.Running machine) (Long place) is not_running = tt
 before_go (place_is.Running machine) (Running m) is not_running = absurd (not_running tt)
 
 too_early : (text : List ℕ) (place : Place) (at : Stage) → IsPlace place at → ((text ≡ []) × IsRunning place → ⊥) → (0 < length text) ⊎ IsBeforeGo at
@@ -144,6 +155,29 @@ half_kept one two three text part kept =
       appends = subst P (append-nil part.front) (Appends-trans one two three part.front [] part.appends kept);
     }
 
+-- no order was given before a configuration is judged
+unconfigured_row : (one two old new : Option (List ℕ)) (shown : List ℕ) (verdict : Verdict) → TellsWhy verdict shown
+    → Closed one two old new (λ lines. shown) (NotConfigured verdict) → Unconfigured one two old new
+unconfigured_row one two old new shown verdict why c =
+    let u = c.cause.1 in
+    let none = (quiet_until c.lines Fresh c.at c.given c.read.walks (judged_before_go c.at u.header verdict shown u.judged_so why)).1 in
+    let P : List Order → Type 0 = λ os. IsRead c.bytes os c.lines c.at c.text c.rest in
+    let Q : List Order → Type 0 = λ os. Appends old new (order_text os ++ shown) in
+    record {
+      bytes = c.bytes;
+      taken = c.taken;
+      lines = c.lines;
+      at = c.at;
+      text = c.text;
+      rest = c.rest;
+      read = subst P none c.read;
+      verdict = verdict;
+      cause = c.cause;
+      closing = shown;
+      why = why;
+      wrote = subst Q none c.wrote;
+    }
+
 line_table : (end : End) (run : Run) (one two old mid new : Option (List ℕ)) (got : Status) (bytes : List ℕ) → Taken one two bytes
     → StopsAt end run bytes [] old mid → TellsOfLine end run mid new got → Replays got one two old new
 line_table Misplaced run one two old mid new got bytes taken stops tells =
@@ -156,6 +190,15 @@ line_table Refused run one two old mid new got bytes taken stops tells =
     (line_behind not_accepted) NotAccepted
     taken stops.read stops.wrote stops.cause
     (ap (λ (n : ℕ). not_accepted (n + 1)) stops.count) (Of_input stops.lines) (λ c. c) tells
+line_table (Faulty fault) run one two old mid new got bytes taken stops tells =
+    let shown = configuration_fault fault in
+    told_line one two old mid new bytes stops.more stops.lines stops.at stops.text stops.rest shown status_is.NotConfigured got
+    (λ lines. shown) (NotConfigured (As_faulty fault)) taken stops.read stops.wrote stops.cause refl
+    (Of_configuration stops.lines (As_faulty fault) shown refl) (unconfigured_row one two old new shown (As_faulty fault) refl) tells
+line_table NotBuilt run one two old mid new got bytes taken stops tells =
+    told one two old mid new bytes stops.more stops.lines stops.at stops.text stops.rest not_built status_is.NotConfigured got
+    (λ lines. not_built) (NotConfigured As_not_built) taken stops.read stops.wrote stops.cause refl
+    (Of_configuration stops.lines As_not_built not_built refl) (unconfigured_row one two old new not_built As_not_built refl) tells
 line_table NoMemory run one two old mid new got bytes taken stops tells =
     rw tells.0 (closed one two old mid new bytes stops.more stops.lines stops.at stops.text stops.rest (λ l. []) (λ a t r. Unit {0})
     taken stops.read stops.wrote tt tells.1)

@@ -1,15 +1,22 @@
--- The places of a journal: the title, the program lines, `go`, then the inputs; what a line is at its place, and what a
--- list of lines leads to.
-use Rattle.std.specs.Prelude.{◌≡◌, ℕ, List, [], ◌∷◌, ◌++◌, if◌then◌else◌, ◌≤◌, length}
+-- The places of a journal: its title, its short or long header, `go`, then the inputs; what a line is at its place, and
+-- what a list of lines leads to.
+use Rattle.std.specs.Prelude.{◌≡◌, ℕ, zero, suc, List, [], ◌∷◌, ◌++◌, if◌then◌else◌, ◌≤◌, length, Bool, true, false, Option, Some, None, Result, Ok, Err}
 use Rattle.std.specs.List.{flat_map}
 use Rattle.sv_base.specs.Roster.{is_roster}
+use Rattle.sv_base.specs.declared.config.Config.{Config}
+use Rattle.sv_base.specs.declared.config.Host.{Host}
 use Rattle.sv_base.specs.declared.spec.GroupSpec.{GroupSpec}
+use Rattle.sv_conf.specs.Configuration.{configuration_of}
+use Rattle.sv_conf.specs.declared.fault.ConfFault.{ConfFault}
 use Rattle.sv_core.specs.MachineState.{Model, opening, accepts, next, orders}
 use Rattle.sv_journal.specs.JournalLine.{header_line, input_line, order_line, FitsHeader, FitsInput}
 use Rattle.sv_journal.specs.Limits.{line_limit}
 use Rattle.sv_journal.specs.declared.header.Header.{Header}
-use Rattle.sv_journal.specs.declared.header.Header.TheVariants.{Journal, Program, Go}
+use Rattle.sv_journal.specs.declared.header.Header.TheVariants as header_is
+use Rattle.sv_loop.specs.LongHeader.{is_behind, host_of, with_variable, starting_at, is_built}
 use Rattle.sv_loop.specs.ShortHeader.{group_of, placed, config_of, host_at}
+use Rattle.sv_loop.specs.declared.long.LongPlace.{LongPlace}
+use Rattle.sv_loop.specs.declared.long.LongPlace.TheVariants.{Titled, Hosted, Located, Described, Configured}
 use Rattle.sv_out.specs.declared.input.Input.{Input}
 use Rattle.sv_out.specs.declared.order.Order.{Order}
 
@@ -27,26 +34,72 @@ abbrev pub FitsLine : Line → Type 0
 FitsLine (Head header) = FitsHeader header
 FitsLine (Said input) = FitsInput input
 
--- where in the journal a line stands: at its beginning, behind the title and some programs, or behind `go`
+-- where in the journal a line stands: at its beginning, behind the title and some programs, in a long header, or
+-- behind `go`
 pub data Stage : Type 0 where
   Fresh : Stage
   Named : List GroupSpec → Stage
+  Long : LongPlace → Stage
   Running : Model → Stage
 
--- a line stands at its place, leads to the next one and gives orders; or it is out of place; or its input isn't accepted
+-- a line stands at its place, leads to the next one and gives orders; or it is out of place; or its input isn't
+-- accepted; or the configuration has a fault, or a part that isn't built
 pub data Verdict : Type 0 where
   Stands : Stage → List Order → Verdict
   Misplaced : Verdict
   Refused : Verdict
+  Faulty : ConfFault → Verdict
+  NotBuilt : Verdict
 
 -- a program is one more group, if a configuration can hold it: at most 256 groups, each name once
 abbrev pub adds : List GroupSpec → Verdict
 adds groups = if is_roster groups then Stands (Named groups) [] else Misplaced
 
+-- version 0 has a short header, version 1 a long one
+abbrev pub titles : ℕ → Verdict
+titles zero = Stands (Named []) []
+titles (suc zero) = Stands (Long Titled) []
+titles (suc (suc version)) = Misplaced
+
+-- the lines of a long header before `go`, in their one order: `host`, `here`, `pid`, any `env`, any `size`, `conf`, any
+-- `include`
+abbrev pub described : Bool → Host → List (List ℕ × ℕ) → Option LongPlace
+described true host sizes = Some (Described host sizes)
+described false host sizes = None
+
+abbrev pub goes_on : LongPlace → Header → Option LongPlace
+goes_on Titled (header_is.Host name) = Some (Hosted name)
+goes_on (Hosted name) (header_is.Here here) = Some (Located name here)
+goes_on (Located name here) (header_is.Pid pid) = Some (Described (host_of name here pid) [])
+goes_on (Described host []) (header_is.Env name value) =
+    described (is_behind name host.environment) (with_variable host name value) []
+goes_on (Described host sizes) (header_is.Size file size) =
+    described (is_behind file sizes) host (sizes ++ (file, size) ∷ [])
+goes_on (Described host sizes) (header_is.Conf text) = Some (Configured host sizes text [])
+goes_on (Configured host sizes text included) (header_is.Include name more) =
+    Some (Configured host sizes text (included ++ (name, more) ∷ []))
+goes_on place header = None
+
+abbrev pub moved : Option LongPlace → Verdict
+moved (Some place) = Stands (Long place) []
+moved None = Misplaced
+
+-- at `go` the daemon begins, if the configuration is accepted and each of its parts is built
+abbrev pub begins : Host → List (List ℕ × ℕ) → Result Config ConfFault → Verdict
+begins host sizes (Ok config) = if is_built config then Stands (Running (opening config sizes host)) [] else NotBuilt
+begins host sizes (Err fault) = Faulty fault
+
+abbrev pub long_heads : LongPlace → Header → Verdict
+long_heads (Configured host sizes text included) (header_is.Go start) =
+    begins (starting_at host start) sizes (configuration_of text included (starting_at host start))
+long_heads place header = moved (goes_on place header)
+
 abbrev pub heads : Stage → Header → Verdict
-heads Fresh (Journal version) = Stands (Named []) []
-heads (Named groups) (Program program) = adds (placed (group_of program) groups)
-heads (Named (group ∷ groups)) (Go start) = Stands (Running (opening (config_of (group ∷ groups)) [] (host_at start))) []
+heads Fresh (header_is.Journal version) = titles version
+heads (Named groups) (header_is.Program program) = adds (placed (group_of program) groups)
+heads (Named (group ∷ groups)) (header_is.Go start) =
+    Stands (Running (opening (config_of (group ∷ groups)) [] (host_at start))) []
+heads (Long place) header = long_heads place header
 heads stage header = Misplaced
 
 abbrev pub says : Stage → Input → Verdict
@@ -67,6 +120,14 @@ pub record IsRefused (stage : Stage) (text : List ℕ) : Type 0 where
   pub fits : FitsInput input
   pub spelled : input_line input ≡ text
   pub refused : judged stage (Said input) ≡ Refused
+
+-- the text is a header line at which the configuration is judged so
+pub record IsUnconfigured (stage : Stage) (text : List ℕ) (verdict : Verdict) : Type 0 where
+  pub header : Header
+  pub fits : FitsHeader header
+  pub spelled : header_line header ≡ text
+  pub short : length text ≤ line_limit
+  pub judged_so : heads stage header ≡ verdict
 
 -- the text is a line that leads to this place with these orders
 pub record Leads (stage : Stage) (text : List ℕ) (to : Stage) (given : List Order) : Type 0 where
@@ -91,8 +152,7 @@ behind given Stops = Stops
 
 abbrev pub walks_on : Verdict → (Stage → Walked) → Walked
 walks_on (Stands at given) onward = behind given (onward at)
-walks_on Misplaced onward = Stops
-walks_on Refused onward = Stops
+walks_on verdict onward = Stops
 
 -- the lines from a place on: where they lead, with the joined orders
 abbrev pub walked : Stage → List Line → Walked

@@ -1,19 +1,20 @@
 -- What the reader of a journal knows of the place that it has come to, and what it answers of a line there.
 use Rattle.std.specs.Prelude.{◌≡◌, ℕ, List}
 use Rattle.sv_core.specs.StandsFor.{StandsFor}
-use Rattle.sv_loop.specs.JournalPlaces.{Stage, Verdict, Leads, IsMisplaced, IsRefused}
-use Rattle.sv_loop.specs.JournalPlaces.Verdict.{Stands as As_stands, Misplaced as As_misplaced}
-use Rattle.sv_loop.specs.JournalPlaces.Stage.{Fresh as At_title, Named as At_programs, Running as At_inputs}
+use Rattle.sv_loop.specs.JournalPlaces.{Stage, Verdict, Leads, IsMisplaced, IsRefused, IsUnconfigured}
+use Rattle.sv_loop.specs.JournalPlaces.Verdict.{Stands as As_stands, Misplaced as As_misplaced, Faulty as As_faulty, NotBuilt as As_not_built}
+use Rattle.sv_loop.specs.JournalPlaces.Stage.{Fresh as At_title, Named as At_programs, Long as At_long, Running as At_inputs}
 use Rattle.sv_out.specs.declared.order.Order.{Order}
 use Rattle.sv_loop.specs.declared.judge.Judged.{Judged}
-use Rattle.sv_loop.specs.declared.judge.Judged.TheVariants.{Stands, Misplaced, Refused, NoMemory}
+use Rattle.sv_loop.specs.declared.judge.Judged.TheVariants.{Stands, Misplaced, Refused, Faulty, NotBuilt, NoMemory}
 use Rattle.sv_loop.specs.declared.judge.Place.{Place}
-use Rattle.sv_loop.specs.declared.judge.Place.TheVariants.{Fresh, Named, Running}
+use Rattle.sv_loop.specs.declared.judge.Place.TheVariants.{Fresh, Named, Long, Running}
 
 -- the place is this one
 abbrev pub IsPlace : Place → Stage → Type 0
 IsPlace Fresh At_title = Unit {0}
 IsPlace (Named groups) (At_programs kept) = groups ≡ kept
+IsPlace (Long place) (At_long kept) = place ≡ kept
 IsPlace (Running machine) (At_inputs m) = StandsFor machine m
 IsPlace place at = ⊥
 
@@ -28,6 +29,8 @@ abbrev pub JudgedHead : Judged → Verdict → Type 0
 JudgedHead (Stands place orders) verdict = (to : Stage) × (verdict ≡ As_stands to orders.items) × IsPlace place to
 JudgedHead Misplaced verdict = verdict ≡ As_misplaced
 JudgedHead Refused verdict = ⊥
+JudgedHead (Faulty fault) verdict = verdict ≡ As_faulty fault
+JudgedHead NotBuilt verdict = verdict ≡ As_not_built
 JudgedHead NoMemory verdict = Unit {0}
 
 -- what the answer says of a line
@@ -35,4 +38,6 @@ abbrev pub JudgedAs : Judged → Stage → List ℕ → Type 0
 JudgedAs (Stands place orders) at text = LeadsTo at text place orders.items
 JudgedAs Misplaced at text = IsMisplaced at text
 JudgedAs Refused at text = IsRefused at text
+JudgedAs (Faulty fault) at text = IsUnconfigured at text (As_faulty fault)
+JudgedAs NotBuilt at text = IsUnconfigured at text As_not_built
 JudgedAs NoMemory at text = Unit {0}

@@ -1,4 +1,5 @@
 pub mod ShortHeader
+pub mod LongHeader
 pub mod JournalPlaces
 pub mod Judging
 pub mod Reading

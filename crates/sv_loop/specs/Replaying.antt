@@ -2,10 +2,13 @@
 use Rattle.std.specs.Prelude.{◌≡◌, ℕ, List, [], ◌∷◌, ◌++◌, ◌+◌, ◌<◌, ◌≤◌, ◌⊎◌, length, Option, codes}
 use Rattle.std.specs.Fmt.{decimal}
 use Rattle.std.specs.Io.KnownBytes.{Appends, Consumes, IsAtEnd, Keeps}
+use Rattle.sv_conf.specs.FaultTexts.{fault_text}
+use Rattle.sv_conf.specs.declared.fault.ConfFault.{ConfFault}
 use Rattle.sv_core.specs.MachineState.{Model}
-use Rattle.sv_loop.specs.JournalPlaces.{Line, Stage, order_text}
-use Rattle.sv_loop.specs.JournalPlaces.Stage.{Fresh, Named, Running}
-use Rattle.sv_loop.specs.Reading.{IsRead, OutsideGrammar, NotAccepted, GoesOn, StopsAt}
+use Rattle.sv_loop.specs.JournalPlaces.{Line, Stage, Verdict, order_text}
+use Rattle.sv_loop.specs.JournalPlaces.Stage.{Fresh, Named, Long, Running}
+use Rattle.sv_loop.specs.JournalPlaces.Verdict.{Faulty, NotBuilt}
+use Rattle.sv_loop.specs.Reading.{IsRead, OutsideGrammar, NotAccepted, NotConfigured, GoesOn, StopsAt}
 use Rattle.sv_loop.specs.declared.replay.Ending.{Ending}
 use Rattle.sv_loop.specs.declared.replay.Ending.TheVariants as ending
 use Rattle.sv_loop.specs.declared.replay.Status.{Status}
@@ -32,6 +35,7 @@ status_number status.WordsRefused = 2
 status_number status.NoMemory = 3
 status_number status.SinkFailed = 4
 status_number status.BadLine = 5
+status_number status.NotConfigured = 6
 status_number status.NotAccepted = 7
 status_number status.TooLong = 8
 
@@ -51,10 +55,24 @@ source_failed = codes "fault 1" ++ 10 ∷ []
 abbrev pub too_long : List ℕ
 too_long = codes "fault 8" ++ 10 ∷ []
 
+-- the line that tells of a fault in the configuration
+unfoldable pub configuration_fault : ConfFault → List ℕ
+configuration_fault fault = codes "fault 6 conf " ++ fault_text fault ++ 10 ∷ []
+
+abbrev pub not_built : List ℕ
+not_built = codes "fault 6 not built" ++ 10 ∷ []
+
+-- the line that tells why the configuration isn't run
+abbrev pub TellsWhy : Verdict → List ℕ → Type 0
+TellsWhy (Faulty fault) line = line ≡ configuration_fault fault
+TellsWhy NotBuilt line = line ≡ not_built
+TellsWhy verdict line = ⊥
+
 -- the place is before `go`
 abbrev pub IsBeforeGo : Stage → Type 0
 IsBeforeGo Fresh = Unit {0}
 IsBeforeGo (Named groups) = Unit {0}
+IsBeforeGo (Long place) = Unit {0}
 IsBeforeGo (Running m) = ⊥
 
 -- the source is at its end, and the journal's end alone makes the fault: a line without a line feed, or no `go`
@@ -93,6 +111,21 @@ pub record Closed (left left_after written written_after : Option (List ℕ)) (c
   pub cause : Cause at text rest
   pub wrote : Appends written written_after (order_text given ++ closing lines)
 
+-- the header is whole and its configuration isn't run: this is told, and nothing else
+pub record Unconfigured (left left_after written written_after : Option (List ℕ)) : Type 0 where
+  pub bytes : List ℕ
+  pub taken : Taken left left_after bytes
+  pub lines : List Line
+  pub at : Stage
+  pub text : List ℕ
+  pub rest : List ℕ
+  pub read : IsRead bytes [] lines at text rest
+  pub verdict : Verdict
+  pub cause : NotConfigured verdict at text rest
+  pub closing : List ℕ
+  pub why : TellsWhy verdict closing
+  pub wrote : Appends written written_after closing
+
 -- a journal of which more bytes are there than one may have: the orders are those of the whole lines within the limit
 pub record Overfull (left left_after written written_after : Option (List ℕ)) : Type 0 where
   pub bytes : List ℕ
@@ -113,6 +146,7 @@ pub data IsClosing : List Line → List ℕ → Type 0 where
   Of_length : (lines : List Line) → IsClosing lines too_long
   Of_line : (lines : List Line) → IsClosing lines (bad_line (length lines + 1))
   Of_input : (lines : List Line) → IsClosing lines (not_accepted (length lines + 1))
+  Of_configuration : (lines : List Line) (verdict : Verdict) (line : List ℕ) → TellsWhy verdict line → IsClosing lines line
 
 -- a front of the orders of the whole lines, and of a closing line, was written
 pub record HalfTold (left left_after written written_after : Option (List ℕ)) : Type 0 where
@@ -143,6 +177,7 @@ Replays status.SinkFailed left left_after old new = HalfTold left left_after old
 Replays status.BadLine left left_after old new =
     Closed left left_after old new (line_behind bad_line)
     (λ at text rest. OutsideGrammar at text rest ⊎ EndsTooEarly left_after at text rest)
+Replays status.NotConfigured left left_after old new = Unconfigured left left_after old new
 Replays status.NotAccepted left left_after old new =
     Closed left left_after old new (line_behind not_accepted) NotAccepted
 Replays status.TooLong left left_after old new = Overfull left left_after old new

@@ -3,26 +3,30 @@ ghost use Rattle.sv_base.specs.Roster.{is_roster};
 ghost use Rattle.sv_core.specs.MachineState.{Model};
 ghost use Rattle.sv_core.specs.StandsFor.{StandsFor};
 ghost use Rattle.sv_journal.specs.declared.header.Header.TheVariants.{Go};
-ghost use Rattle.sv_loop.specs.JournalPlaces.{Stage, heads, adds};
+ghost use Rattle.sv_loop.specs.JournalPlaces.{Stage, adds, heads, titles};
 ghost use Rattle.sv_loop.specs.ShortHeader.{group_of, placed};
-ghost use Rattle.sv_loop.specs.JournalPlaces.Stage.{Fresh, Named, Running};
+ghost use Rattle.sv_loop.specs.JournalPlaces.Stage.{Fresh, Named, Long, Running};
 ghost use Rattle.sv_loop.specs.Judging.{IsPlace, JudgedAs, JudgedHead};
 
+use crate::long::{LongPlace, judge_long};
 use crate::short::{config_of, group_of, host_at, place};
 use std::alloc::{AllocError, Global};
 use sv_base::groups::Groups;
 use sv_base::moment::Moment;
+use sv_conf::fault::ConfFault;
 use sv_core::machine::Machine;
 use sv_journal::fault::LineFault;
 use sv_journal::header::{Header, Program};
 use sv_journal::read::{read_header, read_input};
 use sv_out::order::Order;
 
-/// Where in a journal the next line stands: at the beginning, behind the title and some programs, or behind `go`.
+/// Where in a journal the next line stands: at the beginning, behind the title and some programs, in a long header, or
+/// behind `go`.
 #[derive(Debug, Drop)]
 pub enum Place {
     Fresh,
     Named(Groups),
+    Long(LongPlace),
     Running(Machine),
 }
 
@@ -35,6 +39,10 @@ pub enum Judged {
     Misplaced,
     /// Its input isn't accepted.
     Refused,
+    /// The header is whole, and its configuration has this fault.
+    Faulty(ConfFault),
+    /// The header is whole, and a part of its configuration isn't built.
+    NotBuilt,
     /// Memory was refused.
     NoMemory,
 }
@@ -46,6 +54,7 @@ pub(crate) fn judge(alloc: Global, place: Place, line: &[u8]) -> Judged
     match place {
         Place::Fresh => judge_title(alloc, line),
         Place::Named(groups) => judge_header(alloc, groups, line),
+        Place::Long(long) => judge_long_line(alloc, long, line),
         Place::Running(machine) => judge_input(alloc, machine, line),
     }
 }
@@ -65,7 +74,18 @@ fn judge_first(alloc: Global, header: &Header) -> Judged
     ensures { JudgedHead result (heads Fresh header.now) }
 {
     match header {
-        Header::Journal(_) => Judged::Stands(Place::Named(Groups::none(alloc)), Vec::new(alloc)),
+        Header::Journal(version) => judge_version(alloc, *version),
+        _ => Judged::Misplaced,
+    }
+}
+
+/// Version 0 has a short header, version 1 a long one.
+fn judge_version(alloc: Global, version: u8) -> Judged
+    ensures { JudgedHead result (titles version) }
+{
+    match version {
+        0 => Judged::Stands(Place::Named(Groups::none(alloc)), Vec::new(alloc)),
+        1 => Judged::Stands(Place::Long(LongPlace::Titled), Vec::new(alloc)),
         _ => Judged::Misplaced,
     }
 }
@@ -85,9 +105,20 @@ fn judge_head(alloc: Global, groups: Groups, header: Header) -> Judged
     ensures { JudgedHead result (heads (Named groups) header) }
 {
     match header {
-        Header::Journal(_) => Judged::Misplaced,
         Header::Program(program) => judge_program(alloc, groups, program),
         Header::Go(start) => judge_go(alloc, groups, start),
+        _ => Judged::Misplaced,
+    }
+}
+
+#[tactic(auto, using(crate::proofs::Judged::judged_by_head))]
+fn judge_long_line(alloc: Global, place: LongPlace, line: &[u8]) -> Judged
+    ensures { JudgedAs result (Long place) line.now }
+{
+    match read_header(alloc, line) {
+        Ok(header) => judge_long(alloc, place, header),
+        Err(LineFault::BadLine(_)) => Judged::Misplaced,
+        Err(LineFault::OutOfMemory) => Judged::NoMemory,
     }
 }
 

@@ -2,6 +2,9 @@
 #![tactic(auto)]
 
 mod judge;
+mod long;
+#[cfg(test)]
+mod long_tests;
 #[cfg(test)]
 mod order_tests;
 mod orders;
@@ -10,5 +13,6 @@ mod run;
 mod short;
 #[cfg(test)]
 mod shutdown_tests;
+mod sizes;
 #[cfg(test)]
 mod tests;

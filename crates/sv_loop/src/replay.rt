@@ -3,9 +3,9 @@ ghost use Rattle.std.specs.Fmt.{decimal};
 ghost use Rattle.std.specs.Io.KnownBytes.{Appends, Consumes, IsAtEnd, Keeps};
 ghost use Rattle.sv_loop.specs.JournalPlaces.Stage.{Fresh};
 ghost use Rattle.sv_loop.specs.Reading.{IsAt};
-ghost use Rattle.sv_loop.specs.Replaying.{AreRun, Ended, Refuses, Replays, ReplaysAs, bad_line, fault_line, status_number};
+ghost use Rattle.sv_loop.specs.Replaying.{AreRun, Ended, Refuses, Replays, ReplaysAs, bad_line, configuration_fault, fault_line, status_number};
 ghost use Rattle.sv_loop.specs.Telling.{IsBehind, IsRunning, Tells, TellsLine, TellsOf, TellsOfLine, TellsOfWhole};
-ghost use Rattle.sv_loop.specs.WholeJournal.{HoldsGoodJournal, IsDoneOrHindered, WritesDeeds};
+ghost use Rattle.sv_loop.specs.WholeJournal.{HoldsGoodJournal, HoldsUnconfigured, IsDoneOrHindered, IsUnconfiguredOrHindered, WritesDeeds};
 ghost use Rattle.sv_loop.specs.declared.replay.Status.{Status};
 ghost use Rattle.sv_out.specs.Faults.{HasCause, Rose};
 
@@ -13,6 +13,7 @@ use crate::judge::Place;
 use crate::run::{End, Run};
 use std::alloc::{AllocError, Global};
 use sv_base::text::Text;
+use sv_conf::fault::ConfFault;
 use sv_out::failed::Failed;
 use sv_out::sink::{Sink, write_all};
 use sv_out::source::Source;
@@ -32,6 +33,7 @@ pub enum Status {
     NoMemory,
     SinkFailed,
     BadLine,
+    NotConfigured,
     NotAccepted,
     TooLong,
 }
@@ -48,6 +50,7 @@ impl Status {
             Status::NoMemory => 3,
             Status::SinkFailed => 4,
             Status::BadLine => 5,
+            Status::NotConfigured => 6,
             Status::NotAccepted => 7,
             Status::TooLong => 8,
         }
@@ -55,7 +58,7 @@ impl Status {
 }
 
 /// How the reading of a journal ended.
-#[derive(Clone, Copy, Debug)]
+#[derive(Debug, Drop)]
 pub enum Ending {
     /// The source is at its end.
     Whole,
@@ -217,6 +220,8 @@ fn close_line<K: Sink>(alloc: Global, run: &Run, end: End, sink: &mut K) -> Stat
             Status::NotAccepted,
             sink,
         ),
+        End::Faulty(fault) => tell_configuration_fault(alloc, &fault, sink),
+        End::NotBuilt => tell(b"fault 6 not built\n", Status::NotConfigured, sink),
         End::NoMemory => Status::NoMemory,
         End::Unwritten => Status::SinkFailed,
     }
@@ -242,12 +247,37 @@ fn tell_line<K: Sink>(alloc: Global, front: &str, line: u64, status: Status, sin
     }
 }
 
+/// Tells a fault of the configuration.
+fn tell_configuration_fault<K: Sink>(alloc: Global, fault: &ConfFault, sink: &mut K) -> Status
+    ensures tells { TellsLine (configuration_fault fault.now) Status.NotConfigured (K.written sink.old) (K.written sink.new) result }
+    ensures later { K.faults sink.old ≤ K.faults sink.new }
+    ensures failed { result ≡ Status.SinkFailed → Rose (K.faults sink.old) (K.faults sink.new) }
+{
+    match configuration_fault(alloc, fault) {
+        Ok(text) => tell(text.as_str().as_bytes(), Status::NotConfigured, sink),
+        Err(AllocError) => Status::NoMemory,
+    }
+}
+
+/// The line that tells of a fault in the configuration.
+#[tactic(auto, unfolding(crate::specs::Replaying::configuration_fault))]
+fn configuration_fault(alloc: Global, fault: &ConfFault) -> Result<String, AllocError>
+    ensures { IfOk result (λ text. string_bytes text ≡ configuration_fault fault.now) }
+{
+    let mut text = String::from_str(alloc, "fault 6 conf ")?;
+    let said = fault.text(alloc)?;
+    text.push_str(said.as_str())?;
+    text.push('\n')?;
+    Ok(text)
+}
+
 fn run<R: Source, K: Sink>(alloc: Global, source: &mut R, sink: &mut K) -> Status
     ensures replays { Replays result (R.left source.old) (R.left source.new) (K.written sink.old) (K.written sink.new) }
     ensures words { result ≢ Status.WordsRefused }
     ensures deeds { result ≡ Status.Done →
         WritesDeeds (R.left source.old) (R.left source.new) (K.written sink.old) (K.written sink.new) }
     ensures complete { HoldsGoodJournal (R.left source.old) → IsDoneOrHindered (status_number result) }
+    ensures unconfigured { HoldsUnconfigured (R.left source.old) → IsUnconfiguredOrHindered (status_number result) }
     ensures source_failed { result ≡ Status.SourceFailed → Rose (R.faults source.old) (R.faults source.new) }
     ensures sink_failed { result ≡ Status.SinkFailed → Rose (K.faults sink.old) (K.faults sink.new) }
 {
@@ -261,7 +291,8 @@ fn run<R: Source, K: Sink>(alloc: Global, source: &mut R, sink: &mut K) -> Statu
 ///
 /// The answer is 0 where the journal was read to its end, behind `go`, and each of its lines stood at its place; 1 where
 /// the source failed; 2 where the words are refused; 3 for want of memory; 4 where the sink failed; 5 where a line is
-/// outside the grammar of its place, or the journal ends before `go`; 7 where an input isn't accepted; 8 where the source
+/// outside the grammar of its place, or the journal ends before `go`; 6 where the header's configuration is refused, or has
+/// a part that isn't built; 7 where an input isn't accepted; 8 where the source
 /// has more than 67,108,864 bytes. A line that tells of it was then written, but at 0, 3 and 4.
 pub fn replay<R: Source, K: Sink>(alloc: Global, words: &[Text], source: &mut R, sink: &mut K) -> u8
     ensures statuses { (status : Status) × (result ≡ status_number status) }
@@ -273,6 +304,7 @@ pub fn replay<R: Source, K: Sink>(alloc: Global, words: &[Text], source: &mut R,
     ensures deeds { AreRun words.now → result ≡ 0 →
         WritesDeeds (R.left source.old) (R.left source.new) (K.written sink.old) (K.written sink.new) }
     ensures complete { AreRun words.now → HoldsGoodJournal (R.left source.old) → IsDoneOrHindered result }
+    ensures unconfigured { AreRun words.now → HoldsUnconfigured (R.left source.old) → IsUnconfiguredOrHindered result }
     ensures source_failed { result ≡ 1 → Rose (R.faults source.old) (R.faults source.new) }
     ensures sink_failed { result ≡ 4 → Rose (K.faults sink.old) (K.faults sink.new) }
 {

@@ -8,16 +8,21 @@ use crate::judge::{Judged, Place, judge};
 use crate::orders::write_orders;
 use std::alloc::Global;
 use std::mem;
+use sv_conf::fault::ConfFault;
 use sv_journal::read::LINE_LIMIT;
 use sv_out::sink::Sink;
 
 /// Why the reading of a journal stopped at a line.
-#[derive(Clone, Copy, Debug)]
+#[derive(Debug, Drop)]
 pub enum End {
     /// The line is outside the grammar of its place.
     Misplaced,
     /// Its input isn't accepted.
     Refused,
+    /// The configuration has this fault.
+    Faulty(ConfFault),
+    /// A part of the configuration isn't built.
+    NotBuilt,
     /// Memory was refused.
     NoMemory,
     /// Its orders couldn't be written.
@@ -129,6 +134,8 @@ impl Run {
             }
             Judged::Misplaced => Err(End::Misplaced),
             Judged::Refused => Err(End::Refused),
+            Judged::Faulty(fault) => Err(End::Faulty(fault)),
+            Judged::NotBuilt => Err(End::NotBuilt),
             Judged::NoMemory => Err(End::NoMemory),
         }
     }

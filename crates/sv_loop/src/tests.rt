@@ -115,7 +115,7 @@ const CASES: [Case; 39] = [
     },
     Case {
         name: "another_version",
-        journal: "supervisor-journal 1\n",
+        journal: "supervisor-journal 2\n",
         status: 5,
         written: "fault 5 line 1\n",
     },

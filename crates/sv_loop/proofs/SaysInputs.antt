@@ -1,0 +1,64 @@
+-- Lines behind `go` are inputs, and their orders are the deeds of these.
+use Rattle.std.proofs.Common.{◌≡◌, List, [], ◌∷◌, ◌++◌, Bool, true, false, refl, sym, ap, ◌∙◌, if◌then◌else◌}
+use Rattle.sv_core.specs.Deeds.{after, deeds}
+use Rattle.sv_core.specs.MachineState.{Model, accepts, next, orders}
+use Rattle.sv_journal.specs.declared.header.Header.TheVariants as header_is
+use Rattle.sv_loop.specs.JournalPlaces.{Line, Stage, Walked, behind, walks_on, walked}
+use Rattle.sv_loop.specs.JournalPlaces.Line.{Head, Said}
+use Rattle.sv_loop.specs.JournalPlaces.Stage.{Running}
+use Rattle.sv_loop.specs.JournalPlaces.Verdict.{Stands, Refused}
+use Rattle.sv_loop.specs.JournalPlaces.Walked.{Reaches, Stops}
+use Rattle.sv_loop.specs.WholeJournal.{input_lines, AllAccepted}
+use Rattle.sv_out.specs.declared.input.Input.{Input}
+use Rattle.sv_out.specs.declared.order.Order.{Order}
+
+pub record SaysInputs (m : Model) (lines : List Line) (at : Stage) (given : List Order) : Type 0 where
+  pub inputs : List Input
+  pub spelled : lines ≡ input_lines inputs
+  pub accepted : AllAccepted m inputs
+  pub state : at ≡ Running (after m inputs)
+  pub orders_are : given ≡ deeds m inputs
+
+one_more : (m : Model) (input : Input) (lines : List Line) (at : Stage) (given : List Order) (onward : Walked)
+    → ((t : Stage) (g : List Order) → onward ≡ Reaches t g → SaysInputs (next m input) lines t g)
+    → accepts m input ≡ true → behind (orders m input) onward ≡ Reaches at given → SaysInputs m (Said input ∷ lines) at given
+one_more m input lines at given (Reaches t g) later taken e =
+    let rest = later t g refl in
+    let there : t ≡ at = cc in
+    let all : orders m input ++ g ≡ given = cc in
+    record {
+      inputs = input ∷ rest.inputs;
+      spelled = ap (λ ls. Said input ∷ ls) rest.spelled;
+      accepted = (taken, rest.accepted);
+      state = rw taken (sym there ∙ rest.state);
+      orders_are = rw taken (sym all ∙ ap (λ os. orders m input ++ os) rest.orders_are);
+    }
+one_more m input lines at given Stops later taken e = cc
+
+by_test : (m : Model) (input : Input) (lines : List Line) (at : Stage) (given : List Order) (accepted : Bool)
+    → ((t : Stage) (g : List Order) → walked (Running (next m input)) lines ≡ Reaches t g → SaysInputs (next m input) lines t g)
+    → accepts m input ≡ accepted
+    → walks_on (if accepted then Stands (Running (next m input)) (orders m input) else Refused) (λ n. walked n lines) ≡ Reaches at given
+    → SaysInputs m (Said input ∷ lines) at given
+by_test m input lines at given true later taken e = one_more m input lines at given (walked (Running (next m input)) lines) later taken e
+by_test m input lines at given false later taken e = cc
+
+pub says_inputs : (m : Model) (lines : List Line) (at : Stage) (given : List Order) → walked (Running m) lines ≡ Reaches at given → SaysInputs m lines at given
+says_inputs m [] at given e = record { inputs = []; spelled = refl; accepted = tt; state = cc; orders_are = cc }
+says_inputs m (Said input ∷ lines) at given e =
+    by_test m input lines at given (accepts m input) (λ t g reaches. says_inputs (next m input) lines t g reaches) refl e
+says_inputs m (Head (header_is.Journal version) ∷ lines) at given e = cc
+says_inputs m (Head (header_is.Program program) ∷ lines) at given e = cc
+says_inputs m (Head (header_is.Host other) ∷ lines) at given e = cc
+says_inputs m (Head (header_is.Here other) ∷ lines) at given e = cc
+says_inputs m (Head (header_is.Pid other) ∷ lines) at given e = cc
+says_inputs m (Head (header_is.Env name value) ∷ lines) at given e = cc
+says_inputs m (Head (header_is.Size file size) ∷ lines) at given e = cc
+says_inputs m (Head (header_is.Conf text) ∷ lines) at given e = cc
+says_inputs m (Head (header_is.Include name more) ∷ lines) at given e = cc
+says_inputs m (Head (header_is.Go start) ∷ lines) at given e = cc
+
+-- nothing is given before `go`
+pub quiet : (onward : Walked) (at : Stage) (given : List Order) → behind [] onward ≡ Reaches at given → onward ≡ Reaches at given
+quiet (Reaches t g) at given e = e
+quiet Stops at given e = e
