@@ -8,3 +8,17 @@ mod StageLaws
 mod DocumentLaws
 mod LogLaws
 mod PlaceLaws
+mod Passing
+mod ValuePassing
+mod HeldLaws
+mod DocumentPassing
+mod DeepLaws
+mod SpelledLaws
+mod WrittenLaws
+mod TagsBack
+mod TextsBack
+mod ValuesBack
+mod NestedBack
+mod DocumentsBack
+mod CallsBack
+mod RefusedLaws

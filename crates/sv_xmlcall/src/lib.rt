@@ -1,6 +1,7 @@
-//! The texts of XML-RPC, read and written: `specs/Machine.antt` says how a text is read byte by byte, which call or
-//! reply it comes to, and where it is refused; `specs/Written.antt` says which one text is written for a call or a
-//! reply. Nesting and the number of values are bounded while a text is read, before anything is built beyond them.
+//! The texts of XML-RPC, read and written: `specs/Spells.antt` and `specs/SpelledTexts.antt` say which texts spell a call
+//! or a reply, and `specs/Machine.antt` where a text is refused that spells nothing; `specs/Written.antt` says which one
+//! text is written for a call or a reply. Nesting and the number of values are bounded while a text is read, before
+//! anything is built beyond them.
 #![tactic(auto)]
 
 mod atoms;

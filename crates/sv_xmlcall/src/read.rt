@@ -1,6 +1,9 @@
-ghost use Rattle.std.specs.Prelude.{◌≡◌, ◌∷◌, [], ◌≤◌, ◌<◌, ◌&&◌, codes, IfOk, List, ℕ, length};
+ghost use Rattle.std.specs.Prelude.{◌≡◌, ◌∷◌, [], ◌≤◌, ◌<◌, ◌&&◌, codes, IfOk, IfErr, List, ℕ, length};
 ghost use Rattle.std.specs.Option.{option_map};
-ghost use Rattle.sv_xmlcall.specs.Trees.{view, trees_view, call_view, reply_view};
+ghost use Rattle.sv_xmlcall.specs.Trees.{CallTree, Reply, view, trees_view, call_view, reply_view};
+ghost use Rattle.sv_xmlcall.specs.SpelledTexts.{SpellsCall, SpellsReply};
+ghost use Rattle.sv_xmlcall.specs.Given.{GivesCall, GivesReply};
+ghost use Rattle.sv_xmlcall.specs.Refused.{EndsCall, EndsReply};
 ghost use Rattle.sv_xmlcall.specs.Spelled.{ACall, AReply, fault_of, two_of, named_fault};
 ghost use Rattle.std.specs.Str.{bytes_eq};
 ghost use Rattle.sv_xmlcall.specs.Outcome.{Gives};
@@ -21,7 +24,10 @@ use sv_base::text::Text;
 /// The call that these bytes spell.
 #[tactic(auto, using(crate::proofs::DocumentLaws::fault_is))]
 pub fn read_call(alloc: Global, bytes: &[u8]) -> Result<Call, CallFault>
-    ensures { ReadsCall (run the_limits (start OfCall) bytes.now) (length bytes.now) result }
+    ensures reads { ReadsCall (run the_limits (start OfCall) bytes.now) (length bytes.now) result }
+    ensures found { IfOk result (λ call. SpellsCall bytes.now (call_view call)) }
+    ensures only { (spelled : CallTree) → SpellsCall bytes.now spelled → GivesCall spelled result }
+    ensures beyond { IfErr result (EndsCall bytes.now) }
 {
     let mut opened = 0;
     match call(alloc, &mut opened, bytes) {
@@ -34,7 +40,10 @@ pub fn read_call(alloc: Global, bytes: &[u8]) -> Result<Call, CallFault>
 /// The reply that these bytes spell.
 #[tactic(auto, using(crate::proofs::DocumentLaws::fault_is))]
 pub fn read_reply(alloc: Global, bytes: &[u8]) -> Result<Answered, CallFault>
-    ensures { ReadsReply (run the_limits (start OfReply) bytes.now) (length bytes.now) result }
+    ensures reads { ReadsReply (run the_limits (start OfReply) bytes.now) (length bytes.now) result }
+    ensures found { IfOk result (λ answered. SpellsReply bytes.now (reply_view answered)) }
+    ensures only { (spelled : Reply) → SpellsReply bytes.now spelled → GivesReply spelled result }
+    ensures beyond { IfErr result (EndsReply bytes.now) }
 {
     let mut opened = 0;
     match reply(alloc, &mut opened, bytes) {

@@ -1,0 +1,112 @@
+-- No spelled text goes on with a refused byte.
+use Rattle.std.proofs.Common.{◌≡◌, ℕ, suc, ◌-◌, ◌≤◌, ltb, List, [], ◌∷◌, ◌++◌, length, inl, inr, refl, sym, ap, ◌∙◌, arith, length-append}
+use Rattle.std.proofs.lemmas.Bool.{cases_Bool}
+use Rattle.sv_xmlcall.specs.Spelled.{Spelled, ACall, AReply}
+use Rattle.sv_xmlcall.specs.SpelledTexts.{Spells}
+use Rattle.sv_xmlcall.specs.Refused.{EndsCall, EndsReply}
+use Rattle.sv_xmlcall.specs.Answers.{FaultIs}
+use Rattle.sv_xmlcall.specs.Machine.{Limits, the_limits, OfCall, OfReply, State, Step, Go, Bad, Deep, Read, NotRead, TooMany, TooDeep, Verdict, Control, At, AtDone, AtStart, Stuck, next, run, on_step, unless_many, finished, start}
+use Rattle.sv_xmlcall.specs.declared.call.CallFault.{CallFault}
+use Rattle.sv_xmlcall.specs.declared.call.CallFault.TheVariants as fault
+use Rattle.sv_xmlcall.proofs.SpelledLaws.{Ways, ways, document_of, spelled_verdict, ample_limits}
+
+not_deep : {P : Type 0} (left : ℕ) → TooDeep ≡ NotRead left → P
+not_deep left e = cc e
+
+not_many : {P : Type 0} (left : ℕ) → TooMany ≡ NotRead left → P
+not_many left e = cc e
+
+not_read : {P : Type 0} (spelled : Spelled) (left : ℕ) → Read spelled ≡ NotRead left → P
+not_read spelled left e = cc e
+
+left_is : (m left : ℕ) → NotRead m ≡ NotRead left → m ≡ left
+left_is m left e = cc e
+
+unless_left : (limits : Limits) (count m left : ℕ) → unless_many limits count (NotRead m) ≡ NotRead left → (unless_many limits count (NotRead m) ≡ NotRead m) × (m ≡ left)
+unless_left limits count m left e = elim (cases_Bool (ltb limits.values count)) [
+  | inl f ↦ let g : TooMany ≡ NotRead left = rw f at e in not_many left g
+  | inr f ↦ (rw f refl, left_is m left (rw f at e))
+]
+
+finish_left : (control : Control) (left : ℕ) → finished control ≡ NotRead left → left ≡ 0
+finish_left (At (AtDone spelled)) left e = not_read spelled left e
+finish_left (At (AtStart document)) left e = sym (left_is 0 left e)
+finish_left (At place) left e = sym (left_is 0 left e)
+finish_left Stuck left e = sym (left_is 0 left e)
+finish_left control left e = sym (left_is 0 left e)
+
+end_left : (limits : Limits) (control : Control) (count left : ℕ) → unless_many limits count (finished control) ≡ NotRead left → left ≡ 0
+end_left limits control count left e = elim (cases_Bool (ltb limits.values count)) [
+  | inl f ↦ let g : TooMany ≡ NotRead left = rw f at e in not_many left g
+  | inr f ↦ finish_left control left (rw f at e)
+]
+
+within_step : (limits : Limits) (step : Step) (count left : ℕ) (bs : List ℕ) → ((s : State) → run limits s bs ≡ NotRead left → left ≤ length bs)
+    → on_step step (λ s. run limits s bs) (unless_many limits count (NotRead (suc (length bs)))) ≡ NotRead left → left ≤ suc (length bs)
+within_step limits (Go s) count left bs again e = let h = again s e in omega arith
+within_step limits Bad count left bs again e = let h = (unless_left limits count (suc (length bs)) left e).1 in omega arith
+within_step limits Deep count left bs again e = not_deep left e
+
+pub within_text : (limits : Limits) (bs : List ℕ) (s : State) (left : ℕ) → run limits s bs ≡ NotRead left → left ≤ length bs
+within_text limits [] s left e = let h = end_left limits s.control s.count left e in omega arith
+within_text limits (b ∷ bs) s left e = within_step limits (next limits s b) s.count left bs (λ t f. within_text limits bs t left f) e
+
+abbrev OtherLeft : Limits → Verdict → List ℕ → Type 0
+OtherLeft limits verdict other = verdict ≡ NotRead (suc (length other))
+
+last_step : (limits : Limits) (step : Step) (count : ℕ) (rest other : List ℕ) → ((s : State) → run limits s rest ≡ NotRead (suc (length rest)) → suc (length rest) ≤ length rest)
+    → on_step step (λ s. run limits s rest) (unless_many limits count (NotRead (suc (length rest)))) ≡ NotRead (suc (length rest))
+    → OtherLeft limits (on_step step (λ s. run limits s other) (unless_many limits count (NotRead (suc (length other))))) other
+last_step limits (Go s) count rest other short e = let h = short s e in absurd (omega arith)
+last_step limits Bad count rest other short e = few limits count (suc (length rest)) (suc (length rest)) (suc (length other)) e
+  where
+    few : (limits : Limits) (count m left n : ℕ) → unless_many limits count (NotRead m) ≡ NotRead left → unless_many limits count (NotRead n) ≡ NotRead n
+    few limits count m left n e = elim (cases_Bool (ltb limits.values count)) [
+      | inl f ↦ let g : TooMany ≡ NotRead left = rw f at e in not_many left g
+      | inr f ↦ rw f refl
+    ]
+last_step limits Deep count rest other short e = not_deep (suc (length rest)) e
+
+front_step : (limits : Limits) (step : Step) (count : ℕ) (front : List ℕ) (b : ℕ) (rest other : List ℕ)
+    → ((s : State) → run limits s (front ++ b ∷ rest) ≡ NotRead (suc (length rest)) → OtherLeft limits (run limits s (front ++ b ∷ other)) other)
+    → on_step step (λ s. run limits s (front ++ b ∷ rest)) (unless_many limits count (NotRead (suc (length (front ++ b ∷ rest))))) ≡ NotRead (suc (length rest))
+    → OtherLeft limits (on_step step (λ s. run limits s (front ++ b ∷ other)) (unless_many limits count (NotRead (suc (length (front ++ b ∷ other)))))) other
+front_step limits (Go s) count front b rest other again e = again s e
+front_step limits Bad count front b rest other again e =
+    let h = (unless_left limits count (suc (length (front ++ b ∷ rest))) (suc (length rest)) e).1 in absurd (omega (arith, length-append front (b ∷ rest)))
+front_step limits Deep count front b rest other again e = not_deep (suc (length rest)) e
+
+-- a byte at which a text is refused is refused whatever follows
+pub refused : (limits : Limits) (front : List ℕ) (b : ℕ) (rest other : List ℕ) (s : State) → run limits s (front ++ b ∷ rest) ≡ NotRead (suc (length rest))
+    → OtherLeft limits (run limits s (front ++ b ∷ other)) other
+refused limits [] b rest other s e = last_step limits (next limits s b) s.count rest other (λ t f. within_text limits rest t (suc (length rest)) f) e
+refused limits (x ∷ front) b rest other s e = front_step limits (next limits s x) s.count front b rest other (λ t f. refused limits front b rest other t f) e
+
+not_spelled : {P : Type 0} (spelled : Spelled) (left : ℕ) (verdict : Verdict) → Ways the_limits spelled verdict → verdict ≡ NotRead left → P
+not_spelled spelled left verdict (inl w) e = not_deep left (sym w.1 ∙ e)
+not_spelled spelled left verdict (inr (inl w)) e = not_many left (sym w.2 ∙ e)
+not_spelled spelled left verdict (inr (inr w)) e = not_read spelled left (sym w.2 ∙ e)
+
+-- no spelled text goes on with the byte at the place that is told
+goes_on : (spelled : Spelled) (bytes front : List ℕ) (byte : ℕ) (rest other : List ℕ) (left : ℕ) → run the_limits (start (document_of spelled)) bytes ≡ NotRead left
+    → bytes ≡ front ++ byte ∷ rest → length front ≡ length bytes - left → Spells (front ++ byte ∷ other) spelled → ⊥
+goes_on spelled bytes front byte rest other left e p l s =
+    let w = within_text the_limits bytes (start (document_of spelled)) left e in
+    let is : left ≡ suc (length rest) = omega (arith, ap length p, length-append front (byte ∷ rest)) in
+    let f : run the_limits (start (document_of spelled)) (front ++ byte ∷ rest) ≡ NotRead (suc (length rest)) =
+    ap (run the_limits (start (document_of spelled))) (sym p) ∙ e ∙ ap NotRead is in
+    let g = refused the_limits front byte rest other (start (document_of spelled)) f in
+    let verdict = run the_limits (start (document_of spelled)) (front ++ byte ∷ other) in
+    not_spelled spelled (suc (length other)) verdict (ways the_limits spelled verdict (spelled_verdict the_limits (front ++ byte ∷ other) spelled ample_limits s)) g
+
+pub ends_call : (bytes : List ℕ) (fault : CallFault) → FaultIs fault (length bytes) (run the_limits (start OfCall) bytes) → EndsCall bytes fault
+ends_call bytes (fault.NotACall place) f = λ front byte rest other call p l s. goes_on (ACall call) bytes front byte rest other f.0 f.1.0 p (l ∙ f.1.1) s
+ends_call bytes fault.TooDeep f = tt
+ends_call bytes fault.TooManyValues f = tt
+ends_call bytes fault.OutOfMemory f = tt
+
+pub ends_reply : (bytes : List ℕ) (fault : CallFault) → FaultIs fault (length bytes) (run the_limits (start OfReply) bytes) → EndsReply bytes fault
+ends_reply bytes (fault.NotACall place) f = λ front byte rest other reply p l s. goes_on (AReply reply) bytes front byte rest other f.0 f.1.0 p (l ∙ f.1.1) s
+ends_reply bytes fault.TooDeep f = tt
+ends_reply bytes fault.TooManyValues f = tt
+ends_reply bytes fault.OutOfMemory f = tt
