@@ -2,6 +2,8 @@ mod Words
 mod Runs
 mod LetterLaws
 mod Texts
+mod SimpleLaws
+mod WriteLaws
 mod Frames
 mod TextLaws
 mod StageLaws

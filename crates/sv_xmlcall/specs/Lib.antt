@@ -8,6 +8,7 @@ pub mod Outcome
 pub mod Reading
 pub mod Refused
 pub mod Running
+pub mod Simple
 pub mod Sizes
 pub mod Spelled
 pub mod SpelledTexts

@@ -6,10 +6,12 @@ ghost use Rattle.sv_xmlcall.specs.declared.letters.Letters.TheVariants.{OfXml};
 ghost use Rattle.sv_xmlcall.specs.declared.letters.Awaits.{Awaits};
 ghost use Rattle.sv_xmlcall.specs.Machine.{is_digit, digit_value};
 ghost use Rattle.sv_xmlcall.specs.Outcome.{Gives};
+ghost use Rattle.sv_xmlcall.specs.Simple.{run_at, behind_at, wide_run, awaits_behind, behind_wide};
 ghost use Rattle.sv_xmlcall.specs.Reading.{numeral_at, numbered_at, entity_at, piece_at, text_at, content_at, method_at};
 
 use crate::atoms::shut;
 use crate::letters::{Awaits, Letters};
+use crate::simple::push_run;
 use crate::stop::Stop;
 use crate::tag::{Tag, next_tag};
 use std::alloc::{AllocError, Global};
@@ -118,6 +120,7 @@ fn entity(bytes: &[u8]) -> Result<(char, &[u8]), Stop>
 
 /// Reads a character or an entity, adds it to those that were kept, and gives what may come then and what follows; at
 /// the `<` that ends the text it gives none.
+#[inline(always)]
 #[tactic(auto, unfolding(crate::specs::Reading::piece_at))]
 fn piece<'a>(
     kept: &mut Vec<u8>,
@@ -144,8 +147,57 @@ fn piece<'a>(
     }
 }
 
+/// Adds the run of simple bytes with which these begin, where a character may come, to those that were kept, and gives
+/// what is behind it.
+fn run<'a>(kept: &mut Vec<u8>, awaits: Awaits, bytes: &'a [u8]) -> Result<&'a [u8], AllocError>
+    ensures run { OnOk result (kept.new.items ≡ kept.old.items ++ run_at awaits bytes.now) }
+    ensures behind { IfOk result (λ rest. rest.now ≡ behind_at awaits bytes.now) }
+    ensures shorter { IfOk result (λ rest. length rest.now ≤ length bytes.now) }
+{
+    match awaits {
+        Awaits::Character => push_run(kept, bytes),
+        Awaits::Private | Awaits::Continuation { .. } => Ok(bytes),
+    }
+}
+
+/// What may come behind the bytes of wider characters with which these begin, and what is behind them.
+fn behind_wide(awaits: Awaits, bytes: &[u8]) -> (Awaits, &[u8])
+    ensures next { result.0 ≡ awaits_behind awaits bytes.now }
+    ensures behind { result.1.now ≡ behind_wide awaits bytes.now }
+    ensures shorter { length result.1.now ≤ length bytes.now }
+{
+    let mut next = awaits;
+    let mut rest = bytes;
+    while let [byte, after @ ..] = rest {
+        if *byte < 128 || !next.allows(Letters::OfXml, *byte) {
+            break;
+        }
+        next = next.after(Letters::OfXml, *byte);
+        rest = after;
+    }
+    (next, rest)
+}
+
+/// Adds the bytes of wider characters with which these begin to those that were kept, and gives what may come then and
+/// what is behind them.
+#[tactic(auto, using(crate::proofs::SimpleLaws::wide_taken))]
+fn wide<'a>(
+    kept: &mut Vec<u8>,
+    awaits: Awaits,
+    bytes: &'a [u8],
+) -> Result<(Awaits, &'a [u8]), AllocError>
+    ensures run { OnOk result (kept.new.items ≡ kept.old.items ++ wide_run awaits bytes.now) }
+    ensures next { IfOk result (λ x. x.0 ≡ awaits_behind awaits bytes.now) }
+    ensures behind { IfOk result (λ x. x.1.now ≡ behind_wide awaits bytes.now) }
+    ensures shorter { IfOk result (λ x. length x.1.now ≤ length bytes.now) }
+{
+    let (next, rest) = behind_wide(awaits, bytes);
+    kept.extend_from_slice(&bytes[..bytes.len() - rest.len()])?;
+    Ok((next, rest))
+}
+
 /// Reads characters up to the `<` that ends the text, and gives them behind those that were kept.
-#[tactic(auto, using(crate::proofs::Texts::reaches_begin_at, crate::proofs::Texts::reaches_more, crate::proofs::Texts::reaches_end, crate::proofs::Texts::reaches_bad, crate::proofs::Texts::piece_open, crate::proofs::Texts::whole_utf8))]
+#[tactic(auto, using(crate::proofs::SimpleLaws::ran, crate::proofs::SimpleLaws::ran_open, crate::proofs::SimpleLaws::ran_wide, crate::proofs::SimpleLaws::ran_wide_open, crate::proofs::Texts::reaches_begin_at, crate::proofs::Texts::reaches_more, crate::proofs::Texts::reaches_end, crate::proofs::Texts::reaches_bad, crate::proofs::Texts::piece_open, crate::proofs::Texts::whole_utf8))]
 pub fn characters<'a>(alloc: Global, kept: &[u8], bytes: &'a [u8]) -> Result<(Text, &'a [u8]), Stop>
     requires { IsTrue (are_letters OfXml Awaits.Character kept.now) }
     ensures value { Gives (λ x. (x.0, x.1.now)) result (text_at kept.now bytes.now) }
@@ -155,12 +207,14 @@ pub fn characters<'a>(alloc: Global, kept: &[u8], bytes: &'a [u8]) -> Result<(Te
     let mut awaits = Awaits::Character;
     let mut rest = bytes;
     loop {
-        match piece(&mut value, awaits, rest) {
+        let behind_run = run(&mut value, awaits, rest)?;
+        let (then, behind_wide) = wide(&mut value, awaits, behind_run)?;
+        match piece(&mut value, then, behind_wide) {
             Ok(Some((next, behind))) => {
                 awaits = next;
                 rest = behind;
             }
-            Ok(None) => return Ok((text_of(value), rest)),
+            Ok(None) => return Ok((text_of(value), behind_wide)),
             Err(stop) => return Err(stop),
         }
     }
@@ -178,10 +232,7 @@ pub fn text_of(bytes: Vec<u8>) -> Text
     requires { IsUtf8 bytes.items }
     ensures { result ≡ bytes.items }
 {
-    match String::from_utf8(bytes) {
-        Ok(text) => Text::from_string(text),
-        Err(_) => unreachable!(),
-    }
+    Text::from_string(unsafe { String::from_utf8_unchecked(bytes) })
 }
 
 /// Reads a text and its closing tag.

@@ -14,6 +14,7 @@ mod letters;
 pub mod log;
 mod nested;
 pub mod read;
+mod simple;
 mod stop;
 #[cfg(test)]
 mod tables;

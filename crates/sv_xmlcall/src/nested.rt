@@ -107,6 +107,7 @@ fn pop(stack: &mut Vec<Held>) -> Option<Held>
 }
 
 /// Opens a value, the empty one or another.
+#[inline(always)]
 #[tactic(auto, using(crate::proofs::Frames::begin_ok, crate::proofs::Frames::begin_deep))]
 fn begin(empty: bool, stack: &mut Vec<Held>, opened: &mut u32) -> Result<Settled, Stop>
     ensures { Settles (λ frame. opening_of empty (frames_on (frame ∷ []) stack.old.items) opened.old)
@@ -138,6 +139,7 @@ fn open(empty: bool, stack: &mut Vec<Held>, opened: u32) -> Result<Settled, Stop
 }
 
 /// Goes on behind a whole value.
+#[inline(always)]
 fn whole(value: Value, stack: &mut Vec<Held>, opened: u32) -> Result<Settled, Stop>
     ensures { Settles (λ frame. Go (after_value the_limits (view value) (frames_on (frame ∷ []) stack.old.items) opened))
         (λ frame s. settled_state frame s (frames_on (frame ∷ []) stack.new.items) opened) result }
@@ -152,6 +154,7 @@ fn whole(value: Value, stack: &mut Vec<Held>, opened: u32) -> Result<Settled, St
 }
 
 /// Adds a value, unless too many were opened.
+#[inline(always)]
 #[tactic(auto, using(crate::proofs::Frames::trees_view_more))]
 pub fn kept(items: Vec<Value>, value: Value, opened: u32) -> Result<Vec<Value>, AllocError>
     ensures { IfOk result (λ all. trees_view all.items ≡ kept the_limits opened (trees_view items.items) (view value)) }
@@ -357,6 +360,7 @@ fn bare(alloc: Global, white: Vec<u8>, bytes: &[u8]) -> Result<(Turn, &[u8]), St
     Ok((Turn::Whole(Value::Text(text)), rest))
 }
 
+#[inline(always)]
 fn number(end: Tag, bytes: &[u8]) -> Result<(Turn, &[u8]), Stop>
     ensures value { Gives (λ x. (turn_view x.0, x.1.now)) result (number_at end bytes.now) }
     ensures shorter { IfOk result (λ x. length x.1.now < length bytes.now) }

@@ -534,3 +534,50 @@ pub const NO_REPLIES: [(&[u8], &[u8]); 13] = [
         b"x",
     ),
 ];
+
+/// Bytes of logs, each with its text.
+pub const LOGS: [(&[u8], &str); 31] = [
+    (b"", ""),
+    (b"started: pid 12 ~\x7f", "started: pid 12 ~\x7f"),
+    (b"\ta\nb\r\n", "\ta\nb\r\n"),
+    (b"\x00\x01\x02\x03\x04\x05\x06\x07\x08", "?????????"),
+    (b"\x0b\x0c", "??"),
+    (b"\x0e\x0f\x10\x11\x12\x13\x14\x15\x16", "?????????"),
+    (b"\x17\x18\x19\x1a\x1b\x1c\x1d\x1e\x1f", "?????????"),
+    (
+        b"\xc2\x80\xc2\x9f\xc3\xa9\xdf\xbf",
+        "\u{80}\u{9f}\u{e9}\u{7ff}",
+    ),
+    (
+        b"\xe0\xa0\x80\xe2\x82\xac\xed\x9f\xbf",
+        "\u{800}\u{20ac}\u{d7ff}",
+    ),
+    (b"\xee\x80\x80\xef\xbf\xbd", "\u{e000}\u{fffd}"),
+    (
+        b"\xf0\x90\x80\x80\xf0\x9f\xbf\xbe\xf4\x8f\xbf\xbf",
+        "\u{10000}\u{1fffe}\u{10ffff}",
+    ),
+    (b"\xef\xbf\xbe\xef\xbf\xbf", "??????"),
+    (b"\xed\xa0\x80\xed\xbf\xbf", "??????"),
+    (b"\xc0\x80\xc1\xbf", "????"),
+    (b"\xe0\x80\x80\xe0\x9f\xbf", "??????"),
+    (b"\xf0\x80\x80\x80\xf0\x8f\xbf\xbf", "????????"),
+    (b"\xf4\x90\x80\x80\xf5\x80\x80\x80", "????????"),
+    (b"a\x80b\xbfc\xfed\xff", "a?b?c?d?"),
+    (b"\xc3a", "?a"),
+    (b"\xe2a\xac", "?a?"),
+    (b"\xe2\x82a", "??a"),
+    (b"\xf0a\x98\x80", "?a??"),
+    (b"\xf0\x9fa\x80", "??a?"),
+    (b"\xf0\x9f\x98a", "???a"),
+    (b"a\xc3", "a?"),
+    (b"a\xe2", "a?"),
+    (b"a\xe2\x82", "a??"),
+    (b"a\xf0\x9f", "a??"),
+    (b"a\xf0\x9f\x98", "a???"),
+    (b"\xe2\x82\xe2\x82\xac\xc3\xc3\xa9", "??\u{20ac}?\u{e9}"),
+    (
+        b"\xc3\xa9\xa9\x1b[0m \xf0\x9f\x98\x80\n",
+        "\u{e9}??[0m \u{1f600}\n",
+    ),
+];

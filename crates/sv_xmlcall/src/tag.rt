@@ -139,6 +139,7 @@ fn word<'a>(wanted: &[u8], bytes: &'a [u8]) -> Result<&'a [u8], Stop>
 }
 
 /// Reads one of these tags. Where none stands here, the bad byte is the first that goes on with none of them.
+#[inline(always)]
 pub fn next_tag<'a>(tags: &[Tag], bytes: &'a [u8]) -> Result<(Tag, &'a [u8]), Stop>
     ensures value { Gives (λ x. (x.0, x.1.now)) result (tag_at tags.now bytes.now) }
     ensures shorter { IfOk result (λ x. length x.1.now < length bytes.now) }

@@ -1,7 +1,8 @@
 use crate::call::{Answered, Call, CallFault};
+use crate::log::text_of_log;
 use crate::read::{read_call, read_reply};
 use crate::tables::{
-    CALLS, NO_CALLS, NO_FORMS, NO_REPLIES, NO_TAGS, NO_TEXTS, NO_UTF8, REPLIES, VALUES,
+    CALLS, LOGS, NO_CALLS, NO_FORMS, NO_REPLIES, NO_TAGS, NO_TEXTS, NO_UTF8, REPLIES, VALUES,
 };
 use crate::write::{write_call, write_fault, write_reply};
 use std::alloc::Global;
@@ -251,4 +252,17 @@ fn checks_version_call(rt: &impl Abort, alloc: Global) {
 fn one_call_in_three_spellings_and_its_reply(rt: HostRuntime) {
     let alloc = rt.alloc();
     checks_version_call(&rt, alloc);
+}
+
+fn checks_logs(rt: &impl Abort, alloc: Global) {
+    for (bytes, text) in LOGS.as_slice() {
+        let kept = text_of_log(alloc, bytes).expect(rt, "memory");
+        assert!(rt; kept.as_str() == *text);
+    }
+}
+
+#[test]
+fn logs_keep_what_xml_allows(rt: HostRuntime) {
+    let alloc = rt.alloc();
+    checks_logs(&rt, alloc);
 }

@@ -1,9 +1,10 @@
-ghost use Rattle.std.specs.Prelude.{◌≡◌, ◌++◌, IfOk, OnOk, codes};
+ghost use Rattle.std.specs.Prelude.{◌≡◌, ◌≤◌, ◌++◌, IfOk, OnOk, codes, length};
 ghost use Rattle.std.specs.Fmt.{signed_decimal};
 ghost use Rattle.sv_xmlcall.specs.Trees.{view, trees_view, members_view, call_view, Returns, Faults};
 ghost use Rattle.sv_xmlcall.specs.Written.{escaped_byte, digit_of, escaped, opening, closing, element, fault_tree, written_form, written_value, written_values, written_members, written_params, written_call, written_reply};
 
 use crate::call::Call;
+use crate::simple::push_run;
 use crate::value::Value;
 use itoa::Buffer;
 use std::alloc::{AllocError, Global};
@@ -103,11 +104,21 @@ fn put_byte(out: &mut Vec<u8>, byte: u8) -> Result<(), AllocError>
 fn put_text(out: &mut Vec<u8>, text: &str) -> Result<(), AllocError>
     ensures { OnOk result (out.new.items ≡ out.old.items ++ escaped text.now) }
 {
-    let bytes = text.as_bytes();
-    for byte in bytes {
+    let mut rest = put_run(out, text.as_bytes())?;
+    while let [byte, after @ ..] = rest {
         put_byte(out, *byte)?;
+        rest = put_run(out, after)?;
     }
     Ok(())
+}
+
+/// Writes the simple bytes with which these begin, and gives what is behind them.
+#[tactic(auto, using(crate::proofs::SimpleLaws::written_run))]
+fn put_run<'a>(out: &mut Vec<u8>, bytes: &'a [u8]) -> Result<&'a [u8], AllocError>
+    ensures written { IfOk result (λ rest. out.new.items ++ escaped rest.now ≡ out.old.items ++ escaped bytes.now) }
+    ensures shorter { IfOk result (λ rest. length rest.now ≤ length bytes.now) }
+{
+    push_run(out, bytes)
 }
 
 /// An element that holds a text.
@@ -134,23 +145,42 @@ fn put_truth(out: &mut Vec<u8>, truth: bool) -> Result<(), AllocError>
     }
 }
 
+#[tactic(auto, using(crate::proofs::WriteLaws::written_between), unfolding(crate::specs::Written::opening, crate::specs::Written::closing))]
+fn put_int(out: &mut Vec<u8>, number: i64) -> Result<(), AllocError>
+    ensures { OnOk result (out.new.items ≡ out.old.items ++ element (codes "int") (signed_decimal number)) }
+{
+    out.extend_from_slice(b"<int>")?;
+    put_integer(out, number)?;
+    out.extend_from_slice(b"</int>")
+}
+
+#[tactic(auto, using(crate::proofs::WriteLaws::written_between), unfolding(crate::specs::Written::opening, crate::specs::Written::closing))]
+fn put_boolean(out: &mut Vec<u8>, truth: bool) -> Result<(), AllocError>
+    ensures { OnOk result (out.new.items ≡ out.old.items ++ element (codes "boolean") (digit_of truth)) }
+{
+    out.extend_from_slice(b"<boolean>")?;
+    put_truth(out, truth)?;
+    out.extend_from_slice(b"</boolean>")
+}
+
+#[tactic(auto, using(crate::proofs::WriteLaws::written_between), unfolding(crate::specs::Written::opening, crate::specs::Written::closing))]
+fn put_string(out: &mut Vec<u8>, text: &Text) -> Result<(), AllocError>
+    ensures { OnOk result (out.new.items ≡ out.old.items ++ element (codes "string") (escaped text.now)) }
+{
+    out.extend_from_slice(b"<string>")?;
+    put_text(out, text.as_str())?;
+    out.extend_from_slice(b"</string>")
+}
+
 /// The form of a value: what stands within `<value>` and `</value>`.
 #[cycle(put)]
 fn put_form(out: &mut Vec<u8>, value: &Value) -> Result<(), AllocError>
     ensures { OnOk result (out.new.items ≡ out.old.items ++ written_form (view value.now)) }
 {
     match value {
-        Value::Int(number) => {
-            open(out, b"int")?;
-            put_integer(out, *number)?;
-            close(out, b"int")
-        }
-        Value::Truth(truth) => {
-            open(out, b"boolean")?;
-            put_truth(out, *truth)?;
-            close(out, b"boolean")
-        }
-        Value::Text(text) => put_content(out, b"string", text),
+        Value::Int(number) => put_int(out, *number),
+        Value::Truth(truth) => put_boolean(out, *truth),
+        Value::Text(text) => put_string(out, text),
         Value::Other(form, content) => put_content(out, form.as_str().as_bytes(), content),
         Value::Struct(members) => {
             open(out, b"struct")?;
@@ -169,9 +199,10 @@ fn put_form(out: &mut Vec<u8>, value: &Value) -> Result<(), AllocError>
 fn put_value(out: &mut Vec<u8>, value: &Value) -> Result<(), AllocError>
     ensures { OnOk result (out.new.items ≡ out.old.items ++ written_value (view value.now)) }
 {
-    open(out, b"value")?;
+    out.extend_from_slice(b"<value>")?;
     put_form(out, value)?;
-    close(out, b"value")
+    out.extend_from_slice(b"</value>")?;
+    Ok(())
 }
 
 #[cycle(put)]
@@ -190,10 +221,12 @@ fn put_member(out: &mut Vec<u8>, name: &Text, value: &Value) -> Result<(), Alloc
     ensures { OnOk result (out.new.items ≡ out.old.items
         ++ element (codes "member") (element (codes "name") (escaped name.now) ++ written_value (view value.now))) }
 {
-    open(out, b"member")?;
-    put_content(out, b"name", name)?;
-    put_value(out, value)?;
-    close(out, b"member")
+    out.extend_from_slice(b"<member><name>")?;
+    put_text(out, name.as_str())?;
+    out.extend_from_slice(b"</name><value>")?;
+    put_form(out, value)?;
+    out.extend_from_slice(b"</value></member>")?;
+    Ok(())
 }
 
 #[cycle(put)]

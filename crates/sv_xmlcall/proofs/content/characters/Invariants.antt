@@ -5,12 +5,12 @@ use Rattle.sv_xmlcall.specs.declared.letters.Awaits.TheVariants.{Character}
 use Rattle.sv_xmlcall.proofs.Texts.{Reaches}
 use Rattle.sv_xmlcall.proofs.content.characters.Given as goal
 
-abbrev pub invariant-loop-next : goal.invariant-loop-next
-invariant-loop-next l = record {
+abbrev pub invariant-loop-value : goal.invariant-loop-value
+invariant-loop-value l = record {
   read : Reaches l.kept l.bytes l.value.items l.awaits l.rest;
   letters : (tail : List ℕ) → are_letters OfXml l.awaits tail ≡ true → are_letters OfXml Character (l.value.items ++ tail) ≡ true;
   shorter : length l.rest ≤ length l.bytes;
 }
 
-abbrev pub decreases-loop-next : goal.decreases-loop-next
-decreases-loop-next l = length l.rest
+abbrev pub decreases-loop-value : goal.decreases-loop-value
+decreases-loop-value l = length l.rest
