@@ -82,7 +82,7 @@ params_back limits method bs spelled e =
 not_true : {P : Type 0} → false ≡ true → P
 not_true e = cc e
 
-named_back : (letters : List Letter) → may_end InMethod (text_of letters) ≡ true → letters ≢ []
+pub named_back : (letters : List Letter) → may_end InMethod (text_of letters) ≡ true → letters ≢ []
 named_back letters m e = let f : false ≡ true = sym (ap (λ (x : List Letter). may_end InMethod (text_of x)) e) ∙ m in not_true f
 
 call_parts : (h b r1 bn n r2 t s r3 p ending after : List ℕ) → r1 ≡ bn ++ n ++ r2 → r2 ≡ t ++ s ++ r3 → r3 ≡ p ++ ending ++ after

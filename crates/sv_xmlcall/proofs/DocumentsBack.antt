@@ -46,18 +46,18 @@ sane_lead b = elim (cases_Bool (ltb b 128)) [
   ]
 ]
 
-sane_after : (awaits : Awaits) (b : ℕ) → IsSane awaits → IsSane (after Any awaits b)
+pub sane_after : (awaits : Awaits) (b : ℕ) → IsSane awaits → IsSane (after Any awaits b)
 sane_after Character b s = sane_lead b
 sane_after Private b s = omega arith
 sane_after (Continuation low high more) b s = sane_more more
 
-mark_between : (awaits : Awaits) → IsSane awaits → allows Any awaits 63 ≡ true → awaits ≡ Character
+pub mark_between : (awaits : Awaits) → IsSane awaits → allows Any awaits 63 ≡ true → awaits ≡ Character
 mark_between Character s a = refl
 mark_between Private s a = cc a
 mark_between (Continuation low high more) s a =
     let p = and_parts (leb low 63) (leb 63 high) a in let l = leb-true low 63 p.0 in absurd (omega arith)
 
-no_end_more : (x : ℕ) (bs : List ℕ) → NoEnd bs → ((back : List ℕ) → x ≡ 63 → bs ≡ 62 ∷ back → ⊥) → NoEnd (x ∷ bs)
+pub no_end_more : (x : ℕ) (bs : List ℕ) → NoEnd bs → ((back : List ℕ) → x ≡ 63 → bs ≡ 62 ∷ back → ⊥) → NoEnd (x ∷ bs)
 no_end_more x bs n f = λ front back e. go x bs n f front back e
   where
     head_is : (x y : ℕ) (xs ys : List ℕ) → x ∷ xs ≡ y ∷ ys → x ≡ y
@@ -79,7 +79,7 @@ pub record PrologBack (limits : Limits) (document : Document) (question : Bool) 
   pub parts : marked question bs ≡ declared ++ 63 ∷ 62 ∷ rest
   pub goes : run limits (at (At (AtDeclared document)) [] count) rest ≡ Read spelled
 
-empty_free : NoEnd []
+pub empty_free : NoEnd []
 empty_free = λ front back e. nothing_is front back e
   where
     nothing_is : (front back : List ℕ) → [] ≡ front ++ 63 ∷ 62 ∷ back → ⊥
@@ -90,7 +90,7 @@ abbrev starts_marked_so : List ℕ → Bool
 starts_marked_so [] = false
 starts_marked_so (b ∷ bs) = eqb b 63
 
-starts_marked : (bs declared rest : List ℕ) → 63 ∷ bs ≡ declared ++ 63 ∷ 62 ∷ rest → (back : List ℕ) → declared ≡ 62 ∷ back → ⊥
+pub starts_marked : (bs declared rest : List ℕ) → 63 ∷ bs ≡ declared ++ 63 ∷ 62 ∷ rest → (back : List ℕ) → declared ≡ 62 ∷ back → ⊥
 starts_marked bs declared rest e back d =
     let f : 63 ∷ bs ≡ 62 ∷ (back ++ 63 ∷ 62 ∷ rest) = e ∙ ap (λ (x : List ℕ). x ++ 63 ∷ 62 ∷ rest) d in other_head bs (back ++ 63 ∷ 62 ∷ rest) f
   where

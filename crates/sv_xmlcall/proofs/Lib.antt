@@ -24,3 +24,11 @@ mod NestedBack
 mod DocumentsBack
 mod CallsBack
 mod RefusedLaws
+mod Fronts
+mod TextFronts
+mod NumberFronts
+mod FormFronts
+mod ValueFronts
+mod NestedFronts
+mod CallFronts
+mod CallGood

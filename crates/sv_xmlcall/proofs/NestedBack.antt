@@ -159,7 +159,7 @@ abbrev AgainMore : Limits → List Frame → List ℕ → Spelled → Type 0
 AgainMore limits frames bs spelled = (before : Trees) (count : ℕ) (rest : List ℕ) → length rest < length bs
     → run limits (at (At (AtItems before)) frames count) rest ≡ Read spelled → ItemsBack limits before frames count rest spelled
 
-item_parts : (gap s rest v r1 i e r : List ℕ) → s ++ rest ≡ v ++ r1 → r1 ≡ i ++ e ++ r → gap ++ s ++ rest ≡ gap ++ v ++ i ++ e ++ r
+pub item_parts : (gap s rest v r1 i e r : List ℕ) → s ++ rest ≡ v ++ r1 → r1 ≡ i ++ e ++ r → gap ++ s ++ rest ≡ gap ++ v ++ i ++ e ++ r
 item_parts gap s rest v r1 i e r p q =
     append_assoc gap s rest ∙ ap (λ (x : List ℕ). gap ++ x) (p ∙ ap (λ (x : List ℕ). v ++ x) q) ∙ regroup gap v i e r
   where
@@ -267,7 +267,7 @@ name_back limits before frames count bs spelled e =
       goes = t.goes;
     }
 
-member_parts : (gap m r1 bn n t s r3 g2 tail v r4 e r5 ms ending r6 : List ℕ)
+pub member_parts : (gap m r1 bn n t s r3 g2 tail v r4 e r5 ms ending r6 : List ℕ)
     → r1 ≡ bn ++ n ++ t ++ s ++ r3 → r3 ≡ g2 ++ tail → tail ≡ v ++ r4 → r4 ≡ e ++ r5 → r5 ≡ ms ++ ending ++ r6
     → gap ++ m ++ r1 ≡ gap ++ m ++ bn ++ n ++ t ++ s ++ g2 ++ v ++ e ++ ms ++ ending ++ r6
 member_parts gap m r1 bn n t s r3 g2 tail v r4 e r5 ms ending r6 a b c d f =
@@ -334,7 +334,7 @@ member_of limits before frames count bs spelled gap t rest w p full more (inr (i
     record { members = NoMember; right = tt; ending = e.ending; ends = e.right; rest = e.rest; parts = e.parts; goes = e.goes }
 member_of limits before frames count bs spelled gap t rest w p full more (inr (inr o)) c = absurd o
 
-opened_shorter : (gap rest bs : List ℕ) (t : Tag) (behind : List ℕ) → bs ≡ gap ++ rest → rest ≡ spelling t ++ behind → length behind < length bs
+pub opened_shorter : (gap rest bs : List ℕ) (t : Tag) (behind : List ℕ) → bs ≡ gap ++ rest → rest ≡ spelling t ++ behind → length behind < length bs
 opened_shorter gap rest bs t behind p q = let a = behind_shorter gap rest bs p in let b = tag_shorter t behind rest q in omega arith
 
 mutual

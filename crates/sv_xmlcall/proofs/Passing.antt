@@ -120,7 +120,7 @@ bytes_pass limits content kept awaits frames count (b ∷ bs) a f =
     })
     (ap (λ (k : List ℕ). in_text content k frames count) (append_assoc kept (b ∷ []) bs))
 
-free_high : (b : ℕ) → 128 ≤ b → is_free b ≡ true
+pub free_high : (b : ℕ) → 128 ≤ b → is_free b ≡ true
 free_high b h = rw (ne_eqb b 60 (λ e. omega arith), ne_eqb b 38 (λ e. omega arith)) refl
 
 free_char : (c : ℕ) → c ≢ 38 → c ≢ 60 → list_all is_free (encode c) ≡ true

@@ -10,19 +10,19 @@ use Rattle.sv_xmlcall.specs.declared.call.CallFault.{CallFault}
 use Rattle.sv_xmlcall.specs.declared.call.CallFault.TheVariants as fault
 use Rattle.sv_xmlcall.proofs.SpelledLaws.{Ways, ways, document_of, spelled_verdict, ample_limits}
 
-not_deep : {P : Type 0} (left : ℕ) → TooDeep ≡ NotRead left → P
+pub not_deep : {P : Type 0} (left : ℕ) → TooDeep ≡ NotRead left → P
 not_deep left e = cc e
 
-not_many : {P : Type 0} (left : ℕ) → TooMany ≡ NotRead left → P
+pub not_many : {P : Type 0} (left : ℕ) → TooMany ≡ NotRead left → P
 not_many left e = cc e
 
-not_read : {P : Type 0} (spelled : Spelled) (left : ℕ) → Read spelled ≡ NotRead left → P
+pub not_read : {P : Type 0} (spelled : Spelled) (left : ℕ) → Read spelled ≡ NotRead left → P
 not_read spelled left e = cc e
 
 left_is : (m left : ℕ) → NotRead m ≡ NotRead left → m ≡ left
 left_is m left e = cc e
 
-unless_left : (limits : Limits) (count m left : ℕ) → unless_many limits count (NotRead m) ≡ NotRead left → (unless_many limits count (NotRead m) ≡ NotRead m) × (m ≡ left)
+pub unless_left : (limits : Limits) (count m left : ℕ) → unless_many limits count (NotRead m) ≡ NotRead left → (unless_many limits count (NotRead m) ≡ NotRead m) × (m ≡ left)
 unless_left limits count m left e = elim (cases_Bool (ltb limits.values count)) [
   | inl f ↦ let g : TooMany ≡ NotRead left = rw f at e in not_many left g
   | inr f ↦ (rw f refl, left_is m left (rw f at e))
@@ -35,7 +35,7 @@ finish_left (At place) left e = sym (left_is 0 left e)
 finish_left Stuck left e = sym (left_is 0 left e)
 finish_left control left e = sym (left_is 0 left e)
 
-end_left : (limits : Limits) (control : Control) (count left : ℕ) → unless_many limits count (finished control) ≡ NotRead left → left ≡ 0
+pub end_left : (limits : Limits) (control : Control) (count left : ℕ) → unless_many limits count (finished control) ≡ NotRead left → left ≡ 0
 end_left limits control count left e = elim (cases_Bool (ltb limits.values count)) [
   | inl f ↦ let g : TooMany ≡ NotRead left = rw f at e in not_many left g
   | inr f ↦ finish_left control left (rw f at e)

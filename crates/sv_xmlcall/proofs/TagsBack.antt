@@ -84,7 +84,7 @@ tagged_is x y e = cc e
 not_tag : {P : Type 0} (n : ℕ) (r : Tag × List ℕ) → NoTag n ≡ Ok r → P
 not_tag n r e = cc e
 
-abbrev Found : List Tag → List ℕ → Tag × List ℕ → Type 0
+abbrev pub Found : List Tag → List ℕ → Tag × List ℕ → Type 0
 Found tags bs r = IsOneOf r.0 tags × (bs ≡ spelling r.0 ++ r.1)
 
 later_back : (t : Tag) (tags : List Tag) (least : ℕ) (bs : List ℕ) (w : Result (List ℕ) ℕ) (r : Tag × List ℕ)
@@ -94,11 +94,11 @@ later_back t tags least bs (Ok rest) r again w e =
     subst (λ (x : Tag × List ℕ). Found (t ∷ tags) bs x) (tagged_is (t, rest) r e) (inl refl, word_back (spelling t) bs rest w)
 later_back t tags least bs (Err left) r again w e = let f = again (min least left) e in (inr f.0, f.1)
 
-tag_back : (tags : List Tag) (least : ℕ) (bs : List ℕ) (r : Tag × List ℕ) → tag_from tags least bs ≡ Ok r → Found tags bs r
+pub tag_back : (tags : List Tag) (least : ℕ) (bs : List ℕ) (r : Tag × List ℕ) → tag_from tags least bs ≡ Ok r → Found tags bs r
 tag_back [] least bs r e = not_tag least r e
 tag_back (t ∷ tags) least bs r e = later_back t tags least bs (word_at (spelling t) bs) r (λ l f. tag_back tags l bs r f) refl e
 
-run_tag : (limits : Limits) (place : Place) (frames : List Frame) (count : ℕ) (bs : List ℕ)
+pub run_tag : (limits : Limits) (place : Place) (frames : List Frame) (count : ℕ) (bs : List ℕ)
     → run limits (at (Within place (words_of (tags_of place))) frames count) bs ≡ follow limits place frames count (tag_at (tags_of place) bs)
 run_tag limits place frames count bs =
     let f = fit place in
@@ -118,7 +118,7 @@ pub entered : (limits : Limits) (place : Place) (frames : List Frame) (count : �
 entered limits place frames count bs spelled e =
     follow_back limits place frames count bs spelled (tag_at (tags_of place) bs) refl (sym (run_tag limits place frames count bs) ∙ e)
 
-open_end : (place : Place) → IsOpen place → finished (At place) ≡ NotRead 0
+pub open_end : (place : Place) → IsOpen place → finished (At place) ≡ NotRead 0
 open_end (AtDone spelled) o = absurd o
 open_end (AtStart document) o = refl
 open_end place o = refl

@@ -22,11 +22,11 @@ use Rattle.sv_xmlcall.proofs.Passing.{in_text, is_free}
 use Rattle.sv_xmlcall.proofs.TagsBack.{Continues, not_read, IsOneOf, entered, Alone, shut_behind}
 
 -- a digit of the reader's is one of std's, with the same value
-record DigitBack (hex : Bool) (b : ℕ) : Type 0 where
+pub record DigitBack (hex : Bool) (b : ℕ) : Type 0 where
   pub is : digit_value b < base_of hex
   pub value : value_of_digit b ≡ digit_value b
 
-digit_back : (hex : Bool) (b : ℕ) → is_digit hex b ≡ true → DigitBack hex b
+pub digit_back : (hex : Bool) (b : ℕ) → is_digit hex b ≡ true → DigitBack hex b
 digit_back true b h = record { is = grind (arith, nat_tests); value = grind (arith, nat_tests) }
 digit_back false b h = record { is = grind (arith, nat_tests); value = grind (arith, nat_tests) }
 
@@ -162,7 +162,7 @@ record PlainBack (limits : Limits) (content : Content) (kept : List ℕ) (awaits
   pub stop : (b ≡ 60) ⊎ (b ≡ 38)
   pub goes : run limits (in_text content (kept ++ plain) frames count) (b ∷ rest) ≡ Read spelled
 
-between_is : (awaits : Awaits) → is_between awaits ≡ true → awaits ≡ Character
+pub between_is : (awaits : Awaits) → is_between awaits ≡ true → awaits ≡ Character
 between_is Character e = refl
 between_is Private e = cc e
 between_is (Continuation low high more) e = cc e
@@ -274,7 +274,7 @@ pub record TextBack (limits : Limits) (content : Content) (kept : List ℕ) (fra
   pub may : may_end content (kept ++ text_of letters) ≡ true
   pub goes : run limits (leave limits (AtTextEnd content (kept ++ text_of letters)) frames count) rest ≡ Read spelled
 
-alone_text : (limits : Limits) (content : Content) (bytes : List ℕ) → Alone limits (AtTextEnd content bytes) (end_of content)
+pub alone_text : (limits : Limits) (content : Content) (bytes : List ℕ) → Alone limits (AtTextEnd content bytes) (end_of content)
 alone_text limits InMethod bytes = record { only = refl; goes_on = tt; shut = λ frames count. refl }
 alone_text limits (InName before) bytes = record { only = refl; goes_on = tt; shut = λ frames count. refl }
 alone_text limits InString bytes = record { only = refl; goes_on = tt; shut = λ frames count. refl }
@@ -354,11 +354,11 @@ text_back (suc fuel) limits content kept frames count bs spelled l e =
         joins : (a b c d e : List ℕ) → a ++ (b ++ (c ++ d ++ e)) ≡ a ++ (b ++ c) ++ d ++ e
         joins a b c d e = simp append_assoc refl
 
-record DecimalBack (b : ℕ) : Type 0 where
+pub record DecimalBack (b : ℕ) : Type 0 where
   pub is : digit_value b < 10
   pub value : b - 48 ≡ digit_value b
 
-decimal_back : (b : ℕ) → is_ascii_digit b ≡ true → DecimalBack b
+pub decimal_back : (b : ℕ) → is_ascii_digit b ≡ true → DecimalBack b
 decimal_back b h = record { is = grind (arith, nat_tests); value = grind (arith, nat_tests) }
 
 -- the digits of an integer were read

@@ -58,7 +58,7 @@ FormGoes limits white frames count t rest spelled = Continues limits (enter limi
 four_parts : (s m d e r : List ℕ) → s ++ (m ++ d ++ (e ++ r)) ≡ s ++ m ++ d ++ e ++ r
 four_parts s m d e r = simp append_assoc refl
 
-alone_integer : (limits : Limits) (short : Bool) (n : ℤ) → Alone limits (AtIntegerEnd short n) (integer_end short)
+pub alone_integer : (limits : Limits) (short : Bool) (n : ℤ) → Alone limits (AtIntegerEnd short n) (integer_end short)
 alone_integer limits true n = record { only = refl; goes_on = tt; shut = λ frames count. refl }
 alone_integer limits false n = record { only = refl; goes_on = tt; shut = λ frames count. refl }
 
@@ -249,7 +249,7 @@ white_letter : (b : ℕ) → is_white b ≡ true → IsLetter (Plain b)
 white_letter b w = (grind (arith, nat_tests), λ e. no_mark (sym (ap is_white e) ∙ w), λ e. no_mark (sym (ap is_white e) ∙ w))
 
 -- white space as letters
-white_letters : (gap : List ℕ) → IsWhite gap → PlainLetters gap
+pub white_letters : (gap : List ℕ) → IsWhite gap → PlainLetters gap
 white_letters [] w = record { letters = []; right = tt; printed = refl; means = refl }
 white_letters (b ∷ gap) w =
     let p = and_parts (is_white b) (list_all is_white gap) w in

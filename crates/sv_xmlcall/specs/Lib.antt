@@ -1,5 +1,6 @@
 pub mod Answers
 pub mod Atoms
+pub mod Beginnings
 pub mod Characters
 pub mod Documents
 pub mod Given

@@ -4,6 +4,7 @@ ghost use Rattle.sv_xmlcall.specs.Trees.{CallTree, Reply, view, trees_view, call
 ghost use Rattle.sv_xmlcall.specs.SpelledTexts.{SpellsCall, SpellsReply};
 ghost use Rattle.sv_xmlcall.specs.Given.{GivesCall, GivesReply};
 ghost use Rattle.sv_xmlcall.specs.Refused.{EndsCall, EndsReply};
+ghost use Rattle.sv_xmlcall.specs.Beginnings.{BeginsUpTo};
 ghost use Rattle.sv_xmlcall.specs.Spelled.{ACall, AReply, fault_of, two_of, named_fault};
 ghost use Rattle.std.specs.Str.{bytes_eq};
 ghost use Rattle.sv_xmlcall.specs.Outcome.{Gives};
@@ -27,6 +28,7 @@ pub fn read_call(alloc: Global, bytes: &[u8]) -> Result<Call, CallFault>
     ensures reads { ReadsCall (run the_limits (start OfCall) bytes.now) (length bytes.now) result }
     ensures found { IfOk result (λ call. SpellsCall bytes.now (call_view call)) }
     ensures only { (spelled : CallTree) → SpellsCall bytes.now spelled → GivesCall spelled result }
+    ensures before { IfErr result (BeginsUpTo bytes.now) }
     ensures beyond { IfErr result (EndsCall bytes.now) }
 {
     let mut opened = 0;

@@ -4,6 +4,7 @@ use Rattle.sv_xmlcall.proofs.DocumentLaws.{fault_is}
 use Rattle.sv_xmlcall.proofs.SpelledLaws.{gives_call}
 use Rattle.sv_xmlcall.specs.Trees.{call_view}
 use Rattle.sv_xmlcall.specs.Machine.{the_limits}
+use Rattle.sv_xmlcall.proofs.CallGood.{begins_call}
 use Rattle.sv_xmlcall.proofs.RefusedLaws.{ends_call}
 use Rattle.sv_xmlcall.proofs.CallsBack.{call_back}
 use Rattle.sv_xmlcall.proofs.read.read_call.Goals as goal
@@ -22,3 +23,6 @@ returns-in-Err-clause-only c = gives_call c.args.bytes.now (Err c.fault.result) 
 
 pub returns-in-Err-clause-beyond : goal.returns-in-Err-clause-beyond
 returns-in-Err-clause-beyond c = ends_call c.args.bytes.now c.fault.result (grind (arith, fault_is))
+
+pub returns-in-Err-clause-before : goal.returns-in-Err-clause-before
+returns-in-Err-clause-before c = begins_call c.args.bytes.now c.fault.result (grind (arith, fault_is))
