@@ -1,6 +1,9 @@
 pub mod Boundaries
 pub mod Drafts
+pub mod FewEnough
 pub mod Folds
+pub mod Lookups
 pub mod Parts
 pub mod Places
+pub mod Sorting
 pub mod Words

@@ -4,13 +4,16 @@ pub mod Cuts
 pub mod Environments
 pub mod FaultTexts
 pub mod Homes
+pub mod HomesByName
 pub mod Includes
 pub mod Judged
 pub mod KeyNames
 pub mod KeyTable
 pub mod KnownNames
+pub mod Limits
 pub mod Processes
 pub mod ProgramNames
 pub mod Rows
 pub mod ServerSections
+pub mod Titles
 pub mod Values

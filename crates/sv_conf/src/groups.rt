@@ -7,6 +7,7 @@ ghost use Rattle.std.specs.Str.{bytes_eq};
 ghost use Rattle.sv_base.specs.Order.{start_order};
 ghost use Rattle.sv_base.specs.declared.spec.GroupSpec.{GroupSpec};
 ghost use Rattle.sv_base.specs.declared.spec.Spec.{Spec};
+ghost use Rattle.sv_conf.specs.Titles.{has_title, AddsTitle, HasTitles};
 ghost use Rattle.sv_conf.specs.Configuration.{is_program, is_missing, missing_in, members_of, group_at, groups_by, groups_from, all_groups, twice_at, first_twice, twice_in, each_once, placed, sorted_from, sorted_members, with_sorted, sorted_groups};
 
 use crate::fault::ConfFault;
@@ -17,6 +18,8 @@ use crate::table::priority;
 use crate::titles::titled;
 use crate::{names, rows};
 use std::alloc::{AllocError, Global};
+use std::collections::HashSet;
+use std::marker::Model;
 use sv_base::config::Host;
 use sv_base::items::Items;
 use sv_base::ranked::{Ranked, start_order};
@@ -25,26 +28,71 @@ use sv_base::text::Text;
 use sv_expand::names::Names;
 use sv_ini::section::Section;
 
-fn is_program(sections: &[Section], program: &str) -> bool
-    ensures { result ≡ is_program sections.now program.now }
-{
-    sections
-        .iter()
-        .any(|section| is_titled(section.name.as_str(), program))
+/// The sections of all texts, with their titles.
+#[derive(Drop)]
+pub struct Titled<'a> {
+    sections: &'a [Section],
+    titles: HashSet<String>,
 }
 
-fn is_titled(title: &str, program: &str) -> bool
-    ensures { result ≡ bytes_eq title.now (codes "program:" ++ program.now) }
-{
-    match titled("program", title) {
-        Some(name) => name == program,
-        None => false,
+impl<'a> Model for Titled<'a> {
+    ghost use Rattle.std.specs.Prelude.{List};
+    ghost use Rattle.sv_ini.specs.declared.section.Section.{Section};
+    ghost use Rattle.sv_conf.specs.Titles.{HasTitles};
+
+    ghost Value = { List Section };
+
+    ghost view = { λ t. t.sections.now };
+
+    ghost invariant = { λ t. HasTitles t.titles t.sections.now };
+}
+
+impl<'a> Titled<'a> {
+    fn new(alloc: Global, sections: &'a [Section]) -> Result<Titled<'a>, AllocError>
+        ensures { IfOk result (λ titled. titled ≡ sections.now) }
+    {
+        let titles = titles_of(alloc, sections)?;
+        Ok(Titled { sections, titles })
     }
+
+    /// Whether a section has this title.
+    fn has(&self, title: &str) -> bool
+        ensures { result ≡ has_title title.now self.now }
+    {
+        self.titles.contains(title)
+    }
+}
+
+fn titles_of(alloc: Global, sections: &[Section]) -> Result<HashSet<String>, AllocError>
+    ensures { IfOk result (λ titles. HasTitles titles sections.now) }
+{
+    let mut titles = HashSet::new(alloc);
+    let mut left = sections;
+    while let [section, rest @ ..] = left {
+        add_title(alloc, &mut titles, section.name.as_str())?;
+        left = rest;
+    }
+    Ok(titles)
+}
+
+fn add_title(alloc: Global, titles: &mut HashSet<String>, title: &str) -> Result<(), AllocError>
+    ensures { OnOk result (AddsTitle titles.old titles.new title.now) }
+{
+    let title = String::from_str(alloc, title)?;
+    titles.insert(title)?;
+    Ok(())
+}
+
+fn is_program(alloc: Global, sections: &Titled, program: &str) -> Result<bool, AllocError>
+    ensures { IfOk result (λ found. found ≡ is_program sections.now program.now) }
+{
+    let title = format!(in alloc; "program:{program}")?;
+    Ok(sections.has(title.as_str()))
 }
 
 fn missing_in(
     alloc: Global,
-    sections: &[Section],
+    sections: &Titled,
     group: &str,
     programs: &[Text],
 ) -> Result<Decided<bool>, AllocError>
@@ -52,7 +100,7 @@ fn missing_in(
 {
     let mut left = programs;
     while let [program, rest @ ..] = left {
-        if !is_program(sections, program.as_str()) {
+        if !is_program(alloc, sections, program.as_str())? {
             return Ok(Err(ConfFault::NoSuchProgram(
                 Text::from_str(alloc, group)?,
                 program.clone()?,
@@ -85,7 +133,7 @@ fn add_members(members: &mut Items<Spec>, more: Items<Spec>) -> Result<(), Alloc
 #[tactic(auto, unfolding(crate::specs::Configuration::group_at))]
 fn group_at(
     alloc: Global,
-    sections: &[Section],
+    sections: &Titled,
     names: &Names,
     title: &str,
     group: &str,
@@ -126,7 +174,7 @@ fn group_at(
 #[tactic(auto, unfolding(crate::specs::Configuration::groups_by))]
 fn groups_by(
     alloc: Global,
-    sections: &[Section],
+    sections: &Titled,
     names: &Names,
     section: &Section,
     parts: Items<GroupSpec>,
@@ -159,6 +207,7 @@ pub fn all_groups(
     ensures { IfOk result (λ groups. groups ≡ all_groups host.now sections.now parts) }
 {
     let names = names::host_names(alloc, host)?;
+    let titled = Titled::new(alloc, sections)?;
     let mut groups = Items::new(alloc);
     let mut there = parts.into_vec().into_iter();
     let mut left = sections;
@@ -166,7 +215,7 @@ pub fn all_groups(
         let Some(part) = there.next() else {
             return Ok(Ok(groups));
         };
-        match groups_by(alloc, sections, &names, section, part)? {
+        match groups_by(alloc, &titled, &names, section, part)? {
             Ok(made) => add_groups(&mut groups, made)?,
             Err(fault) => return Ok(Err(fault)),
         }

@@ -1,5 +1,6 @@
 ghost use Rattle.std.specs.Prelude.{◌≡◌, ◌++◌, ◌+◌, ◌≤◌, IfOk, OnOk, length};
 ghost use Rattle.sv_conf.specs.Homes.{named_by, named_in, all_named, homes_in, homes_from, own_home, or_own, homes_of, with_part, with_parts};
+ghost use Rattle.sv_conf.specs.HomesByName.{AddsHome, AddsHomes, HasHomes};
 ghost use Rattle.std.specs.Option.{option_map};
 ghost use Rattle.std.specs.Prelude.{[], ◌∷◌};
 ghost use Rattle.sv_conf.specs.KeyTable.{or_default};
@@ -9,6 +10,8 @@ use crate::key::Key;
 use crate::titles::titled;
 use crate::{names, rows};
 use std::alloc::{AllocError, Global};
+use std::collections::HashMap;
+use std::marker::Model;
 use sv_base::config::Host;
 use sv_base::items::Items;
 use sv_base::spec::GroupSpec;
@@ -28,6 +31,40 @@ pub struct Named {
 pub struct Home {
     pub place: usize,
     pub group: Text,
+}
+
+/// The groups of each program that a group names, by the name of the program.
+pub type HomesByName = HashMap<String, Vec<Home>>;
+
+/// What each section names as a group, with the groups of each program.
+#[derive(Drop)]
+pub struct NamedGroups {
+    named: Items<Named>,
+    homes: HomesByName,
+}
+
+impl Model for NamedGroups {
+    ghost use Rattle.std.specs.Prelude.{List};
+    ghost use Rattle.sv_conf.specs.declared.homes.Named.{Named};
+    ghost use Rattle.sv_conf.specs.HomesByName.{HasHomes};
+
+    ghost Value = { List Named };
+
+    ghost view = { λ g. g.named };
+
+    ghost invariant = { λ g. HasHomes g.homes g.named };
+}
+
+impl NamedGroups {
+    /// The groups that name this program.
+    fn homes(&self, program: &str) -> &[Home]
+        ensures { result.now ≡ homes_from 0 program.now self.now }
+    {
+        match self.homes.get(program) {
+            Some(homes) => homes.as_slice(),
+            None => &[],
+        }
+    }
 }
 
 /// The processes of a section in a group, and the place of the section that makes the group.
@@ -74,8 +111,20 @@ fn named_in(alloc: Global, names: &Names, section: &Section) -> Result<Named, Al
 }
 
 /// What each of these sections names as a group.
-#[tactic(auto, unfolding(crate::specs::Homes::all_named))]
 pub fn all_named(
+    alloc: Global,
+    host: &Host,
+    sections: &[Section],
+) -> Result<NamedGroups, AllocError>
+    ensures { IfOk result (λ named. named ≡ all_named host.now sections.now) }
+{
+    let named = named_in_each(alloc, host, sections)?;
+    let homes = homes_by_name(alloc, named.as_slice())?;
+    Ok(NamedGroups { named, homes })
+}
+
+#[tactic(auto, unfolding(crate::specs::Homes::all_named))]
+fn named_in_each(
     alloc: Global,
     host: &Host,
     sections: &[Section],
@@ -92,25 +141,51 @@ pub fn all_named(
     Ok(named)
 }
 
-fn homes_in(
-    alloc: Global,
-    homes: &mut Items<Home>,
-    place: usize,
-    program: &str,
-    named: &Named,
-) -> Result<(), AllocError>
-    ensures { OnOk result (homes.new ≡ homes.old ++ homes_in place program.now named.now.group named.now.programs) }
+fn homes_by_name(alloc: Global, named: &[Named]) -> Result<HomesByName, AllocError>
+    ensures { IfOk result (λ homes. HasHomes homes named.now) }
 {
-    let mut left = named.programs.as_slice();
-    while let [name, rest @ ..] = left {
-        if name.as_str() == program {
-            homes.push(Home {
-                place,
-                group: named.group.clone()?,
-            })?;
-        }
+    let mut homes = HashMap::new(alloc);
+    let mut place = 0;
+    let mut left = named;
+    while let [one, rest @ ..] = left {
+        add_homes(alloc, &mut homes, place, one)?;
+        place += 1;
         left = rest;
     }
+    Ok(homes)
+}
+
+/// Adds a group to those of each program that it names.
+fn add_homes(
+    alloc: Global,
+    homes: &mut HomesByName,
+    place: usize,
+    named: &Named,
+) -> Result<(), AllocError>
+    ensures { OnOk result (AddsHomes homes.old homes.new place named.now.group named.now.programs) }
+{
+    let mut left = named.programs.as_slice();
+    while let [program, rest @ ..] = left {
+        let home = Home {
+            place,
+            group: named.group.clone()?,
+        };
+        add_home(alloc, homes, program.as_str(), home)?;
+        left = rest;
+    }
+    Ok(())
+}
+
+fn add_home(
+    alloc: Global,
+    homes: &mut HomesByName,
+    program: &str,
+    home: Home,
+) -> Result<(), AllocError>
+    ensures { OnOk result (AddsHome homes.old homes.new program.now home) }
+{
+    let program = String::from_str(alloc, program)?;
+    homes.entry(program)?.or_default().push(home)?;
     Ok(())
 }
 
@@ -120,29 +195,30 @@ pub fn homes_of(
     alloc: Global,
     place: usize,
     program: &str,
-    named: &[Named],
+    named: &NamedGroups,
 ) -> Result<Items<Home>, AllocError>
     ensures { IfOk result (λ homes. homes ≡ homes_of place program.now named.now) }
 {
-    let homes = homes_from(alloc, program, named)?;
-    if homes.as_slice().is_empty() {
+    let homes = named.homes(program);
+    if homes.is_empty() {
         return own_home(alloc, place, program);
     }
-    Ok(homes)
+    copied(alloc, homes)
 }
 
-fn homes_from(alloc: Global, program: &str, named: &[Named]) -> Result<Items<Home>, AllocError>
-    ensures { IfOk result (λ homes. homes ≡ homes_from 0 program.now named.now) }
+fn copied(alloc: Global, homes: &[Home]) -> Result<Items<Home>, AllocError>
+    ensures { IfOk result (λ copy. copy ≡ homes.now) }
 {
-    let mut homes = Items::new(alloc);
-    let mut place = 0;
-    let mut left = named;
-    while let [one, rest @ ..] = left {
-        homes_in(alloc, &mut homes, place, program, one)?;
-        place += 1;
+    let mut copy = Items::new(alloc);
+    let mut left = homes;
+    while let [home, rest @ ..] = left {
+        copy.push(Home {
+            place: home.place,
+            group: home.group.clone()?,
+        })?;
         left = rest;
     }
-    Ok(homes)
+    Ok(copy)
 }
 
 /// The group that a section makes for itself alone.

@@ -15,6 +15,7 @@ mod homes;
 pub mod includes;
 mod judged;
 pub mod key;
+pub mod laws;
 mod names;
 mod processes;
 mod programs;

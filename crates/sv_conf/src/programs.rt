@@ -4,7 +4,7 @@ ghost use Rattle.sv_conf.specs.Configuration.{with_place, parts_from, need_numbe
 ghost use Rattle.sv_conf.specs.ServerSections.{or_missing};
 
 use crate::fault::ConfFault;
-use crate::homes::{Home, Named, Part, all_named, homes_of, own_home, put_parts};
+use crate::homes::{Home, NamedGroups, Part, all_named, homes_of, own_home, put_parts};
 use crate::judged::Judged;
 use crate::key::Key;
 use crate::processes::{Common, needs_number, part_of, with_next};
@@ -146,7 +146,7 @@ fn parts_at(
     alloc: Global,
     host: &Host,
     common: &Common,
-    named: &[Named],
+    named: &NamedGroups,
     place: usize,
     section: &Section,
 ) -> Result<Decided<Items<Part>>, AllocError>
@@ -182,7 +182,7 @@ pub fn all_parts(
     let mut place = 0;
     let mut left = sections;
     while let [section, rest @ ..] = left {
-        match parts_at(alloc, host, common, named.as_slice(), place, section)? {
+        match parts_at(alloc, host, common, &named, place, section)? {
             Ok(more) => put_parts(&mut parts, more)?,
             Err(fault) => return Ok(Err(fault)),
         }

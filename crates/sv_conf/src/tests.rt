@@ -124,7 +124,9 @@ const VALUES: &str = r#"@ => words: c|
 [supervisord]~identifier=%(host_node_name)s => identifier: box
  => servers: 
 [unix_http_server]~file=/s => servers: /s - none|
+[unix_http_server]~file=%(here)s/s~username=u~password=p => servers: /etc/s u p|
 [inet_http_server]~port=:9001 => servers: :9001 - none|
+[inet_http_server]~port=*:9001 => servers: :9001 - none|
 [inet_http_server]~port=a:b:65535~username=u~password=p => servers: a:b:65535 u p|
 [inet_http_server]~port=1~password={SHA}A9993e364706816aba3e25717850c26c9cd0d89d~[unix_http_server]~file=/s => servers: :1 - sha 169 157|/s - none|
 [unix_http_server]~file=/s~password= => servers: /s - none|
@@ -145,6 +147,7 @@ const VALUES: &str = r#"@ => words: c|
 [program:a]~command=a~user=joe => user: joe
 @$[program:q]~command=q => order: p:p q:q
 @$[program:p]~startsecs=9$[program:p]~startsecs=8 => startsecs: 8
+[include]~files=~@ => order: p:p
 [include]~files=x~@$[include]~files=%(no)s~[program:q]~command=q => order: p:p q:q
 @$[include]~ => order: p:p
 @numprocs=1024~process_name=%(process_num)04d => name: 0000"#;
@@ -263,6 +266,11 @@ k=v => 1 Ini 3 OutsideSection 1
 [supervisord]~environment=x~childlogdir= => 3 BadValue supervisord environment
 [supervisord]~childlogdir= => 3 BadValue supervisord childlogdir
 [supervisorctl]~serverurl=%(no)s~[supervisord]~logfile= => 4 Expand supervisorctl serverurl
+[supervisorctl]~serverurl=%(no)s~username=%(no)s => 4 Expand supervisorctl serverurl
+[supervisorctl]~username=%(no)s~password=%(no)s => 4 Expand supervisorctl username
+[supervisorctl]~password=%(no)s => 4 Expand supervisorctl password
+[inet_http_server]~port=0~[unix_http_server]~file= => 3 BadValue inet_http_server port
+[inet_http_server]~port=1~username=%(no)s~password={SHA}x => 4 Expand inet_http_server username
 [supervisord]~logfile=~[supervisorctl]~serverurl=%(no)s => 3 BadValue supervisord logfile
 [group:g]~[supervisord]~loglevel=x => 3 BadValue supervisord loglevel
 [group:g]~programs=%(no)s~priority=x => 4 Expand group:g programs

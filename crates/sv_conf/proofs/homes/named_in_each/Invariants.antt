@@ -1,7 +1,7 @@
 use Rattle.std.proofs.Common.{◌≡◌, ◌++◌, ◌≤◌, ◌+◌, [], length, map, Ok}
 use Rattle.sv_conf.specs.Homes.{named_in}
 use Rattle.sv_conf.specs.KnownNames.{host_names}
-use Rattle.sv_conf.proofs.homes.all_named.Given as goal
+use Rattle.sv_conf.proofs.homes.named_in_each.Given as goal
 
 abbrev pub invariant-loop-left : goal.invariant-loop-left
 invariant-loop-left l = l.named ++ map (named_in (host_names l.host)) l.left ≡ map (named_in (host_names l.host)) l.sections
