@@ -1,51 +1,26 @@
 -- Where reading is refused within a call, some spelled text begins with the bytes before: the call around its values.
-use Rattle.std.proofs.Common.{◌≡◌, ◌≢◌, ℕ, zero, suc, ◌-◌, ◌<◌, ◌≤◌, true, false, ltb, List, [], ◌∷◌, ◌++◌, length, inl, inr, refl, sym, ap, ◌∙◌, subst, arith, append_assoc, append-nil, length-append, codes, le_refl}
-use Rattle.std.proofs.lemmas.Bool.{cases_Bool}
-use Rattle.std.proofs.lemmas.Str.{IsUtf8-nil}
+use Rattle.std.proofs.Common.{◌≡◌, ◌≢◌, ℕ, zero, suc, ◌<◌, ◌≤◌, List, [], ◌∷◌, ◌++◌, length, inl, inr, refl, sym, ap, ◌∙◌, subst, arith, append_assoc, append-nil, le_refl}
 use Rattle.sv_xmlcall.specs.Tags.{spelling}
-use Rattle.sv_xmlcall.specs.Spelled.{Spelled, ACall, is_white}
+use Rattle.sv_xmlcall.specs.Spelled.{Spelled, ACall}
 use Rattle.sv_xmlcall.specs.Trees.{Trees, no_tree}
-use Rattle.sv_xmlcall.specs.Spells.{IsWhite, Plain, printed_text, text_of, Ending, IsEnding, printed_shut, printed_end, printed_value, value_of, ValueText, Empty}
-use Rattle.sv_xmlcall.specs.SpelledTexts.{HeadText, NoDeclaration, Declared, printed_head, IsHead, ParamText, AreParams, printed_each, values_of, ParamsText, Without, NoParams, Params, ArePossible, printed_params}
-use Rattle.sv_xmlcall.specs.Beginnings.{BeginsCall, GoodCall, GoodBefore, BeginsUpTo}
-use Rattle.sv_xmlcall.specs.Answers.{FaultIs}
-use Rattle.sv_xmlcall.specs.declared.call.CallFault.{CallFault}
-use Rattle.sv_xmlcall.specs.declared.call.CallFault.TheVariants as fault
-use Rattle.sv_xmlcall.specs.Machine.{Limits, the_limits, OfCall, AtStart, AtDeclared, AtMethod, AtCalled, AtParams, AtParamEnd, AtParamsEnd, AtDone, AtValue, InMethod, InParam, NotRead, Read, TooMany, At, Prolog, at, run, enter, kept, start, tags_of}
-use Rattle.sv_xmlcall.specs.declared.letters.Letters.TheVariants.{Any}
-use Rattle.sv_xmlcall.specs.declared.letters.Awaits.TheVariants.{Character}
+use Rattle.sv_xmlcall.specs.Spells.{IsWhite, Plain, printed_text, text_of, Ending, IsEnding, printed_shut, printed_end, printed_value, value_of, Empty}
+use Rattle.sv_xmlcall.specs.SpelledTexts.{HeadText, printed_head, IsHead, ParamText, AreParams, printed_each, values_of, ParamsText, Without, NoParams, Params, ArePossible, printed_params}
+use Rattle.sv_xmlcall.specs.Beginnings.{BeginsCall}
+use Rattle.sv_xmlcall.specs.Machine.{Limits, OfCall, AtMethod, AtCalled, AtParams, AtParamEnd, AtParamsEnd, AtDone, AtValue, InMethod, InParam, NotRead, At, at, run, enter, kept, start, tags_of}
 use Rattle.sv_xmlcall.specs.declared.tag.Tag.{Tag}
 use Rattle.sv_xmlcall.specs.declared.tag.Tag.TheVariants as tag
-use Rattle.sv_xmlcall.proofs.LetterLaws.{letters_utf8}
 use Rattle.sv_xmlcall.proofs.ValuePassing.{count_behind, count_behind_values, held, held_values}
 use Rattle.sv_xmlcall.proofs.TagsBack.{IsOneOf, only_one}
 use Rattle.sv_xmlcall.proofs.ValuesBack.{value_shorter}
 use Rattle.sv_xmlcall.proofs.NestedBack.{ahead_shorter, behind_shorter}
-use Rattle.sv_xmlcall.proofs.DocumentsBack.{empty_free}
 use Rattle.sv_xmlcall.proofs.CallsBack.{named_back}
-use Rattle.sv_xmlcall.proofs.RefusedLaws.{unless_left, not_many, not_read}
-use Rattle.sv_xmlcall.proofs.Fronts.{IsFront, front_on, front_behind, front_to, Good, good_here, good_behind, good_to, Halts, ahead_front}
+use Rattle.sv_xmlcall.proofs.Fronts.{IsFront, front_on, front_behind, Good, good_to, Halts, ahead_front}
 use Rattle.sv_xmlcall.proofs.TextFronts.{end_front, closes_front, end_begins}
 use Rattle.sv_xmlcall.proofs.NumberFronts.{text_front, an_a}
 use Rattle.sv_xmlcall.proofs.FormFronts.{front_two, good_one, good_two}
 use Rattle.sv_xmlcall.proofs.ValueFronts.{plain_end}
 use Rattle.sv_xmlcall.proofs.NestedFronts.{on_two, on_three, on_five, on_seven, value_front}
-use Rattle.sv_xmlcall.proofs.CallFronts.{Declares, prolog_front, call_begins, Start, IsStart, started, call_with, is_call}
-
-white_on : (b : ℕ) (gap : List ℕ) → is_white b ≡ true → IsWhite gap → IsWhite (b ∷ gap)
-white_on b gap w g = rw (w, g) refl
-
--- behind the whole text
-done_front : (limits : Limits) (count : ℕ) (spelled : Spelled) (bs : List ℕ) (left : ℕ) (P : List ℕ → Type 0) → ((after : List ℕ) → IsWhite after → P after)
-    → run limits (at (At (AtDone spelled)) [] count) bs ≡ NotRead left → Good P bs left
-done_front limits count spelled [] left P fail e = elim (cases_Bool (ltb limits.values count)) [
-  | inl m ↦ let f : TooMany ≡ NotRead left = rw m at e in not_many left f
-  | inr m ↦ let f : Read spelled ≡ NotRead left = rw m at e in not_read spelled left f
-]
-done_front limits count spelled (b ∷ bs) left P fail e = elim (cases_Bool (is_white b)) [
-  | inl w ↦ good_behind P (b ∷ []) bs (b ∷ bs) left refl (done_front limits count spelled bs left (λ g. P (b ∷ g)) (λ after h. fail (b ∷ after) (white_on b after w h)) (rw w at e))
-  | inr w ↦ good_here P (b ∷ bs) left (unless_left limits count (suc (length bs)) left (rw w at e)).1 (fail [] refl)
-]
+use Rattle.sv_xmlcall.proofs.CallFronts.{head_front, done_front, param_of, call_begins, Start, IsStart, started, call_with, is_call}
 
 -- the end of a call behind its params
 abbrev EndFails : Start → ParamsText → Type 0
@@ -85,9 +60,6 @@ EachBehind limits method before count bs left P = (params : List ParamText) → 
 abbrev AgainEach : Limits → List ℕ → List ℕ → ℕ → Type 1
 AgainEach limits method bs left = (before : Trees) (count : ℕ) (rest : List ℕ) (P : List ℕ → Type 0) → length rest < length bs → EachFronts P → EachBehind limits method before count rest left P
     → run limits (at (At (AtParams method before)) [] count) rest ≡ NotRead left → Good P rest left
-
-abbrev param_of : List ℕ → List ℕ → ValueText → Ending → ParamText
-param_of gap g2 value ending = record { before = gap; before_value = g2; value = value; ending = ending }
 
 param_front : (limits : Limits) (method : List ℕ) (before : Trees) (count : ℕ) (bs rest : List ℕ) (left : ℕ) (P : List ℕ → Type 0) → EachFronts P → EachBehind limits method before count bs left P
     → (gap : List ℕ) → IsWhite gap → bs ≡ gap ++ spelling tag.Param ++ rest → AgainEach limits method bs left
@@ -270,93 +242,6 @@ head_begins head h g f =
     call_begins (call_with s Without plain_end []) (is_call s Without plain_end [] (is_short head [] h refl) tt (refl, refl) refl) g
     (on_seven g (printed_head head ++ spelling tag.MethodCall) [] (spelling tag.MethodName) (printed_text s.name) (printed_shut tag.EndMethodName []) [] (printed_end tag.EndMethodCall plain_end) [] f)
 
-abbrev StartHalts : Limits → Tag → List ℕ → ℕ → Type 0
-StartHalts limits t rest left = Halts limits (enter limits (AtStart OfCall) t [] 0) 0 rest left
-
-no_end_none : (front back : List ℕ) → [] ≢ front ++ codes "?>" ++ back
-no_end_none front back = λ e. empty_free front back (e ∙ append_assoc front (codes "?>") back)
-
-start_begins : (gap : List ℕ) → IsWhite gap → (t : Tag) → IsOneOf t (tags_of (AtStart OfCall)) → (g : List ℕ) → IsFront g (spelling t) → BeginsCall (gap ++ g)
-start_begins gap w t (inl is) g f =
-    let h = front_behind gap g (spelling tag.Declaration) (subst (λ (x : Tag). IsFront g (spelling x)) is f) in
-    head_begins (Declared gap [] []) (w, IsUtf8-nil, no_end_none, refl) (gap ++ g)
-    (front_on (gap ++ g) (printed_head (Declared gap [] [])) (spelling tag.MethodCall) (on_three (gap ++ g) (gap ++ spelling tag.Declaration) [] (codes "?>") [] h))
-start_begins gap w t (inr (inl is)) g f = head_begins (NoDeclaration gap) w (gap ++ g) (front_behind gap g (spelling tag.MethodCall) (subst (λ (x : Tag). IsFront g (spelling x)) is f))
-start_begins gap w t (inr (inr o)) g f = absurd o
-
-head_parts : (a x d g2 m g : List ℕ) → x ≡ d ++ 63 ∷ 62 ∷ [] → a ++ (x ++ (g2 ++ m ++ g)) ≡ a ++ d ++ codes "?>" ++ g2 ++ m ++ g
-head_parts a x d g2 m g e = ap (λ (y : List ℕ). a ++ (y ++ (g2 ++ m ++ g))) e ∙ regroup a d (codes "?>") g2 m g
-  where
-    regroup : (a d q g2 m g : List ℕ) → a ++ (d ++ q ++ (g2 ++ m ++ g)) ≡ a ++ d ++ q ++ g2 ++ m ++ g
-    regroup a d q g2 m g = simp append_assoc refl
-
-head_ends : (a x d g2 m : List ℕ) → x ≡ d ++ 63 ∷ 62 ∷ [] → a ++ (x ++ (g2 ++ m)) ≡ a ++ d ++ codes "?>" ++ g2 ++ m
-head_ends a x d g2 m e = ap (λ (y : List ℕ). a ++ (y ++ (g2 ++ m))) e ∙ regroup a d (codes "?>") g2 m
-  where
-    regroup : (a d q g2 m : List ℕ) → a ++ (d ++ q ++ (g2 ++ m)) ≡ a ++ d ++ q ++ g2 ++ m
-    regroup a d q g2 m = simp append_assoc refl
-
-declared_end : (a x d : List ℕ) → x ≡ d ++ 63 ∷ 62 ∷ [] → a ++ x ≡ a ++ d ++ codes "?>"
-declared_end a x d e = ap (λ (y : List ℕ). a ++ y) e ∙ sym (append_assoc a d (codes "?>"))
-
-declared_front : (limits : Limits) (gap rest : List ℕ) (left : ℕ) → IsWhite gap → run limits (at (Prolog OfCall false Character) [] 0) rest ≡ NotRead left
-    → Good (λ g. BeginsCall (gap ++ spelling tag.Declaration ++ g)) rest left
-declared_front limits gap rest left w e =
-    let a = gap ++ spelling tag.Declaration in
-    prolog_front limits false Character rest left (λ g. BeginsCall (a ++ g)) tt (λ t. not_so t)
-    (λ x d g f. head_begins (Declared gap d.declared []) (is_head gap d [] w refl) (a ++ g)
-    (front_on (a ++ g) (printed_head (Declared gap d.declared [])) (spelling tag.MethodCall)
-    (front_on (a ++ g) (a ++ d.declared ++ codes "?>") [] (front_to (a ++ g) (a ++ x) (a ++ d.declared ++ codes "?>") (front_behind a g x f) (declared_end a x d.declared d.parts)))))
-    (λ x d behind q e2.
-    ahead_front limits (AtDeclared OfCall) [] 0 behind left (λ g. BeginsCall (a ++ (x ++ g))) tt (tag.MethodCall, inl refl)
-    (λ g2 v t i g f.
-    let is = only_one t tag.MethodCall (tags_of (AtDeclared OfCall)) refl i in
-    head_begins (Declared gap d.declared g2) (is_head gap d g2 w v) (a ++ (x ++ (g2 ++ g)))
-    (front_to (a ++ (x ++ (g2 ++ g))) (a ++ (x ++ (g2 ++ spelling tag.MethodCall))) (printed_head (Declared gap d.declared g2) ++ spelling tag.MethodCall)
-    (front_behind a (x ++ (g2 ++ g)) (x ++ (g2 ++ spelling tag.MethodCall)) (front_behind x (g2 ++ g) (g2 ++ spelling tag.MethodCall) (front_behind g2 g (spelling tag.MethodCall) (subst (λ (y : Tag). IsFront g (spelling y)) is f))))
-    (head_ends a x d.declared g2 (spelling tag.MethodCall) d.parts)))
-    (λ g2 v t last i p h.
-    let is = only_one t tag.MethodCall (tags_of (AtDeclared OfCall)) refl i in
-    subst (λ (y : Tag). Good (λ g. BeginsCall (a ++ (x ++ (g2 ++ spelling y ++ g)))) last left) (sym is)
-    (good_to (λ g. BeginsCall (printed_head (Declared gap d.declared g2) ++ spelling tag.MethodCall ++ g)) (λ g. BeginsCall (a ++ (x ++ (g2 ++ spelling tag.MethodCall ++ g)))) last left
-    (λ g y. subst BeginsCall (sym (head_parts a x d.declared g2 (spelling tag.MethodCall) g d.parts)) y)
-    (method_front limits (Declared gap d.declared g2) last left (is_head gap d g2 w v)
-    (subst (λ (y : Tag). Halts limits (enter limits (AtDeclared OfCall) y [] 0) 0 last left) is h))))
-    e2)
-    e
-  where
-    not_so : {P : Type 0} → false ≡ true → P
-    not_so e = cc e
-
-    is_head : (gap : List ℕ) {x : List ℕ} (d : Declares false Character x) (g2 : List ℕ) → IsWhite gap → IsWhite g2 → IsHead (Declared gap d.declared g2)
-    is_head gap d g2 w v = (w, letters_utf8 Any d.declared d.letters, λ front back f. d.free front back (f ∙ append_assoc front (codes "?>") back), v)
-
-start_goes : (limits : Limits) (left : ℕ) (gap : List ℕ) → IsWhite gap → (t : Tag) (rest : List ℕ) → IsOneOf t (tags_of (AtStart OfCall)) → StartHalts limits t rest left → Good (λ g. BeginsCall (gap ++ spelling t ++ g)) rest left
-start_goes limits left gap w t rest (inl is) h =
-    subst (λ (x : Tag). Good (λ g. BeginsCall (gap ++ spelling x ++ g)) rest left) (sym is) (declared_front limits gap rest left w (subst (λ (x : Tag). StartHalts limits x rest left) is h))
-start_goes limits left gap w t rest (inr (inl is)) h =
-    subst (λ (x : Tag). Good (λ g. BeginsCall (gap ++ spelling x ++ g)) rest left) (sym is) (method_front limits (NoDeclaration gap) rest left w (subst (λ (x : Tag). StartHalts limits x rest left) is h))
-start_goes limits left gap w t rest (inr (inr o)) h = absurd o
-
 -- where reading is refused, some spelled call begins with the bytes before
-pub good_call : (limits : Limits) (bs : List ℕ) (left : ℕ) → run limits (start OfCall) bs ≡ NotRead left → GoodCall bs left
-good_call limits bs left e =
-    let g = ahead_front limits (AtStart OfCall) [] 0 bs left BeginsCall tt (tag.Declaration, inl refl)
-    (λ gap w t i g f. start_begins gap w t i g f) (λ gap w t rest i p h. start_goes limits left gap w t rest i h) e in
-    record { front = g.front; bad = g.bad; parts = g.parts; size = g.size; begins = g.good }
-
-good_before : (bytes : List ℕ) (place left : ℕ) → place ≡ length bytes - left → GoodCall bytes left → GoodBefore bytes place
-good_before bytes place left p g = record {
-  front = g.front;
-  bad = g.bad;
-  parts = g.parts;
-  size = let l = g.size in omega (arith, ap length g.parts, length-append g.front g.bad);
-  begins = g.begins;
-}
-
--- the bytes before the place that is told begin a spelled text
-pub begins_call : (bytes : List ℕ) (fault : CallFault) → FaultIs fault (length bytes) (run the_limits (start OfCall) bytes) → BeginsUpTo bytes fault
-begins_call bytes (fault.NotACall place) f = good_before bytes place f.0 f.1.1 (good_call the_limits bytes f.0 f.1.0)
-begins_call bytes fault.TooDeep f = tt
-begins_call bytes fault.TooManyValues f = tt
-begins_call bytes fault.OutOfMemory f = tt
+pub good_call : (limits : Limits) (bs : List ℕ) (left : ℕ) → run limits (start OfCall) bs ≡ NotRead left → Good BeginsCall bs left
+good_call limits bs left e = head_front limits OfCall bs left BeginsCall head_begins (λ head h rest f. method_front limits head rest left h f) e

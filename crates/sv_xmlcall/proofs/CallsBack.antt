@@ -1,23 +1,24 @@
 -- A text that is read as a call or a reply spells it.
-use Rattle.std.proofs.Common.{◌≡◌, ◌≢◌, ℕ, suc, ◌+◌, ◌≤◌, min, true, false, ◌&&◌, List, [], ◌∷◌, ◌++◌, length, Option, Some, None, inl, inr, refl, sym, ap, ◌∙◌, subst, arith, append_assoc, le_refl, ℤ, bytes_eq}
-use Rattle.std.proofs.lemmas.Bool.{cases_Bool, and_parts}
+use Rattle.std.proofs.Common.{◌≡◌, ◌≢◌, ℕ, suc, ◌+◌, ◌≤◌, min, true, false, ◌&&◌, List, [], ◌∷◌, ◌++◌, length, Option, Some, None, inl, inr, refl, sym, ap, ◌∙◌, subst, arith, append_assoc, le_refl, ℤ, bytes_eq, leb}
+use Rattle.std.proofs.lemmas.Bool.{cases_Bool, and_parts, leb-true}
 use Rattle.std.proofs.lemmas.Slice.Eq.{bytes_eq-Decides}
 use Rattle.sv_xmlcall.specs.Tags.{spelling}
 use Rattle.sv_xmlcall.specs.Spelled.{Spelled, ACall, AReply, fault_of, two_of, named_fault}
 use Rattle.sv_xmlcall.specs.Trees.{Tree, Trees, integer, text, structure, no_tree, no_member, member, Reply, Returns, Faults, CallTree}
 use Rattle.sv_xmlcall.specs.Sizes.{size, size_of_values}
 use Rattle.sv_xmlcall.specs.Spells.{IsWhite, Letter, printed_text, text_of, Ending, IsEnding, printed_shut, printed_end, printed_value, value_of}
-use Rattle.sv_xmlcall.specs.SpelledTexts.{printed_head, printed_each, values_of, ParamsText, Without, NoParams, Params, ArePossible, printed_params, params_of, AnswerText, Answer, Fault, IsFault, IsAnswer, printed_answer, answer_of, SpellsCall, SpellsReply, code_name, string_name}
-use Rattle.sv_xmlcall.specs.Machine.{Limits, OfCall, OfReply, AtMethod, AtCalled, AtParamsEnd, AtResponse, AtReplyParam, AtReplyParamEnd, AtReplyParamsEnd, AtFaultEnd, AtResponseEnd, AtDone, AtValue, InMethod, InReply, InFault, Read, At, Stuck, at, run, enter, start, may_end, after_fault, tags_of}
+use Rattle.sv_xmlcall.specs.SpelledTexts.{printed_head, printed_each, values_of, ParamsText, Without, NoParams, Params, ArePossible, printed_params, params_of, AnswerText, Answer, Fault, IsFault, IsAnswer, printed_answer, SpellsCall, SpellsReply, code_name, string_name, CallText, IsCall, printed_call, ReplyText, IsReply, printed_reply}
+use Rattle.sv_xmlcall.specs.Machine.{Limits, OfCall, OfReply, AtMethod, AtCalled, AtParamsEnd, AtResponse, AtReplyParam, AtReplyParamEnd, AtReplyParamsEnd, AtFaultEnd, AtResponseEnd, AtDone, AtValue, InMethod, InReply, InFault, Read, At, Stuck, at, run, enter, start, may_end, after_fault, tags_of, whole_fault}
 use Rattle.sv_xmlcall.specs.declared.tag.Tag.{Tag}
 use Rattle.sv_xmlcall.specs.declared.tag.Tag.TheVariants as tag
 use Rattle.sv_xmlcall.proofs.Passing.{in_text}
 use Rattle.sv_xmlcall.proofs.ValuePassing.{count_behind, count_behind_values, held, held_values}
 use Rattle.sv_xmlcall.proofs.HeldLaws.{count_min, count_min_values, held_is, held_values_are}
-use Rattle.sv_xmlcall.proofs.DocumentPassing.{held_call}
+use Rattle.sv_xmlcall.proofs.DocumentPassing.{held_call, held_reply, answered}
 use Rattle.sv_xmlcall.proofs.TagsBack.{Continues, not_read, IsOneOf, ahead, close_back, only_one, end_back}
 use Rattle.sv_xmlcall.proofs.TextsBack.{text_back}
 use Rattle.sv_xmlcall.proofs.NestedBack.{value_back}
+use Rattle.sv_xmlcall.proofs.SpelledLaws.{held_reply_is}
 use Rattle.sv_xmlcall.proofs.DocumentsBack.{head_back, done_back, each_back}
 
 -- the params of a call and its end were read
@@ -102,9 +103,16 @@ reply_same one two e = cc e
 abbrev call_tree : List ℕ → Trees → CallTree
 call_tree method params = record { method = method; params = params }
 
-pub call_back : (limits : Limits) (bs : List ℕ) (call : CallTree) → run limits (start OfCall) bs ≡ Read (ACall call) → SpellsCall bs call
-call_back limits bs call e =
-    let spelled = ACall call in
+-- a text that is read as a call
+pub record CallBack (limits : Limits) (bs : List ℕ) (spelled : Spelled) : Type 0 where
+  pub text : CallText
+  pub right : IsCall text
+  pub printed : printed_call text ≡ bs
+  pub same : ACall (call_tree (text_of text.name) (held_values limits (params_of text.params) no_tree 0)) ≡ spelled
+  pub few : count_behind_values limits (params_of text.params) 0 ≤ limits.values
+
+pub call_text : (limits : Limits) (bs : List ℕ) (spelled : Spelled) → run limits (start OfCall) bs ≡ Read spelled → CallBack limits bs spelled
+call_text limits bs spelled e =
     let h = head_back limits OfCall bs spelled e in
     let a = ahead limits AtMethod [] 0 h.rest spelled tt h.goes in
     let is : a.t ≡ tag.MethodName = only_one a.t tag.MethodName (tags_of AtMethod) refl a.one_of in
@@ -115,9 +123,6 @@ call_back limits bs call e =
     let values = params_of p.params in
     let behind = count_behind_values limits values 0 in
     let d = done_back limits behind (held_call limits method values) p.rest spelled p.goes in
-    let counted : behind ≡ min (0 + size_of_values values) (suc limits.values) = count_min_values limits values 0 (omega arith) in
-    let few : size_of_values values ≤ limits.values = omega (arith, d.few) in
-    let kept : held_values limits values no_tree 0 ≡ values = held_values_are limits values no_tree 0 (omega arith) in
     record {
       text = record { head = h.head; before_name = a.gap; name = t.letters; inside = t.inside; params = p.params; ending = p.ending; after = p.rest };
       right = record {
@@ -132,8 +137,19 @@ call_back limits bs call e =
       };
       printed = sym (h.parts ∙ call_parts (printed_head h.head) (spelling tag.MethodCall) h.rest a.gap (spelling tag.MethodName) a.rest (printed_text t.letters) (printed_shut tag.EndMethodName t.inside) t.rest
           (printed_params p.params) (printed_end tag.EndMethodCall p.ending) p.rest (a.parts ∙ ap (λ (x : Tag). a.gap ++ spelling x ++ a.rest) is) t.parts p.parts);
-      means = ap (call_tree method) (sym kept) ∙ call_same (call_tree method (held_values limits values no_tree 0)) call d.same;
+      same = d.same;
+      few = d.few;
     }
+
+pub call_back : (limits : Limits) (bs : List ℕ) (call : CallTree) → limits.values ≤ limits.keeping → run limits (start OfCall) bs ≡ Read (ACall call) → SpellsCall bs call
+call_back limits bs call keep e =
+    let c = call_text limits bs (ACall call) e in
+    let values = params_of c.text.params in
+    let behind = count_behind_values limits values 0 in
+    let counted : behind ≡ min (0 + size_of_values values) (suc limits.values) = count_min_values limits values 0 (omega arith) in
+    let few : size_of_values values ≤ limits.values = omega (arith, c.few) in
+    let kept : held_values limits values no_tree 0 ≡ values = held_values_are limits values no_tree 0 (omega arith) (omega arith) in
+    record { text = c.text; right = c.right; printed = c.printed; means = ap (call_tree (text_of c.text.name)) (sym kept) ∙ call_same (call_tree (text_of c.text.name) (held_values limits values no_tree 0)) call c.same }
 
 -- the end of a reply was read
 record ReplyEnd (limits : Limits) (reply : Reply) (count : ℕ) (bs : List ℕ) (spelled : Spelled) : Type 0 where
@@ -160,7 +176,8 @@ record AnswerBack (limits : Limits) (bs : List ℕ) (spelled : Spelled) : Type 0
   pub after : List ℕ
   pub white : IsWhite after
   pub parts : bs ≡ printed_answer answer ++ printed_end tag.EndMethodResponse ending ++ after
-  pub means : AReply (answer_of answer) ≡ spelled
+  pub same : AReply (held_reply limits answer) ≡ spelled
+  pub few : count_behind limits (answered answer) 0 ≤ limits.values
 
 answer_parts : (gap s r0 g1 p r1 g2 tail v r2 e r3 ep r4 ending after : List ℕ) → r0 ≡ g1 ++ p ++ r1 → r1 ≡ g2 ++ tail → tail ≡ v ++ r2 → r2 ≡ e ++ r3 → r3 ≡ ep ++ r4 → r4 ≡ ending ++ after
     → gap ++ s ++ r0 ≡ gap ++ s ++ (g1 ++ p ++ g2 ++ v ++ e) ++ ep ++ ending ++ after
@@ -172,10 +189,10 @@ answer_parts gap s r0 g1 p r1 g2 tail v r2 e r3 ep r4 ending after a b c d f g =
         → gap ++ s ++ (g1 ++ p ++ (g2 ++ (v ++ (e ++ (ep ++ (ending ++ after)))))) ≡ gap ++ s ++ (g1 ++ p ++ g2 ++ v ++ e) ++ ep ++ ending ++ after
     regroup gap s g1 p g2 v e ep ending after = simp append_assoc refl
 
-few_values : (limits : Limits) (value : Tree) → count_behind limits value 0 ≤ limits.values → held limits value 0 ≡ value
-few_values limits value few =
+pub few_values : (limits : Limits) (value : Tree) → count_behind limits value 0 ≤ limits.values → count_behind limits value 0 ≤ limits.keeping → held limits value 0 ≡ value
+few_values limits value few keep =
     let counted : count_behind limits value 0 ≡ min (0 + size value) (suc limits.values) = count_min limits value 0 (omega arith) in
-    held_is limits value 0 (omega arith)
+    held_is limits value 0 (omega arith) (omega arith)
 
 value_answer : (limits : Limits) (bs : List ℕ) (spelled : Spelled) (gap rest : List ℕ) → IsWhite gap → bs ≡ gap ++ spelling tag.Params ++ rest
     → run limits (at (At AtReplyParam) [] 0) rest ≡ Read spelled → AnswerBack limits bs spelled
@@ -200,7 +217,8 @@ value_answer limits bs spelled gap rest w p e =
       parts = p ∙ answer_parts gap (spelling tag.Params) rest a.gap (spelling tag.Param) a.rest g.gap g.tail (printed_value v.value) v.rest (printed_end tag.EndParam one.ending) one.rest
           (printed_end tag.EndParams two.ending) two.rest (printed_end tag.EndMethodResponse r.ending) r.after
           (a.parts ∙ ap (λ (x : Tag). a.gap ++ spelling x ++ a.rest) is) g.parts v.parts one.parts two.parts r.parts;
-      means = ap (λ (x : Tree). AReply (Returns x)) (sym (few_values limits (value_of v.value) r.few)) ∙ r.same;
+      same = r.same;
+      few = r.few;
     }
 
 abbrev Nothing : Option Reply
@@ -216,7 +234,7 @@ some_is : (one two : Reply) → Something one ≡ Some two → one ≡ two
 some_is one two e = cc e
 
 -- a struct that is a fault
-record FaultBack (value : Tree) (reply : Reply) : Type 0 where
+pub record FaultBack (value : Tree) (reply : Reply) : Type 0 where
   pub number : ℤ
   pub content : List ℕ
   pub is : IsFault value number content
@@ -251,7 +269,7 @@ two_back first (text content) second (integer number) reply e =
     }
 two_back first one second more reply e = none_some reply e
 
-fault_back : (value : Tree) (reply : Reply) → fault_of value ≡ Some reply → FaultBack value reply
+pub fault_back : (value : Tree) (reply : Reply) → fault_of value ≡ Some reply → FaultBack value reply
 fault_back (structure (member first one (member second more no_member))) reply e = two_back first one second more reply e
 fault_back value reply e = none_some reply e
 
@@ -260,10 +278,16 @@ stuck_back limits count [] spelled e = absurd (not_read limits count 0 spelled e
 stuck_back limits count (b ∷ bs) spelled e = absurd (not_read limits count (suc (length bs)) spelled e)
 
 -- the value of a fault is that of one
-whole_fault : (limits : Limits) (count : ℕ) (bs : List ℕ) (spelled : Spelled) (fault : Option Reply) → run limits (after_fault fault [] count) bs ≡ Read spelled
+faulty : (limits : Limits) (count : ℕ) (bs : List ℕ) (spelled : Spelled) (fault : Option Reply) → run limits (after_fault fault [] count) bs ≡ Read spelled
     → (reply : Reply) × (fault ≡ Some reply) × (run limits (at (At (AtFaultEnd reply)) [] count) bs ≡ Read spelled)
-whole_fault limits count bs spelled (Some reply) e = (reply, refl, e)
-whole_fault limits count bs spelled None e = stuck_back limits count bs spelled e
+faulty limits count bs spelled (Some reply) e = (reply, refl, e)
+faulty limits count bs spelled None e = stuck_back limits count bs spelled e
+
+pub fault_kept : (limits : Limits) (count : ℕ) (value : Tree) (reply : Reply) → whole_fault limits count value ≡ Some reply → (count ≤ limits.keeping) × (fault_of value ≡ Some reply)
+fault_kept limits count value reply e = elim (cases_Bool (leb count limits.keeping)) [
+  | inl k ↦ (leb-true count limits.keeping k, rw k at e)
+  | inr k ↦ let f : Nothing ≡ Some reply = rw k at e in none_some reply f
+]
 
 fault_parts : (gap s r1 g2 tail v r2 e r3 ending after : List ℕ) → r1 ≡ g2 ++ tail → tail ≡ v ++ r2 → r2 ≡ e ++ r3 → r3 ≡ ending ++ after
     → gap ++ s ++ r1 ≡ gap ++ s ++ g2 ++ v ++ e ++ ending ++ after
@@ -279,10 +303,12 @@ fault_answer limits bs spelled gap rest w p e =
     let g = value_back limits (InFault ∷ []) 0 rest spelled e in
     let v = g.value in
     let behind = count_behind limits (value_of v.value) 0 in
-    let whole = whole_fault limits behind v.rest spelled (fault_of (held limits (value_of v.value) 0)) v.goes in
+    let value = held limits (value_of v.value) 0 in
+    let whole = faulty limits behind v.rest spelled (whole_fault limits behind value) v.goes in
+    let kept = fault_kept limits behind value whole.0 whole.1 in
     let close = end_back limits (AtFaultEnd whole.0) tag.EndFault [] behind v.rest spelled (record { only = refl; goes_on = tt; shut = λ frames count. refl }) whole.2 in
     let r = reply_end limits whole.0 behind close.rest spelled close.goes in
-    let f = fault_back (value_of v.value) whole.0 (ap fault_of (sym (few_values limits (value_of v.value) r.few)) ∙ whole.1) in
+    let f = fault_back (value_of v.value) whole.0 (ap fault_of (sym (few_values limits (value_of v.value) r.few kept.0)) ∙ kept.1) in
     record {
       answer = Fault gap g.gap v.value f.number f.content close.ending;
       right = (w, g.white, v.right, f.is, close.right);
@@ -292,7 +318,8 @@ fault_answer limits bs spelled gap rest w p e =
       white = r.white;
       parts = p ∙ fault_parts gap (spelling tag.Fault) rest g.gap g.tail (printed_value v.value) v.rest (printed_end tag.EndFault close.ending) close.rest (printed_end tag.EndMethodResponse r.ending) r.after
           g.parts v.parts close.parts r.parts;
-      means = ap AReply (sym f.same) ∙ r.same;
+      same = ap AReply (sym f.same) ∙ r.same;
+      few = r.few;
     }
 
 abbrev ResponseGoes : Limits → Tag → List ℕ → Spelled → Type 0
@@ -312,9 +339,16 @@ reply_parts h b r1 a ending after p = ap (λ (x : List ℕ). h ++ b ++ x) p ∙ 
     regroup : (h b a ending after : List ℕ) → h ++ b ++ (a ++ ending ++ after) ≡ h ++ b ++ a ++ ending ++ after
     regroup h b a ending after = simp append_assoc refl
 
-pub reply_back : (limits : Limits) (bs : List ℕ) (reply : Reply) → run limits (start OfReply) bs ≡ Read (AReply reply) → SpellsReply bs reply
-reply_back limits bs reply e =
-    let spelled = AReply reply in
+-- a text that is read as a reply
+pub record ReplyBack (limits : Limits) (bs : List ℕ) (spelled : Spelled) : Type 0 where
+  pub text : ReplyText
+  pub right : IsReply text
+  pub printed : printed_reply text ≡ bs
+  pub same : AReply (held_reply limits text.answer) ≡ spelled
+  pub few : count_behind limits (answered text.answer) 0 ≤ limits.values
+
+pub reply_text : (limits : Limits) (bs : List ℕ) (spelled : Spelled) → run limits (start OfReply) bs ≡ Read spelled → ReplyBack limits bs spelled
+reply_text limits bs spelled e =
     let h = head_back limits OfReply bs spelled e in
     let t = ahead limits AtResponse [] 0 h.rest spelled tt h.goes in
     let a = answer_of_tag limits h.rest spelled t.gap t.t t.rest t.white t.parts t.one_of t.goes in
@@ -322,5 +356,14 @@ reply_back limits bs reply e =
       text = record { head = h.head; answer = a.answer; ending = a.ending; after = a.after };
       right = record { head = h.right; answer = a.right; ending = a.ends; after = a.white };
       printed = sym (h.parts ∙ reply_parts (printed_head h.head) (spelling tag.MethodResponse) h.rest (printed_answer a.answer) (printed_end tag.EndMethodResponse a.ending) a.after a.parts);
-      means = reply_same (answer_of a.answer) reply a.means;
+      same = a.same;
+      few = a.few;
     }
+
+pub reply_back : (limits : Limits) (bs : List ℕ) (reply : Reply) → limits.values ≤ limits.keeping → run limits (start OfReply) bs ≡ Read (AReply reply) → SpellsReply bs reply
+reply_back limits bs reply keep e =
+    let r = reply_text limits bs (AReply reply) e in
+    let value = answered r.text.answer in
+    let counted : count_behind limits value 0 ≡ min (0 + size value) (suc limits.values) = count_min limits value 0 (omega arith) in
+    let few : size value ≤ limits.values = omega (arith, r.few) in
+    record { text = r.text; right = r.right; printed = r.printed; means = sym (held_reply_is limits r.text.answer few keep) ∙ reply_same (held_reply limits r.text.answer) reply r.same }

@@ -1,17 +1,17 @@
 -- What is read around the values of a call or a reply is what the reading byte by byte goes on with.
-use Rattle.std.proofs.Common.{◌≡◌, ℕ, suc, Bool, true, false, ◌&&◌, eqb, ltb, List, [], ◌∷◌, length, Result, Ok, Err, Option, Some, None, inl, inr, refl, sym, ap, ◌∙◌, subst}
+use Rattle.std.proofs.Common.{◌≡◌, ℕ, suc, Bool, true, false, ◌&&◌, eqb, ltb, List, [], ◌∷◌, length, Result, Ok, Err, inl, inr, refl, sym, ap, ◌∙◌, subst}
 use Rattle.std.proofs.lemmas.Bool.{cases_Bool}
-use Rattle.sv_xmlcall.specs.Trees.{Tree, Trees, no_tree, Reply, Returns}
-use Rattle.sv_xmlcall.specs.Spelled.{Spelled, ACall, AReply, is_white, fault_of}
+use Rattle.sv_xmlcall.specs.Trees.{Trees, no_tree}
+use Rattle.sv_xmlcall.specs.Spelled.{Spelled, ACall, is_white}
 use Rattle.sv_xmlcall.specs.Characters.{allows, after}
 use Rattle.sv_xmlcall.specs.Tags.{tag_at}
 use Rattle.sv_xmlcall.specs.Atoms.{tag_behind, close_at, close_behind, closing_at}
 use Rattle.sv_xmlcall.specs.Reading.{◌>>=◌, text_at, shut_at, name_at, method_at, prolog_from}
-use Rattle.sv_xmlcall.specs.Documents.{document_of, document_at, head_at, ended_by, begun_of, begun_at, param_of, param_at, answer_of, answer_at, param_end_at, fault_end_at, end_at, value_end_at, faulty_at, Comes}
+use Rattle.sv_xmlcall.specs.Documents.{document_of, document_at, head_at, ended_by, begun_of, begun_at, param_of, param_at, answer_of, answer_at, end_at, Comes}
 use Rattle.sv_xmlcall.specs.Answers.{FaultIs, faulted, ReadsParams, ReadsFurther}
-use Rattle.sv_xmlcall.specs.Machine.{the_limits, Document, OfCall, OfReply, Frame, InParam, InReply, InFault, InMethod, Verdict, Read, NotRead, TooMany, Place, AtStart, AtDeclared, AtMethod, AtCalled, AtParams, AtParamEnd, AtParamsEnd, AtResponse, AtReplyParam, AtReplyParamEnd, AtReplyParamsEnd, AtFaultEnd, AtResponseEnd, AtDone, AtValue, AtTextEnd, At, Chars, Prolog, Stuck, at, begin_of, enter, leave, after_value, after_fault, run, start, on_step, unless_many}
+use Rattle.sv_xmlcall.specs.Machine.{the_limits, Document, OfCall, OfReply, InParam, InReply, InFault, InMethod, Verdict, Read, NotRead, TooMany, Place, AtStart, AtDeclared, AtMethod, AtCalled, AtParams, AtParamEnd, AtParamsEnd, AtResponse, AtReplyParam, AtDone, AtValue, AtTextEnd, At, Chars, Prolog, at, begin_of, enter, leave, run, start, on_step, unless_many}
 use Rattle.sv_xmlcall.specs.Running.{Halts, Closes}
-use Rattle.sv_xmlcall.specs.Outcome.{Stops, Gives}
+use Rattle.sv_xmlcall.specs.Outcome.{Stops}
 use Rattle.sv_xmlcall.specs.declared.letters.Letters.TheVariants.{Any}
 use Rattle.sv_xmlcall.specs.declared.letters.Awaits.{Awaits}
 use Rattle.sv_xmlcall.specs.declared.letters.Awaits.TheVariants.{Character}
@@ -667,50 +667,6 @@ pub run_answer : (bs : List ℕ) → run the_limits (start OfReply) bs ≡ on_an
 unfolding answer_at
 run_answer bs = run_document_reply bs ∙ response_follows (document_at tag.MethodResponse bs)
 
-abbrev pub on_end : Reply → ℕ → Result (List ℕ) ℕ → Verdict
-on_end reply count (Ok rest) = run the_limits (at (At (AtDone (AReply reply))) [] count) rest
-on_end reply count (Err left) = unless_many the_limits count (NotRead left)
-
-response_end : (reply : Reply) (count : ℕ) (r : Result (List ℕ) ℕ) → left_by (AtResponseEnd reply) [] count r ≡ on_end reply count r
-response_end reply count (Ok rest) = refl
-response_end reply count (Err left) = refl
-
-run_response_end : (reply : Reply) (count : ℕ) (bs : List ℕ) → run the_limits (at (At (AtResponseEnd reply)) [] count) bs ≡ on_end reply count (closing_at (tag.EndMethodResponse ∷ []) bs)
-run_response_end reply count bs =
-    run_closing (AtResponseEnd reply) tag.EndMethodResponse [] count bs (record { only = refl; goes_on = tt; shut = λ frames count. refl })
-    ∙ response_end reply count (closing_at (tag.EndMethodResponse ∷ []) bs)
-
-fault_left : (reply : Reply) (count : ℕ) (r : Result (List ℕ) ℕ) → left_by (AtFaultEnd reply) [] count r ≡ on_end reply count (r >>= (λ one. closing_at (tag.EndMethodResponse ∷ []) one))
-fault_left reply count (Ok rest) = run_response_end reply count rest
-fault_left reply count (Err left) = refl
-
-pub run_fault_end : (reply : Reply) (count : ℕ) (bs : List ℕ) → run the_limits (at (At (AtFaultEnd reply)) [] count) bs ≡ on_end reply count (fault_end_at bs)
-unfolding fault_end_at
-run_fault_end reply count bs =
-    run_closing (AtFaultEnd reply) tag.EndFault [] count bs (record { only = refl; goes_on = tt; shut = λ frames count. refl })
-    ∙ fault_left reply count (closing_at (tag.EndFault ∷ []) bs)
-
-two_left : (value : Tree) (count : ℕ) (r : Result (List ℕ) ℕ) → left_by (AtReplyParamsEnd value) [] count r ≡ on_end (Returns value) count (r >>= (λ two. closing_at (tag.EndMethodResponse ∷ []) two))
-two_left value count (Ok rest) = run_response_end (Returns value) count rest
-two_left value count (Err left) = refl
-
-one_left : (value : Tree) (count : ℕ) (r : Result (List ℕ) ℕ)
-    → left_by (AtReplyParamEnd value) [] count r ≡ on_end (Returns value) count (r >>= (λ one. closing_at (tag.EndParams ∷ []) one >>= (λ two. closing_at (tag.EndMethodResponse ∷ []) two)))
-one_left value count (Ok rest) =
-    run_closing (AtReplyParamsEnd value) tag.EndParams [] count rest (record { only = refl; goes_on = tt; shut = λ frames count. refl })
-    ∙ two_left value count (closing_at (tag.EndParams ∷ []) rest)
-one_left value count (Err left) = refl
-
-pub run_param_end : (value : Tree) (count : ℕ) (bs : List ℕ) → run the_limits (at (At (AtReplyParamEnd value)) [] count) bs ≡ on_end (Returns value) count (param_end_at bs)
-unfolding param_end_at
-run_param_end value count bs =
-    run_closing (AtReplyParamEnd value) tag.EndParam [] count bs (record { only = refl; goes_on = tt; shut = λ frames count. refl })
-    ∙ one_left value count (closing_at (tag.EndParam ∷ []) bs)
-
-pub run_stuck : (frames : List Frame) (count : ℕ) (bs : List ℕ) → run the_limits (at Stuck frames count) bs ≡ unless_many the_limits count (NotRead (length bs))
-run_stuck frames count [] = refl
-run_stuck frames count (b ∷ bs) = refl
-
 abbrev pub on_done : Spelled → ℕ → Result (Unit {0}) ℕ → Verdict
 on_done spelled count (Ok u) = unless_many the_limits count (Read spelled)
 on_done spelled count (Err left) = unless_many the_limits count (NotRead left)
@@ -798,51 +754,6 @@ pub closing_halts : (place : Place) (t : Tag) (count : ℕ) (bs : List ℕ) (one
     → Stops stop (closing_at (t ∷ []) bs) → Halts stop count one
 closing_halts place t count bs one stop c e s =
     halts_with (left_by place [] count) count one (closing_at (t ∷ []) bs) stop (λ left. refl) (e ∙ run_closing place t [] count bs c) s
-
-abbrev on_value_end : Tree → ℕ → Result (Unit {0}) ℕ → Verdict
-on_value_end value count (Ok u) = unless_many the_limits count (Read (AReply (Returns value)))
-on_value_end value count (Err left) = unless_many the_limits count (NotRead left)
-
-ended_value : (value : Tree) (count : ℕ) (r : Result (Unit {0}) ℕ) → on_done (AReply (Returns value)) count r ≡ on_value_end value count r
-ended_value value count (Ok u) = refl
-ended_value value count (Err left) = refl
-
-value_ends : (value : Tree) (count : ℕ) (r : Result (List ℕ) ℕ) → on_end (Returns value) count r ≡ on_value_end value count (r >>= (λ rest. end_at rest))
-value_ends value count (Ok rest) = run_done (AReply (Returns value)) count rest ∙ ended_value value count (end_at rest)
-value_ends value count (Err left) = refl
-
-run_value_end : (value : Tree) (count : ℕ) (bs : List ℕ) → run the_limits (at (At (AtReplyParamEnd value)) [] count) bs ≡ on_value_end value count (value_end_at bs)
-run_value_end value count bs = run_param_end value count bs ∙ value_ends value count (param_end_at bs)
-
-pub value_end_halts : (value : Tree) (count : ℕ) (bs : List ℕ) (one : Verdict) (stop : Stop) → one ≡ run the_limits (at (At (AtReplyParamEnd value)) [] count) bs
-    → Stops stop (value_end_at bs) → Halts stop count one
-value_end_halts value count bs one stop e s = halts_with (on_value_end value count) count one (value_end_at bs) stop (λ left. refl) (e ∙ run_value_end value count bs) s
-
-pub value_end_goes : (value : Tree) (count : ℕ) (bs : List ℕ) (one : Verdict) → one ≡ run the_limits (at (At (AtReplyParamEnd value)) [] count) bs → value_end_at bs ≡ Ok tt
-    → one ≡ unless_many the_limits count (Read (AReply (Returns value)))
-value_end_goes value count bs one e s = e ∙ run_value_end value count bs ∙ ap (on_value_end value count) s
-
-abbrev on_faulty : ℕ → Result Reply ℕ → Verdict
-on_faulty count (Ok reply) = unless_many the_limits count (Read (AReply reply))
-on_faulty count (Err left) = unless_many the_limits count (NotRead left)
-
-fault_done : (reply : Reply) (count : ℕ) (r : Result (Unit {0}) ℕ) → on_done (AReply reply) count r ≡ on_faulty count (r >>= (λ u. Ok reply))
-fault_done reply count (Ok u) = refl
-fault_done reply count (Err left) = refl
-
-fault_ends : (reply : Reply) (count : ℕ) (r : Result (List ℕ) ℕ) → on_end reply count r ≡ on_faulty count (r >>= (λ rest. end_at rest >>= (λ u. Ok reply)))
-fault_ends reply count (Ok rest) = run_done (AReply reply) count rest ∙ fault_done reply count (end_at rest)
-fault_ends reply count (Err left) = refl
-
-run_faulty : (fault : Option Reply) (count : ℕ) (bs : List ℕ) → run the_limits (after_fault fault [] count) bs ≡ on_faulty count (faulty_at fault bs)
-run_faulty (Some reply) count bs = run_fault_end reply count bs ∙ fault_ends reply count (fault_end_at bs)
-run_faulty None count bs = run_stuck [] count bs
-
-pub faulty_comes : {X : Type 0} (shown : X → Reply) (value : Tree) (count : ℕ) (bs : List ℕ) (one : Verdict) (r : Result X Stop)
-    → one ≡ run the_limits (after_value the_limits value (InFault ∷ []) count) bs → Gives shown r (faulty_at (fault_of value) bs) → Comes one count (λ x. AReply (shown x)) r
-faulty_comes shown value count bs one (Ok x) e g = e ∙ run_faulty (fault_of value) count bs ∙ ap (on_faulty count) g
-faulty_comes shown value count bs one (Err stop) e g =
-    halts_with (on_faulty count) count one (faulty_at (fault_of value) bs) stop (λ left. refl) (e ∙ run_faulty (fault_of value) count bs) g
 
 pub with_flag : (read : Result (Bool × List ℕ) ℕ) (flag flag2 : Bool) (rest : List ℕ) → read ≡ Ok (flag, rest) → flag ≡ flag2 → read ≡ Ok (flag2, rest)
 with_flag read flag flag2 rest e f = e ∙ ap (λ (x : Bool). Ok (x, rest)) f

@@ -1,6 +1,6 @@
 -- What the printed text of a whole call or reply comes to.
-use Rattle.std.proofs.Common.{◌≡◌, ◌≢◌, ℕ, ◌≤◌, Bool, true, false, ◌&&◌, eqb, List, [], ◌∷◌, ◌++◌, Some, inl, inr, refl, sym, ap, ◌∙◌, subst, arith, append_assoc, append-nil, encode_utf8, codes, IsUtf8, ℤ, Option}
-use Rattle.std.proofs.lemmas.Bool.{cases_Bool, cases_lt, and_parts, lt-ltb, le-ltb, eqb-true}
+use Rattle.std.proofs.Common.{◌≡◌, ◌≢◌, ℕ, suc, ◌+◌, ◌≤◌, min, Bool, true, false, ◌&&◌, eqb, List, [], ◌∷◌, ◌++◌, Some, inl, inr, refl, sym, ap, ◌∙◌, subst, arith, append_assoc, append-nil, encode_utf8, codes, IsUtf8, ℤ, Option}
+use Rattle.std.proofs.lemmas.Bool.{cases_Bool, cases_lt, and_parts, lt-ltb, le-ltb, le-leb, eqb-true}
 use lib.Utf8.{scalars, encodes, encode}
 use Rattle.sv_xmlcall.specs.Tags.{spelling}
 use Rattle.sv_xmlcall.specs.Spelled.{Spelled, ACall, AReply, fault_of}
@@ -9,7 +9,7 @@ use Rattle.sv_xmlcall.specs.Trees.{Tree, Trees, no_tree, Reply, Returns, Faults}
 use Rattle.sv_xmlcall.specs.Sizes.{nested, nested_values, size}
 use Rattle.sv_xmlcall.specs.Spells.{Letter, character_of, text_of, Ending, IsEnding, printed_end, printed_value, value_of}
 use Rattle.sv_xmlcall.specs.SpelledTexts.{HeadText, NoDeclaration, Declared, printed_head, IsHead, ParamText, IsParam, printed_param, AreParams, printed_each, values_of, ParamsText, Without, NoParams, Params, ArePossible, printed_params, params_of, CallText, IsCall, printed_call, AnswerText, Answer, Fault, IsFault, IsAnswer, printed_answer, ReplyText, IsReply, printed_reply}
-use Rattle.sv_xmlcall.specs.Machine.{Limits, Document, OfCall, OfReply, Place, AtStart, AtDeclared, AtMethod, AtCalled, AtParams, AtParamEnd, AtParamsEnd, AtResponse, AtReplyParam, AtReplyParamEnd, AtReplyParamsEnd, AtFaultEnd, AtResponseEnd, AtDone, AtValue, AtTextEnd, InMethod, InParam, InReply, InFault, State, Read, At, Close, Prolog, at, run, after_fault, kept, start, is_empty, unless_many}
+use Rattle.sv_xmlcall.specs.Machine.{Limits, Document, OfCall, OfReply, Place, AtStart, AtDeclared, AtMethod, AtCalled, AtParams, AtParamEnd, AtParamsEnd, AtResponse, AtReplyParam, AtReplyParamEnd, AtReplyParamsEnd, AtFaultEnd, AtResponseEnd, AtDone, AtValue, AtTextEnd, InMethod, InParam, InReply, InFault, State, Read, At, Close, Prolog, at, run, after_fault, kept, start, is_empty, unless_many, whole_fault}
 use Rattle.sv_xmlcall.specs.declared.letters.Letters.TheVariants.{Any}
 use Rattle.sv_xmlcall.specs.declared.letters.Awaits.{Awaits}
 use Rattle.sv_xmlcall.specs.declared.letters.Awaits.TheVariants.{Character}
@@ -17,7 +17,7 @@ use Rattle.sv_xmlcall.specs.declared.tag.Tag.TheVariants as tag
 use Rattle.sv_xmlcall.proofs.LetterLaws.{accept_char}
 use Rattle.sv_xmlcall.proofs.Passing.{Passes, ◌▷◌, nothing, to_state, white, shuts, ends, in_text, text_pass, whole_is}
 use Rattle.sv_xmlcall.proofs.ValuePassing.{count_behind, count_behind_values, held, held_values, gate_value, value_pass}
-use Rattle.sv_xmlcall.proofs.HeldLaws.{held_is}
+use Rattle.sv_xmlcall.proofs.HeldLaws.{count_min, held_is}
 
 accept_all : (cs : List ℕ) → scalars cs ≡ true → are_letters Any Character (encodes cs) ≡ true
 accept_all [] s = refl
@@ -212,9 +212,9 @@ fault_is : (value : Tree) (number : ℤ) (content : List ℕ) → IsFault value 
 fault_is value number content (inl e) = ap fault_of e
 fault_is value number content (inr e) = ap fault_of e
 
-answer_pass : (limits : Limits) (answer : AnswerText) → IsAnswer answer → nested (answered answer) ≤ limits.nesting → 3 ≤ limits.values
+answer_pass : (limits : Limits) (answer : AnswerText) → IsAnswer answer → nested (answered answer) ≤ limits.nesting → 3 ≤ limits.values → 3 ≤ limits.keeping
     → Passes limits (at (At AtResponse) [] 0) (printed_answer answer) (at (At (AtResponseEnd (held_reply limits answer))) [] (count_behind limits (answered answer) 0))
-answer_pass limits (Answer before param of_params) a fits many =
+answer_pass limits (Answer before param of_params) a fits many keep =
     let p = a.1 in
     let value = held limits (value_of param.value) 0 in
     let behind = count_behind limits (value_of param.value) 0 in
@@ -227,13 +227,15 @@ answer_pass limits (Answer before param of_params) a fits many =
     ▷ value_pass limits (at (At AtValue) (InReply ∷ []) 0) (InReply ∷ []) 0 param.value (gate_value limits (InReply ∷ []) 0) p.2 (omega arith)
     ▷ ends limits tag.EndParam (AtReplyParamEnd value) [] behind param.ending close p.3 in
     white limits AtResponse [] 0 before a.0 ▷ params_begin ▷ one ▷ ends limits tag.EndParams (AtReplyParamsEnd value) [] behind of_params params_close a.2
-answer_pass limits (Fault before before_value value number content of_fault) a fits many =
+answer_pass limits (Fault before before_value value number content of_fault) a fits many keep =
     let behind = count_behind limits (value_of value) 0 in
     let begin : Passes limits (at (At AtResponse) [] 0) (spelling tag.Fault) (at (At AtValue) (InFault ∷ []) 0) = record { goes = λ rest. refl } in
     let reply = Faults number content in
     let close : Passes limits (at (At (AtFaultEnd reply)) [] behind) (spelling tag.EndFault) (at (Close (AtFaultEnd reply)) [] behind) = record { goes = λ rest. refl } in
     let s = fault_size (value_of value) number content a.3 in
-    let is : fault_of (held limits (value_of value) 0) ≡ Some reply = ap fault_of (held_is limits (value_of value) 0 (omega arith)) ∙ fault_is (value_of value) number content a.3 in
+    let counted : behind ≡ min (0 + size (value_of value)) (suc limits.values) = count_min limits (value_of value) 0 (omega arith) in
+    let is : whole_fault limits behind (held limits (value_of value) 0) ≡ Some reply =
+    rw (le-leb behind limits.keeping (omega arith)) (ap fault_of (held_is limits (value_of value) 0 (omega arith) (omega arith)) ∙ fault_is (value_of value) number content a.3) in
     let one : Passes limits (at (At AtValue) (InFault ∷ []) 0) (printed_value value) (at (At (AtFaultEnd reply)) [] behind) =
     to_state (value_pass limits (at (At AtValue) (InFault ∷ []) 0) (InFault ∷ []) 0 value (gate_value limits (InFault ∷ []) 0) a.2 (omega arith))
     (ap (λ (o : Option Reply). after_fault o [] behind) is) in
@@ -241,14 +243,14 @@ answer_pass limits (Fault before before_value value number content of_fault) a f
     ▷ ends limits tag.EndFault (AtFaultEnd reply) [] behind of_fault close a.4
 
 -- what the text of a reply comes to, where no value stands inside too many others
-pub reply_run : (limits : Limits) (reply : ReplyText) → IsReply reply → nested (answered reply.answer) ≤ limits.nesting → 3 ≤ limits.values
+pub reply_run : (limits : Limits) (reply : ReplyText) → IsReply reply → nested (answered reply.answer) ≤ limits.nesting → 3 ≤ limits.values → 3 ≤ limits.keeping
     → run limits (start OfReply) (printed_reply reply)
     ≡ unless_many limits (count_behind limits (answered reply.answer) 0) (Read (AReply (held_reply limits reply.answer)))
-reply_run limits reply r fits many =
+reply_run limits reply r fits many keep =
     let held = held_reply limits reply.answer in
     let behind = count_behind limits (answered reply.answer) 0 in
     let close : Passes limits (at (At (AtResponseEnd held)) [] behind) (spelling tag.EndMethodResponse) (at (Close (AtResponseEnd held)) [] behind) = record { goes = λ rest. refl } in
     ended
-    (head_pass limits OfReply reply.head r.head ▷ reply_begin limits reply.head ▷ answer_pass limits reply.answer r.answer fits many
+    (head_pass limits OfReply reply.head r.head ▷ reply_begin limits reply.head ▷ answer_pass limits reply.answer r.answer fits many keep
     ▷ ends limits tag.EndMethodResponse (AtResponseEnd held) [] behind reply.ending close r.ending
     ▷ white limits (AtDone (AReply held)) [] behind reply.after r.after)

@@ -49,13 +49,20 @@ good_to P Q bs left f g = record { front = g.front; bad = g.bad; parts = g.parts
 abbrev pub Halts : Limits → Step → ℕ → List ℕ → ℕ → Type 0
 Halts limits step count rest left = on_step step (λ s. run limits s rest) (unless_many limits count (NotRead (suc (length rest)))) ≡ NotRead left
 
+-- these bytes begin a word, and are not all of it
+abbrev pub IsPart : List ℕ → List ℕ → Type 0
+IsPart front word = (next : ℕ) × ((more : List ℕ) × (front ++ next ∷ more ≡ word))
+
+pub part_front : (front word : List ℕ) → IsPart front word → IsFront front word
+part_front front word p = (p.0 ∷ p.1.0, p.1.1)
+
 -- a word breaks off
-record WordBroken (w bs : List ℕ) (left : ℕ) : Type 0 where
+pub record WordBroken (w bs : List ℕ) (left : ℕ) : Type 0 where
   pub front : List ℕ
   pub bad : List ℕ
   pub parts : bs ≡ front ++ bad
   pub size : length bad ≡ left
-  pub begins : IsFront front w
+  pub part : IsPart front w
 
 abbrev Whole : List ℕ → Result (List ℕ) ℕ
 Whole rest = Ok rest
@@ -71,10 +78,10 @@ broken_is x y e = cc e
 
 word_broken : (w bs : List ℕ) (left : ℕ) → word_at w bs ≡ Err left → WordBroken w bs left
 word_broken [] bs left e = whole_not bs left e
-word_broken (w ∷ ws) [] left e = record { front = []; bad = []; parts = refl; size = broken_is 0 left e; begins = front_none (w ∷ ws) }
+word_broken (w ∷ ws) [] left e = record { front = []; bad = []; parts = refl; size = broken_is 0 left e; part = (w, (ws, refl)) }
 word_broken (w ∷ ws) (b ∷ bs) left e = elim (cases_Bool (eqb b w)) [
   | inl same ↦ word_more w ws b bs left (eqb-true b w same) (word_broken ws bs left (rw same at e))
-  | inr other ↦ record { front = []; bad = b ∷ bs; parts = refl; size = broken_is (suc (length bs)) left (rw other at e); begins = front_none (w ∷ ws) }
+  | inr other ↦ record { front = []; bad = b ∷ bs; parts = refl; size = broken_is (suc (length bs)) left (rw other at e); part = (w, (ws, refl)) }
 ]
   where
     word_more : (w : ℕ) (ws : List ℕ) (b : ℕ) (bs : List ℕ) (left : ℕ) → b ≡ w → WordBroken ws bs left → WordBroken (w ∷ ws) (b ∷ bs) left
@@ -83,11 +90,11 @@ word_broken (w ∷ ws) (b ∷ bs) left e = elim (cases_Bool (eqb b w)) [
       bad = m.bad;
       parts = ap (λ (x : ℕ). x ∷ bs) is ∙ ap (λ (x : List ℕ). w ∷ x) m.parts;
       size = m.size;
-      begins = (m.begins.0, ap (λ (x : List ℕ). w ∷ x) m.begins.1);
+      part = (m.part.0, (m.part.1.0, ap (λ (x : List ℕ). w ∷ x) m.part.1.1));
     }
 
 -- one of some tags breaks off
-record TagBroken (tags : List Tag) (bs : List ℕ) (left : ℕ) : Type 0 where
+pub record TagBroken (tags : List Tag) (bs : List ℕ) (left : ℕ) : Type 0 where
   pub t : Tag
   pub one_of : IsOneOf t tags
   pub word : WordBroken (spelling t) bs left
@@ -118,7 +125,7 @@ later_broken t tags least bs left (Err l) again w e = lift t tags least bs left 
       | inr h ↦ inl (omega arith)
     ]
 
-tag_broken : (tags : List Tag) (least : ℕ) (bs : List ℕ) (left : ℕ) → tag_from tags least bs ≡ Err left → (left ≡ least) ⊎ TagBroken tags bs left
+pub tag_broken : (tags : List Tag) (least : ℕ) (bs : List ℕ) (left : ℕ) → tag_from tags least bs ≡ Err left → (left ≡ least) ⊎ TagBroken tags bs left
 tag_broken [] least bs left e = inl (sym (no_tag_is least left e))
 tag_broken (t ∷ tags) least bs left e = later_broken t tags least bs left (word_at (spelling t) bs) (λ l f. tag_broken tags l bs left f) refl e
 
@@ -146,7 +153,7 @@ within_case limits place frames count bs left P some fail more (Err l) q e =
   where
     broken_case : (left ≡ length bs) ⊎ TagBroken (tags_of place) bs left → Good P bs left
     broken_case (inl l) = good_here P bs left (sym l) (fail some.0 some.1 [] (front_none (spelling some.0)))
-    broken_case (inr b) = record { front = b.word.front; bad = b.word.bad; parts = b.word.parts; size = b.word.size; good = fail b.t b.one_of b.word.front b.word.begins }
+    broken_case (inr b) = record { front = b.word.front; bad = b.word.bad; parts = b.word.parts; size = b.word.size; good = fail b.t b.one_of b.word.front (part_front b.word.front (spelling b.t) b.word.part) }
 
 -- within a tag of which nothing is read
 pub within_front : (limits : Limits) (place : Place) (frames : List Frame) (count : ℕ) (bs : List ℕ) (left : ℕ) (P : List ℕ → Type 0) → SomeTag place

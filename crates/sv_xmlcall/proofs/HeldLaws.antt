@@ -66,35 +66,35 @@ joined_no_member no_member = refl
 joined_no_member (member first one before) = ap (member first one) (joined_no_member before)
 
 mutual
-  pub held_is : (limits : Limits) (value : Tree) (count : ℕ) → count + size value ≤ limits.values → held limits value count ≡ value
-  held_is limits (integer n) count l = refl
-  held_is limits (truth b) count l = refl
-  held_is limits (text content) count l = refl
-  held_is limits (other form content) count l = refl
-  held_is limits (structure members) count l =
+  pub held_is : (limits : Limits) (value : Tree) (count : ℕ) → count + size value ≤ limits.values → count + size value ≤ limits.keeping → held limits value count ≡ value
+  held_is limits (integer n) count l k = refl
+  held_is limits (truth b) count l k = refl
+  held_is limits (text content) count l k = refl
+  held_is limits (other form content) count l k = refl
+  held_is limits (structure members) count l k =
       let one = counted_min limits count (omega arith) in
-      ap structure (held_members_are limits members no_member (counted limits count) (omega arith))
-  held_is limits (array values) count l =
+      ap structure (held_members_are limits members no_member (counted limits count) (omega arith) (omega arith))
+  held_is limits (array values) count l k =
       let one = counted_min limits count (omega arith) in
-      ap array (held_values_are limits values no_tree (counted limits count) (omega arith))
+      ap array (held_values_are limits values no_tree (counted limits count) (omega arith) (omega arith))
 
-  pub held_values_are : (limits : Limits) (values before : Trees) (count : ℕ) → count + size_of_values values ≤ limits.values → held_values limits values before count ≡ joined before values
-  held_values_are limits no_tree before count l = sym (joined_none before)
-  held_values_are limits (tree value values) before count l =
+  pub held_values_are : (limits : Limits) (values before : Trees) (count : ℕ) → count + size_of_values values ≤ limits.values → count + size_of_values values ≤ limits.keeping → held_values limits values before count ≡ joined before values
+  held_values_are limits no_tree before count l k = sym (joined_none before)
+  held_values_are limits (tree value values) before count l k =
       let behind = count_behind limits value count in
       let m = count_min limits value count (omega arith) in
-      let one : kept limits behind before (held limits value count) ≡ snoc before value = rw (le-leb behind limits.values (omega arith)) (ap (snoc before) (held_is limits value count (omega arith))) in
+      let one : kept limits behind before (held limits value count) ≡ snoc before value = rw (le-leb behind limits.keeping (omega arith)) (ap (snoc before) (held_is limits value count (omega arith) (omega arith))) in
       ap (λ (b : Trees). held_values limits values b behind) one
-      ∙ held_values_are limits values (snoc before value) behind (omega arith)
+      ∙ held_values_are limits values (snoc before value) behind (omega arith) (omega arith)
       ∙ snoc_joined before value values
 
-  pub held_members_are : (limits : Limits) (members before : Members) (count : ℕ) → count + size_of_members members ≤ limits.values → held_members limits members before count ≡ joined_members before members
-  held_members_are limits no_member before count l = sym (joined_no_member before)
-  held_members_are limits (member name value members) before count l =
+  pub held_members_are : (limits : Limits) (members before : Members) (count : ℕ) → count + size_of_members members ≤ limits.values → count + size_of_members members ≤ limits.keeping → held_members limits members before count ≡ joined_members before members
+  held_members_are limits no_member before count l k = sym (joined_no_member before)
+  held_members_are limits (member name value members) before count l k =
       let behind = count_behind limits value count in
       let m = count_min limits value count (omega arith) in
       let one : kept_member limits behind before name (held limits value count) ≡ snoc_member before name value =
-      rw (le-leb behind limits.values (omega arith)) (ap (snoc_member before name) (held_is limits value count (omega arith))) in
+      rw (le-leb behind limits.keeping (omega arith)) (ap (snoc_member before name) (held_is limits value count (omega arith) (omega arith))) in
       ap (λ (b : Members). held_members limits members b behind) one
-      ∙ held_members_are limits members (snoc_member before name value) behind (omega arith)
+      ∙ held_members_are limits members (snoc_member before name value) behind (omega arith) (omega arith)
       ∙ snoc_members before name value members

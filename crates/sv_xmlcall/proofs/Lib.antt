@@ -8,8 +8,8 @@ mod Frames
 mod TextLaws
 mod StageLaws
 mod DocumentLaws
+mod ReplyEnds
 mod LogLaws
-mod PlaceLaws
 mod Passing
 mod ValuePassing
 mod HeldLaws
@@ -32,3 +32,12 @@ mod ValueFronts
 mod NestedFronts
 mod CallFronts
 mod CallGood
+mod OpeningLaws
+mod Measures
+mod MeasuredTags
+mod MeasuredPlaces
+mod MeasuredSteps
+mod ReplyFronts
+mod ReplyGood
+mod MeasuredDocuments
+mod JudgedLaws

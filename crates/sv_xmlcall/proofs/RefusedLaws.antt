@@ -1,14 +1,8 @@
--- No spelled text goes on with a refused byte.
-use Rattle.std.proofs.Common.{◌≡◌, ℕ, suc, ◌-◌, ◌≤◌, ltb, List, [], ◌∷◌, ◌++◌, length, inl, inr, refl, sym, ap, ◌∙◌, arith, length-append}
+-- A byte at which a text is refused is refused whatever follows.
+use Rattle.std.proofs.Common.{◌≡◌, ℕ, suc, ◌≤◌, ltb, List, [], ◌∷◌, ◌++◌, length, inl, inr, refl, sym, arith, length-append}
 use Rattle.std.proofs.lemmas.Bool.{cases_Bool}
-use Rattle.sv_xmlcall.specs.Spelled.{Spelled, ACall, AReply}
-use Rattle.sv_xmlcall.specs.SpelledTexts.{Spells}
-use Rattle.sv_xmlcall.specs.Refused.{EndsCall, EndsReply}
-use Rattle.sv_xmlcall.specs.Answers.{FaultIs}
-use Rattle.sv_xmlcall.specs.Machine.{Limits, the_limits, OfCall, OfReply, State, Step, Go, Bad, Deep, Read, NotRead, TooMany, TooDeep, Verdict, Control, At, AtDone, AtStart, Stuck, next, run, on_step, unless_many, finished, start}
-use Rattle.sv_xmlcall.specs.declared.call.CallFault.{CallFault}
-use Rattle.sv_xmlcall.specs.declared.call.CallFault.TheVariants as fault
-use Rattle.sv_xmlcall.proofs.SpelledLaws.{Ways, ways, document_of, spelled_verdict, ample_limits}
+use Rattle.sv_xmlcall.specs.Spelled.{Spelled}
+use Rattle.sv_xmlcall.specs.Machine.{Limits, State, Step, Go, Bad, Deep, Read, NotRead, TooMany, TooDeep, Verdict, Control, At, AtDone, AtStart, Stuck, next, run, on_step, unless_many, finished}
 
 pub not_deep : {P : Type 0} (left : ℕ) → TooDeep ≡ NotRead left → P
 not_deep left e = cc e
@@ -81,32 +75,3 @@ pub refused : (limits : Limits) (front : List ℕ) (b : ℕ) (rest other : List 
     → OtherLeft limits (run limits s (front ++ b ∷ other)) other
 refused limits [] b rest other s e = last_step limits (next limits s b) s.count rest other (λ t f. within_text limits rest t (suc (length rest)) f) e
 refused limits (x ∷ front) b rest other s e = front_step limits (next limits s x) s.count front b rest other (λ t f. refused limits front b rest other t f) e
-
-not_spelled : {P : Type 0} (spelled : Spelled) (left : ℕ) (verdict : Verdict) → Ways the_limits spelled verdict → verdict ≡ NotRead left → P
-not_spelled spelled left verdict (inl w) e = not_deep left (sym w.1 ∙ e)
-not_spelled spelled left verdict (inr (inl w)) e = not_many left (sym w.2 ∙ e)
-not_spelled spelled left verdict (inr (inr w)) e = not_read spelled left (sym w.2 ∙ e)
-
--- no spelled text goes on with the byte at the place that is told
-goes_on : (spelled : Spelled) (bytes front : List ℕ) (byte : ℕ) (rest other : List ℕ) (left : ℕ) → run the_limits (start (document_of spelled)) bytes ≡ NotRead left
-    → bytes ≡ front ++ byte ∷ rest → length front ≡ length bytes - left → Spells (front ++ byte ∷ other) spelled → ⊥
-goes_on spelled bytes front byte rest other left e p l s =
-    let w = within_text the_limits bytes (start (document_of spelled)) left e in
-    let is : left ≡ suc (length rest) = omega (arith, ap length p, length-append front (byte ∷ rest)) in
-    let f : run the_limits (start (document_of spelled)) (front ++ byte ∷ rest) ≡ NotRead (suc (length rest)) =
-    ap (run the_limits (start (document_of spelled))) (sym p) ∙ e ∙ ap NotRead is in
-    let g = refused the_limits front byte rest other (start (document_of spelled)) f in
-    let verdict = run the_limits (start (document_of spelled)) (front ++ byte ∷ other) in
-    not_spelled spelled (suc (length other)) verdict (ways the_limits spelled verdict (spelled_verdict the_limits (front ++ byte ∷ other) spelled ample_limits s)) g
-
-pub ends_call : (bytes : List ℕ) (fault : CallFault) → FaultIs fault (length bytes) (run the_limits (start OfCall) bytes) → EndsCall bytes fault
-ends_call bytes (fault.NotACall place) f = λ front byte rest other call p l s. goes_on (ACall call) bytes front byte rest other f.0 f.1.0 p (l ∙ f.1.1) s
-ends_call bytes fault.TooDeep f = tt
-ends_call bytes fault.TooManyValues f = tt
-ends_call bytes fault.OutOfMemory f = tt
-
-pub ends_reply : (bytes : List ℕ) (fault : CallFault) → FaultIs fault (length bytes) (run the_limits (start OfReply) bytes) → EndsReply bytes fault
-ends_reply bytes (fault.NotACall place) f = λ front byte rest other reply p l s. goes_on (AReply reply) bytes front byte rest other f.0 f.1.0 p (l ∙ f.1.1) s
-ends_reply bytes fault.TooDeep f = tt
-ends_reply bytes fault.TooManyValues f = tt
-ends_reply bytes fault.OutOfMemory f = tt

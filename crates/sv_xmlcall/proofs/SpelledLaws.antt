@@ -1,5 +1,5 @@
 -- A text that spells something is read as that, and spells nothing else.
-use Rattle.std.proofs.Common.{◌≡◌, ℕ, suc, ◌+◌, ◌<◌, ◌≤◌, min, List, [], ◌∷◌, ◌++◌, length, Ok, Err, Result, inl, inr, refl, sym, ap, ◌∙◌, arith, append_assoc, append-nil, codes, ◌⊎◌}
+use Rattle.std.proofs.Common.{◌≡◌, ℕ, suc, ◌+◌, ◌<◌, ◌≤◌, min, List, [], ◌∷◌, ◌++◌, length, Ok, Err, Result, inl, inr, refl, sym, ap, ◌∙◌, arith, append_assoc, append-nil, codes, ◌⊎◌, le_trans}
 use Rattle.std.proofs.lemmas.Bool.{cases_lt, lt-ltb, le-ltb}
 use Rattle.sv_xmlcall.specs.Tags.{spelling}
 use Rattle.sv_xmlcall.specs.Spelled.{Spelled, ACall, AReply}
@@ -7,8 +7,8 @@ use Rattle.sv_xmlcall.specs.Trees.{Trees, no_tree, CallTree, Reply, Returns, cal
 use Rattle.sv_xmlcall.specs.Sizes.{nested, nested_values, size, size_of_values}
 use Rattle.sv_xmlcall.specs.Spells.{text_of, printed_end, value_of}
 use Rattle.sv_xmlcall.specs.SpelledTexts.{HeadText, NoDeclaration, Declared, printed_head, ParamText, printed_param, AreParams, printed_each, values_of, ParamsText, Without, NoParams, Params, ArePossible, printed_params, params_of, CallText, IsCall, printed_call, call_of, AnswerText, Answer, Fault, IsAnswer, printed_answer, answer_of, ReplyText, IsReply, printed_reply, Spells, SpellsCall, SpellsReply}
-use Rattle.sv_xmlcall.specs.Given.{depth, amount, verdict_of, Refuses, IsWithin, GivesCall, GivesReply}
-use Rattle.sv_xmlcall.specs.Answers.{FaultIs, ReadsCall, ReadsReply}
+use Rattle.sv_xmlcall.specs.Given.{depth, amount, Refuses, IsWithin, GivesCall, GivesReply, IsBackCall, IsBackReply}
+use Rattle.sv_xmlcall.specs.Answers.{verdict_of, FaultIs, ReadsCall, ReadsReply}
 use Rattle.sv_xmlcall.specs.Machine.{Limits, the_limits, Document, OfCall, OfReply, AtMethod, AtCalled, AtParams, AtResponse, AtReplyParam, AtValue, AtTextEnd, InMethod, InParam, InReply, State, Verdict, Read, NotRead, TooMany, TooDeep, At, Close, at, run, kept, start, unless_many}
 use Rattle.sv_xmlcall.specs.declared.tag.Tag.TheVariants as tag
 use Rattle.sv_xmlcall.specs.declared.call.Call.{Call}
@@ -47,7 +47,7 @@ params_stop limits method (Params before params ending) p over =
 stopped : {limits : Limits} {s : State} {bytes : List ℕ} → Stops limits s bytes → run limits s bytes ≡ TooDeep
 stopped {limits} {s} {bytes} p = ap (run limits s) (sym (append-nil bytes)) ∙ p.stops []
 
-call_deep : (limits : Limits) (call : CallText) → IsCall call → limits.nesting < nested_values (params_of call.params) → run limits (start OfCall) (printed_call call) ≡ TooDeep
+pub call_deep : (limits : Limits) (call : CallText) → IsCall call → limits.nesting < nested_values (params_of call.params) → run limits (start OfCall) (printed_call call) ≡ TooDeep
 call_deep limits call c over =
     let method = text_of call.name in
     let name_begin : Passes limits (at (At AtMethod) [] 0) (spelling tag.MethodName) (in_text InMethod [] [] 0) = record { goes = λ rest. refl } in
@@ -67,8 +67,8 @@ few : (limits : Limits) (count : ℕ) (spelled : Spelled) → count ≤ limits.v
 few limits count spelled h = rw (le-ltb limits.values count h) refl
 
 -- what the text of a call comes to
-pub call_verdict : (limits : Limits) (call : CallText) → IsCall call → run limits (start OfCall) (printed_call call) ≡ verdict_of limits (ACall (call_of call))
-call_verdict limits call c =
+pub call_verdict : (limits : Limits) (call : CallText) → IsCall call → limits.values ≤ limits.keeping → run limits (start OfCall) (printed_call call) ≡ verdict_of limits (ACall (call_of call))
+call_verdict limits call c keep =
     let values = params_of call.params in
     let behind = count_behind_values limits values 0 in
     let counted : behind ≡ min (0 + size_of_values values) (suc limits.values) = count_min_values limits values 0 (omega arith) in
@@ -81,7 +81,7 @@ call_verdict limits call c =
         | inr m ↦
             rw (le-ltb limits.nesting (nested_values values) h, le-ltb limits.values (size_of_values values) m)
             (call_run limits call c h ∙ few limits behind (ACall (record { method = text_of call.name; params = held_values limits values no_tree 0 })) (omega arith)
-            ∙ ap (λ (x : Trees). Read (ACall (record { method = text_of call.name; params = x }))) (held_values_are limits values no_tree 0 (omega arith)))
+            ∙ ap (λ (x : Trees). Read (ACall (record { method = text_of call.name; params = x }))) (held_values_are limits values no_tree 0 (omega arith) (omega arith)))
       ]
     ]
 
@@ -99,7 +99,7 @@ answer_stops limits (Answer before param of_params) a two over =
 answer_stops limits (Fault before before_value value number content of_fault) a two over =
     let n = fault_nested (value_of value) number content a.3 in absurd (omega arith)
 
-reply_deep : (limits : Limits) (reply : ReplyText) → IsReply reply → 2 ≤ limits.nesting → limits.nesting < nested (answered reply.answer)
+pub reply_deep : (limits : Limits) (reply : ReplyText) → IsReply reply → 2 ≤ limits.nesting → limits.nesting < nested (answered reply.answer)
     → run limits (start OfReply) (printed_reply reply) ≡ TooDeep
 reply_deep limits reply r two over =
     stopped
@@ -114,14 +114,15 @@ amount_is : (answer : AnswerText) → IsAnswer answer → amount (AReply (answer
 amount_is (Answer before param of_params) a = refl
 amount_is (Fault before before_value value number content of_fault) a = sym (fault_size (value_of value) number content a.3)
 
-held_reply_is : (limits : Limits) (answer : AnswerText) → size (answered answer) ≤ limits.values → held_reply limits answer ≡ answer_of answer
-held_reply_is limits (Answer before param of_params) l = ap Returns (held_is limits (value_of param.value) 0 (omega arith))
-held_reply_is limits (Fault before before_value value number content of_fault) l = refl
+pub held_reply_is : (limits : Limits) (answer : AnswerText) → size (answered answer) ≤ limits.values → limits.values ≤ limits.keeping → held_reply limits answer ≡ answer_of answer
+held_reply_is limits (Answer before param of_params) l k = ap Returns (held_is limits (value_of param.value) 0 (omega arith) (omega arith))
+held_reply_is limits (Fault before before_value value number content of_fault) l k = refl
 
 -- limits within which each fault is read
 pub record Ample (limits : Limits) : Type 0 where
   pub nesting : 2 ≤ limits.nesting
   pub values : 3 ≤ limits.values
+  pub keeping : limits.values ≤ limits.keeping
 
 -- what the text of a reply comes to
 pub reply_verdict : (limits : Limits) (reply : ReplyText) → IsReply reply → Ample limits
@@ -138,11 +139,11 @@ reply_verdict limits reply r ample =
       | inr h ↦ elim (cases_lt limits.values (size value)) [
         | inl m ↦
             rw (le-ltb limits.nesting (depth spelled) (omega arith), lt-ltb limits.values (amount spelled) (omega arith))
-            (reply_run limits reply r h ample.values ∙ many limits behind (AReply (held_reply limits reply.answer)) (omega arith))
+            (reply_run limits reply r h ample.values (le_trans ample.values ample.keeping) ∙ many limits behind (AReply (held_reply limits reply.answer)) (omega arith))
         | inr m ↦
             rw (le-ltb limits.nesting (depth spelled) (omega arith), le-ltb limits.values (amount spelled) (omega arith))
-            (reply_run limits reply r h ample.values ∙ few limits behind (AReply (held_reply limits reply.answer)) (omega arith)
-            ∙ ap (λ (x : Reply). Read (AReply x)) (held_reply_is limits reply.answer m))
+            (reply_run limits reply r h ample.values (le_trans ample.values ample.keeping) ∙ few limits behind (AReply (held_reply limits reply.answer)) (omega arith)
+            ∙ ap (λ (x : Reply). Read (AReply x)) (held_reply_is limits reply.answer m ample.keeping))
       ]
     ]
 
@@ -154,16 +155,16 @@ document_of (AReply reply) = OfReply
 pub spelled_verdict : (limits : Limits) (bytes : List ℕ) (spelled : Spelled) → Ample limits → Spells bytes spelled
     → run limits (start (document_of spelled)) bytes ≡ verdict_of limits spelled
 spelled_verdict limits bytes (ACall call) ample s =
-    ap (run limits (start OfCall)) (sym s.printed) ∙ call_verdict limits s.text s.right ∙ ap (λ (c : CallTree). verdict_of limits (ACall c)) s.means
+    ap (run limits (start OfCall)) (sym s.printed) ∙ call_verdict limits s.text s.right ample.keeping ∙ ap (λ (c : CallTree). verdict_of limits (ACall c)) s.means
 spelled_verdict limits bytes (AReply reply) ample s =
     ap (run limits (start OfReply)) (sym s.printed) ∙ reply_verdict limits s.text s.right ample ∙ ap (λ (r : Reply). verdict_of limits (AReply r)) s.means
 
 -- limits that lift those of two texts
 abbrev lifted : Spelled → Spelled → Limits
-lifted one two = record { nesting = depth one + depth two + 2; values = amount one + amount two + 3 }
+lifted one two = record { nesting = depth one + depth two + 2; values = amount one + amount two + 3; keeping = amount one + amount two + 3 }
 
 ample_lifted : (one two : Spelled) → Ample (lifted one two)
-ample_lifted one two = record { nesting = omega arith; values = omega arith }
+ample_lifted one two = record { nesting = omega arith; values = omega arith; keeping = omega arith }
 
 pub verdict_within : (limits : Limits) (spelled : Spelled) → depth spelled ≤ limits.nesting → amount spelled ≤ limits.values → verdict_of limits spelled ≡ Read spelled
 verdict_within limits spelled d a = rw (le-ltb limits.nesting (depth spelled) d, le-ltb limits.values (amount spelled) a) refl
@@ -265,7 +266,7 @@ reply_same : (one two : Reply) → AReply one ≡ AReply two → one ≡ two
 reply_same one two e = cc e
 
 pub ample_limits : Ample the_limits
-ample_limits = record { nesting = omega arith; values = omega arith }
+ample_limits = record { nesting = omega arith; values = omega arith; keeping = omega arith }
 
 pub gives_call : (bytes : List ℕ) (result : Result Call CallFault) → ReadsCall (run the_limits (start OfCall) bytes) (length bytes) result
     → (spelled : CallTree) → SpellsCall bytes spelled → GivesCall spelled result
@@ -286,3 +287,18 @@ gives_reply bytes (Ok answered) r spelled s =
 gives_reply bytes (Err fault) r spelled s =
     let verdict = run the_limits (start OfReply) bytes in
     refuses (AReply spelled) fault (length bytes) verdict (ways the_limits (AReply spelled) verdict (spelled_verdict the_limits bytes (AReply spelled) ample_limits s)) r
+
+within_again : (spelled : Spelled) (why : CallFault) → IsWithin spelled → Refuses spelled why → why ≡ fault.OutOfMemory
+within_again spelled fault.TooDeep i r = absurd (omega (arith, i.0))
+within_again spelled fault.TooManyValues i r = absurd (omega (arith, i.1, r.1))
+within_again spelled (fault.NotACall place) i r = absurd r
+within_again spelled fault.OutOfMemory i r = refl
+
+-- what is within the limits and was written is given again
+pub call_again : (call : CallTree) (result : Result Call CallFault) → IsWithin (ACall call) → GivesCall call result → IsBackCall call result
+call_again call (Ok given) i g = g.0
+call_again call (Err why) i g = within_again (ACall call) why i g
+
+pub reply_again : (reply : Reply) (result : Result Answered CallFault) → IsWithin (AReply reply) → GivesReply reply result → IsBackReply reply result
+reply_again reply (Ok given) i g = g.0
+reply_again reply (Err why) i g = within_again (AReply reply) why i g

@@ -1,8 +1,9 @@
 -- What the readers of whole texts answer.
 use Rattle.std.specs.Prelude.{ℕ, ◌≡◌, ◌-◌, List, [], ◌∷◌, Result, Ok, Err, nat_lt, if◌then◌else◌}
 use Rattle.sv_xmlcall.specs.Trees.{Trees, no_tree, call_view, reply_view}
-use Rattle.sv_xmlcall.specs.Spelled.{ACall, AReply}
-use Rattle.sv_xmlcall.specs.Machine.{Verdict, Read, NotRead, TooMany, TooDeep, AtCalled, AtParams, AtDone, AtValue, At, at, run, the_limits, InParam}
+use Rattle.sv_xmlcall.specs.Spelled.{Spelled, ACall, AReply}
+use Rattle.sv_xmlcall.specs.Given.{depth, amount}
+use Rattle.sv_xmlcall.specs.Machine.{Limits, Verdict, Read, NotRead, TooMany, TooDeep, AtCalled, AtParams, AtDone, AtValue, At, at, run, the_limits, InParam}
 use Rattle.sv_xmlcall.specs.Running.{Halts}
 use Rattle.sv_xmlcall.specs.declared.call.Call.{Call}
 use Rattle.sv_xmlcall.specs.declared.call.Answered.{Answered}
@@ -49,3 +50,10 @@ abbrev pub ReadsOne : {X : Type 0} → List ℕ → Trees → ℕ → List ℕ �
 ReadsOne method params before bytes count more rest (Ok x) =
     run the_limits (at (At AtValue) (InParam method params ∷ []) before) bytes ≡ run the_limits (at (At (AtParams method (more x))) [] count) (rest x)
 ReadsOne method params before bytes count more rest (Err stop) = Halts stop count (run the_limits (at (At AtValue) (InParam method params ∷ []) before) bytes)
+
+-- a text that spells this is read, unless its values stand too deep or are too many
+abbrev pub verdict_of : Limits → Spelled → Verdict
+verdict_of limits spelled =
+    if nat_lt limits.nesting (depth spelled) then TooDeep
+    else if nat_lt limits.values (amount spelled) then TooMany
+    else Read spelled

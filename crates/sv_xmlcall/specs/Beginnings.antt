@@ -1,31 +1,48 @@
--- Which bytes begin a text that spells a call, and the place at which a call is refused.
-use Rattle.std.specs.Prelude.{◌≡◌, ℕ, List, ◌++◌, length, ⊤}
-use Rattle.sv_xmlcall.specs.Trees.{CallTree}
-use Rattle.sv_xmlcall.specs.SpelledTexts.{SpellsCall}
-use Rattle.sv_xmlcall.specs.declared.call.CallFault.{CallFault}
-use Rattle.sv_xmlcall.specs.declared.call.CallFault.TheVariants as fault
+-- Which bytes begin a text that spells a call or a reply, and the good front of a text, the longest one that does.
+use Rattle.std.specs.Prelude.{◌≡◌, ◌≤◌, ℕ, List, ◌++◌, ◌⊎◌, length}
+use Rattle.sv_xmlcall.specs.Tags.{spelling}
+use Rattle.sv_xmlcall.specs.Trees.{CallTree, Reply}
+use Rattle.sv_xmlcall.specs.Spells.{IsWhite, ValueText, printed_value, IsValue}
+use Rattle.sv_xmlcall.specs.SpelledTexts.{HeadText, printed_head, IsHead, SpellsCall, SpellsReply}
+use Rattle.sv_xmlcall.specs.declared.tag.Tag.TheVariants as tag
 
 pub record BeginsCall (front : List ℕ) : Type 0 where
   pub rest : List ℕ
   pub call : CallTree
   pub spells : SpellsCall (front ++ rest) call
 
--- the bytes before those that are left begin such a text
-pub record GoodCall (bytes : List ℕ) (left : ℕ) : Type 0 where
-  pub front : List ℕ
-  pub bad : List ℕ
-  pub parts : bytes ≡ front ++ bad
-  pub size : length bad ≡ left
-  pub begins : BeginsCall front
+pub record BeginsAnswer (front : List ℕ) : Type 0 where
+  pub rest : List ℕ
+  pub reply : Reply
+  pub spells : SpellsReply (front ++ rest) reply
 
--- the bytes before the place that is told begin such a text
-pub record GoodBefore (bytes : List ℕ) (place : ℕ) : Type 0 where
-  pub front : List ℕ
-  pub bad : List ℕ
-  pub parts : bytes ≡ front ++ bad
-  pub size : length front ≡ place
-  pub begins : BeginsCall front
+-- a reply up to the end of the value of a fault
+pub record FaultText : Type 0 where
+  pub head : HeadText
+  pub before : List ℕ
+  pub before_value : List ℕ
+  pub value : ValueText
 
-abbrev pub BeginsUpTo : List ℕ → CallFault → Type 0
-BeginsUpTo bytes (fault.NotACall place) = GoodBefore bytes place
-BeginsUpTo bytes other = ⊤
+abbrev pub IsFaultText : FaultText → Type 0
+IsFaultText fault = IsHead fault.head × IsWhite fault.before × IsWhite fault.before_value × IsValue fault.value
+
+abbrev pub printed_fault : FaultText → List ℕ
+printed_fault fault =
+    printed_head fault.head ++ spelling tag.MethodResponse ++ fault.before ++ spelling tag.Fault ++ fault.before_value ++ printed_value fault.value
+
+pub record BeginsFault (front : List ℕ) : Type 0 where
+  pub rest : List ℕ
+  pub text : FaultText
+  pub right : IsFaultText text
+  pub printed : printed_fault text ≡ front ++ rest
+
+-- in a fault any value may stand until it is whole
+abbrev pub BeginsReply : List ℕ → Type 0
+BeginsReply front = BeginsAnswer front ⊎ BeginsFault front
+
+-- the longest front of the bytes that has a property
+pub record IsLongest (Begins : List ℕ → Type 0) (bytes front : List ℕ) : Type 0 where
+  pub begins : Begins front
+  pub rest : List ℕ
+  pub parts : bytes ≡ front ++ rest
+  pub longest : (other more : List ℕ) → bytes ≡ other ++ more → Begins other → length other ≤ length front

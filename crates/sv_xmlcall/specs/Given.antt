@@ -1,9 +1,9 @@
 -- What the readers give for a text that spells something.
-use Rattle.std.specs.Prelude.{◌≡◌, ◌≤◌, ◌<◌, ℕ, Result, Ok, Err, nat_lt, if◌then◌else◌}
+use Rattle.std.specs.Prelude.{◌≡◌, ◌≤◌, ◌<◌, ℕ, List, Result, Ok, Err}
 use Rattle.sv_xmlcall.specs.Trees.{CallTree, Reply, Returns, Faults, call_view, reply_view}
 use Rattle.sv_xmlcall.specs.Sizes.{nested, nested_values, size, size_of_values}
 use Rattle.sv_xmlcall.specs.Spelled.{Spelled, ACall, AReply}
-use Rattle.sv_xmlcall.specs.Machine.{Limits, Verdict, Read, TooMany, TooDeep}
+use Rattle.sv_xmlcall.specs.SpelledTexts.{SpellsCall, SpellsReply}
 use Rattle.sv_xmlcall.specs.declared.call.Call.{Call}
 use Rattle.sv_xmlcall.specs.declared.call.Answered.{Answered}
 use Rattle.sv_xmlcall.specs.declared.call.CallFault.{CallFault}
@@ -19,13 +19,6 @@ abbrev pub amount : Spelled → ℕ
 amount (ACall call) = size_of_values call.params
 amount (AReply (Returns value)) = size value
 amount (AReply (Faults number content)) = 3
-
--- a text that spells this is read, unless its values stand too deep or are too many
-abbrev pub verdict_of : Limits → Spelled → Verdict
-verdict_of limits spelled =
-    if nat_lt limits.nesting (depth spelled) then TooDeep
-    else if nat_lt limits.values (amount spelled) then TooMany
-    else Read spelled
 
 -- the fault that is given for a text that spells this
 abbrev pub Refuses : Spelled → CallFault → Type 0
@@ -45,3 +38,19 @@ GivesCall spelled (Err fault) = Refuses (ACall spelled) fault
 abbrev pub GivesReply : Reply → Result Answered CallFault → Type 0
 GivesReply spelled (Ok answered) = (reply_view answered ≡ spelled) × IsWithin (AReply spelled)
 GivesReply spelled (Err fault) = Refuses (AReply spelled) fault
+
+-- the one answer for bytes that spell something
+abbrev pub OnlyCall : List ℕ → Result Call CallFault → Type 0
+OnlyCall bytes result = (spelled : CallTree) → SpellsCall bytes spelled → GivesCall spelled result
+
+abbrev pub OnlyReply : List ℕ → Result Answered CallFault → Type 0
+OnlyReply bytes result = (spelled : Reply) → SpellsReply bytes spelled → GivesReply spelled result
+
+-- what was written is given back, unless there is no memory
+abbrev pub IsBackCall : CallTree → Result Call CallFault → Type 0
+IsBackCall written (Ok call) = call_view call ≡ written
+IsBackCall written (Err why) = why ≡ fault.OutOfMemory
+
+abbrev pub IsBackReply : Reply → Result Answered CallFault → Type 0
+IsBackReply written (Ok answered) = reply_view answered ≡ written
+IsBackReply written (Err why) = why ≡ fault.OutOfMemory

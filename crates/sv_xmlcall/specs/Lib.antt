@@ -4,10 +4,11 @@ pub mod Beginnings
 pub mod Characters
 pub mod Documents
 pub mod Given
+pub mod Judged
 pub mod Machine
+pub mod Openings
 pub mod Outcome
 pub mod Reading
-pub mod Refused
 pub mod Running
 pub mod Simple
 pub mod Sizes
@@ -18,5 +19,6 @@ pub mod Stages
 pub mod Tags
 pub mod Trees
 pub mod Turns
+pub mod WorkedTexts
 pub mod Writable
 pub mod Written

@@ -11,13 +11,14 @@ use Rattle.sv_xmlcall.specs.declared.tag.Tag.{Tag}
 use Rattle.sv_xmlcall.specs.declared.tag.Tag.TheVariants as tag
 use Rattle.sv_xmlcall.specs.Spelled.{Spelled, ACall, AReply, snoc, snoc_member, fault_of, is_white, signed}
 
--- the most values that may stand one inside the other, and that a text may open
+-- the most values that may stand one inside the other, that a text may open, and that are kept of it
 pub record Limits : Type 0 where
   pub nesting : ℕ
   pub values : ℕ
+  pub keeping : ℕ
 
 abbrev pub the_limits : Limits
-the_limits = record { nesting = 32; values = 65536 }
+the_limits = record { nesting = 32; values = 65536; keeping = 65536 }
 
 pub data Document : Type 0 where
   OfCall : Document
@@ -159,24 +160,28 @@ tags_of (AtTruthEnd b) = tag.EndBoolean ∷ []
 tags_of (AtEntity content bytes) =
     tag.Ampersand ∷ tag.Less ∷ tag.Greater ∷ tag.Quote ∷ tag.Apostrophe ∷ tag.Numbered ∷ []
 
--- no value is kept beyond the most that a text may open
+-- no value is kept beyond the most that are kept
 abbrev pub kept : Limits → ℕ → Trees → Tree → Trees
-kept limits count before value = if nat_le count limits.values then snoc before value else before
+kept limits count before value = if nat_le count limits.keeping then snoc before value else before
 
 abbrev pub kept_member : Limits → ℕ → Members → List ℕ → Tree → Members
 kept_member limits count before name value =
-    if nat_le count limits.values then snoc_member before name value else before
+    if nat_le count limits.keeping then snoc_member before name value else before
 
 abbrev pub after_fault : Option Reply → List Frame → ℕ → State
 after_fault (Some reply) frames count = at (At (AtFaultEnd reply)) frames count
 after_fault None frames count = at Stuck frames count
+
+-- a value of which not all is kept is no fault's
+abbrev pub whole_fault : Limits → ℕ → Tree → Option Reply
+whole_fault limits count value = if nat_le count limits.keeping then fault_of value else None
 
 -- behind a whole value
 abbrev pub after_value : Limits → Tree → List Frame → ℕ → State
 after_value limits value [] count = at Stuck [] count
 after_value limits value (InParam method before ∷ frames) count = at (At (AtParamEnd method (kept limits count before value))) frames count
 after_value limits value (InReply ∷ frames) count = at (At (AtReplyParamEnd value)) frames count
-after_value limits value (InFault ∷ frames) count = after_fault (fault_of value) frames count
+after_value limits value (InFault ∷ frames) count = after_fault (whole_fault limits count value) frames count
 after_value limits value (InArray before ∷ frames) count = at (At (AtItems (kept limits count before value))) frames count
 after_value limits value (InMember before name ∷ frames) count = at (At (AtMemberEnd (kept_member limits count before name value))) frames count
 

@@ -18,8 +18,9 @@ pub enum Answered {
     Fault(i64, Text),
 }
 
-/// Why a text is no call, or no reply. The good front of a text is its longest front with which a text that spells
-/// something begins. The causes are tried in the order given here.
+/// Why a text is no call, or no reply. The good front of a text is the longest of its fronts with which a text begins that
+/// spells a call, or a reply, in whose fault any value may stand until it is whole. The causes are tried in the order given
+/// here.
 #[derive(Clone, Copy, Debug, PartialEq, Eq, Error)]
 pub enum CallFault {
     /// The good front opens a value inside 32 others.

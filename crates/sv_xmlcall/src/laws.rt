@@ -1,22 +1,25 @@
-ghost use Rattle.std.specs.Prelude.{◌≡◌, ◌++◌, ◌∷◌, suc, length, List, ℕ, ◌≢◌, ◌≤◌};
+ghost use Rattle.std.specs.Prelude.{◌≡◌, ◌++◌, List, ℕ, Result, codes, length};
 ghost use Rattle.sv_xmlcall.specs.Spelled.{Spelled, ACall, AReply};
-ghost use Rattle.sv_xmlcall.specs.Given.{depth, amount};
+ghost use Rattle.sv_xmlcall.specs.Given.{IsWithin, OnlyCall, OnlyReply, IsBackCall, IsBackReply};
 ghost use Rattle.sv_xmlcall.specs.Trees.{CallTree, Reply};
 ghost use Rattle.sv_xmlcall.specs.SpelledTexts.{Spells, SpellsCall, SpellsReply};
+ghost use Rattle.sv_xmlcall.specs.Beginnings.{BeginsCall, BeginsReply, IsLongest};
 ghost use Rattle.sv_xmlcall.specs.Writable.{IsWritableCall, IsWritableReply};
 ghost use Rattle.sv_xmlcall.specs.Written.{written_call, written_reply};
-ghost use Rattle.sv_xmlcall.specs.Machine.{Document, OfCall, OfReply, Read, NotRead, run, start, the_limits};
-
-/// A law: where a text is refused, no text is read that goes on with the refused byte.
-pub fn nothing_goes_on()
-    ensures { (document : Document) (front : List ℕ) (byte : ℕ) (rest : List ℕ) (other : List ℕ) (spelled : Spelled)
-        → run the_limits (start document) (front ++ byte ∷ rest) ≡ NotRead (suc (length rest))
-        → run the_limits (start document) (front ++ byte ∷ other) ≢ Read spelled }
-{}
+ghost use Rattle.sv_xmlcall.specs.WorkedTexts.{plain_call, declared_call, call_without_params, version_call, version_text, version_reply};
+ghost use Rattle.sv_xmlcall.specs.declared.call.Call.{Call};
+ghost use Rattle.sv_xmlcall.specs.declared.call.Answered.{Answered};
+ghost use Rattle.sv_xmlcall.specs.declared.call.CallFault.{CallFault};
 
 /// A law: no text spells two things.
 pub fn no_text_spells_two()
     ensures { (bytes : List ℕ) (one two : Spelled) → Spells bytes one → Spells bytes two → one ≡ two }
+{}
+
+/// A law: bytes have one good front as a call, and one as a reply.
+pub fn one_good_front()
+    ensures calls { (bytes one two : List ℕ) → IsLongest BeginsCall bytes one → IsLongest BeginsCall bytes two → one ≡ two }
+    ensures replies { (bytes one two : List ℕ) → IsLongest BeginsReply bytes one → IsLongest BeginsReply bytes two → one ≡ two }
 {}
 
 /// A law: the written text of what can be written spells it.
@@ -25,16 +28,21 @@ pub fn written_texts_spell()
     ensures replies { (reply : Reply) → IsWritableReply reply → SpellsReply (written_reply reply) reply }
 {}
 
-/// A law: what is written is read again as it was.
+/// A law: what is written within the limits is read again as it was, by whoever answers as the readers do.
 pub fn written_texts_are_read()
-    ensures calls { (call : CallTree) → IsWritableCall call → depth (ACall call) ≤ 32 → amount (ACall call) ≤ 65536
-        → run the_limits (start OfCall) (written_call call) ≡ Read (ACall call) }
-    ensures replies { (reply : Reply) → IsWritableReply reply → depth (AReply reply) ≤ 32 → amount (AReply reply) ≤ 65536
-        → run the_limits (start OfReply) (written_reply reply) ≡ Read (AReply reply) }
+    ensures calls { (call : CallTree) (result : Result Call CallFault) → IsWritableCall call → IsWithin (ACall call)
+        → OnlyCall (written_call call) result → IsBackCall call result }
+    ensures replies { (reply : Reply) (result : Result Answered CallFault) → IsWritableReply reply → IsWithin (AReply reply)
+        → OnlyReply (written_reply reply) result → IsBackReply reply result }
 {}
 
-/// A law: what is read is spelled.
-pub fn what_is_read_is_spelled()
-    ensures calls { (bytes : List ℕ) (call : CallTree) → run the_limits (start OfCall) bytes ≡ Read (ACall call) → SpellsCall bytes call }
-    ensures replies { (bytes : List ℕ) (reply : Reply) → run the_limits (start OfReply) bytes ≡ Read (AReply reply) → SpellsReply bytes reply }
+/// A law: three texts that spell one call, the reply to it as it is written, and the place at which letters behind the call
+/// are refused.
+pub fn worked_texts()
+    ensures plain { SpellsCall plain_call version_call }
+    ensures declared { SpellsCall declared_call version_call }
+    ensures without { SpellsCall call_without_params version_call }
+    ensures written { written_reply version_reply ≡ version_text }
+    ensures good { IsLongest BeginsCall (plain_call ++ codes " x") (plain_call ++ codes " ") }
+    ensures place { length (plain_call ++ codes " ") ≡ 75 }
 {}

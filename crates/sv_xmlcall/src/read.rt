@@ -1,16 +1,16 @@
-ghost use Rattle.std.specs.Prelude.{◌≡◌, ◌∷◌, [], ◌≤◌, ◌<◌, ◌&&◌, codes, IfOk, IfErr, List, ℕ, length};
+ghost use Rattle.std.specs.Prelude.{◌≡◌, ◌∷◌, [], ◌≤◌, ◌<◌, ◌&&◌, codes, IfOk, List, ℕ, length};
 ghost use Rattle.std.specs.Option.{option_map};
-ghost use Rattle.sv_xmlcall.specs.Trees.{CallTree, Reply, view, trees_view, call_view, reply_view};
+ghost use Rattle.sv_xmlcall.specs.Trees.{view, trees_view, call_view, reply_view};
 ghost use Rattle.sv_xmlcall.specs.SpelledTexts.{SpellsCall, SpellsReply};
-ghost use Rattle.sv_xmlcall.specs.Given.{GivesCall, GivesReply};
-ghost use Rattle.sv_xmlcall.specs.Refused.{EndsCall, EndsReply};
-ghost use Rattle.sv_xmlcall.specs.Beginnings.{BeginsUpTo};
+ghost use Rattle.sv_xmlcall.specs.Given.{OnlyCall, OnlyReply};
+ghost use Rattle.sv_xmlcall.specs.Beginnings.{BeginsCall, BeginsReply};
+ghost use Rattle.sv_xmlcall.specs.Judged.{Judges};
 ghost use Rattle.sv_xmlcall.specs.Spelled.{ACall, AReply, fault_of, two_of, named_fault};
 ghost use Rattle.std.specs.Str.{bytes_eq};
 ghost use Rattle.sv_xmlcall.specs.Outcome.{Gives};
 ghost use Rattle.sv_xmlcall.specs.Machine.{OfCall, OfReply, start, run, the_limits, InReply, InFault, At, AtCalled, AtValue, at};
 ghost use Rattle.sv_xmlcall.specs.Documents.{Comes, end_at, value_end_at, faulty_at};
-ghost use Rattle.sv_xmlcall.specs.Answers.{ReadsParams, ReadsFurther, ReadsOne, ReadsCall, ReadsReply, faulted};
+ghost use Rattle.sv_xmlcall.specs.Answers.{ReadsParams, ReadsFurther, ReadsOne, faulted};
 
 use crate::atoms::{closing, skip_white};
 use crate::call::{Answered, Call, CallFault};
@@ -22,14 +22,14 @@ use crate::value::Value;
 use std::alloc::{AllocError, Global};
 use sv_base::text::Text;
 
-/// The call that these bytes spell.
+/// The call that these bytes spell (the XML-RPC specification, its chapter on requests). Bytes that spell none, or whose
+/// values are too many or stand too deep, are refused by their good front, the longest one that begins a spelled call:
+/// [`CallFault`]. Memory is linear in the bytes.
 #[tactic(auto, using(crate::proofs::DocumentLaws::fault_is))]
 pub fn read_call(alloc: Global, bytes: &[u8]) -> Result<Call, CallFault>
-    ensures reads { ReadsCall (run the_limits (start OfCall) bytes.now) (length bytes.now) result }
     ensures found { IfOk result (λ call. SpellsCall bytes.now (call_view call)) }
-    ensures only { (spelled : CallTree) → SpellsCall bytes.now spelled → GivesCall spelled result }
-    ensures before { IfErr result (BeginsUpTo bytes.now) }
-    ensures beyond { IfErr result (EndsCall bytes.now) }
+    ensures only { OnlyCall bytes.now result }
+    ensures judged { Judges BeginsCall bytes.now result }
 {
     let mut opened = 0;
     match call(alloc, &mut opened, bytes) {
@@ -39,13 +39,13 @@ pub fn read_call(alloc: Global, bytes: &[u8]) -> Result<Call, CallFault>
     }
 }
 
-/// The reply that these bytes spell.
+/// The reply that these bytes spell (the XML-RPC specification, its chapter on responses). Refused are the same bytes as
+/// by [`read_call`], but that a good front begins a reply here, in whose fault any value may stand.
 #[tactic(auto, using(crate::proofs::DocumentLaws::fault_is))]
 pub fn read_reply(alloc: Global, bytes: &[u8]) -> Result<Answered, CallFault>
-    ensures reads { ReadsReply (run the_limits (start OfReply) bytes.now) (length bytes.now) result }
     ensures found { IfOk result (λ answered. SpellsReply bytes.now (reply_view answered)) }
-    ensures only { (spelled : Reply) → SpellsReply bytes.now spelled → GivesReply spelled result }
-    ensures beyond { IfErr result (EndsReply bytes.now) }
+    ensures only { OnlyReply bytes.now result }
+    ensures judged { Judges BeginsReply bytes.now result }
 {
     let mut opened = 0;
     match reply(alloc, &mut opened, bytes) {

@@ -3,7 +3,7 @@ use Rattle.sv_xmlcall.specs.Trees.{Reply, view, reply_view}
 use Rattle.sv_xmlcall.specs.Machine.{InFault}
 use Rattle.sv_xmlcall.specs.Outcome.{Gives}
 use Rattle.sv_xmlcall.specs.Documents.{faulty_at}
-use Rattle.sv_xmlcall.proofs.DocumentLaws.{faulty_comes}
+use Rattle.sv_xmlcall.proofs.ReplyEnds.{faulty_comes}
 use Rattle.sv_xmlcall.proofs.read.fault_reply.Goals as goal
 
 pub returns-in-Ok-fault_of : goal.returns-in-Ok-fault_of

@@ -4,12 +4,12 @@ use Rattle.sv_xmlcall.proofs.DocumentLaws.{fault_is}
 use Rattle.sv_xmlcall.proofs.SpelledLaws.{gives_reply}
 use Rattle.sv_xmlcall.specs.Trees.{reply_view}
 use Rattle.sv_xmlcall.specs.Machine.{the_limits}
-use Rattle.sv_xmlcall.proofs.RefusedLaws.{ends_reply}
+use Rattle.sv_xmlcall.proofs.JudgedLaws.{judges_reply}
 use Rattle.sv_xmlcall.proofs.CallsBack.{reply_back}
 use Rattle.sv_xmlcall.proofs.read.read_reply.Goals as goal
 
 pub returns-in-Ok-clause-found : goal.returns-in-Ok-clause-found
-returns-in-Ok-clause-found c = reply_back the_limits c.args.bytes.now (reply_view c.in-Ok.answered) (search rules)
+returns-in-Ok-clause-found c = reply_back the_limits c.args.bytes.now (reply_view c.in-Ok.answered) (omega arith) (search rules)
 
 pub returns-in-Ok-clause-only : goal.returns-in-Ok-clause-only
 returns-in-Ok-clause-only c = gives_reply c.args.bytes.now (Ok c.in-Ok.answered) (search rules)
@@ -20,5 +20,11 @@ returns-in-Ok-2-clause-only c = gives_reply c.args.bytes.now (Err fault.TooManyV
 pub returns-in-Err-clause-only : goal.returns-in-Err-clause-only
 returns-in-Err-clause-only c = gives_reply c.args.bytes.now (Err c.fault.result) (grind (arith, fault_is))
 
-pub returns-in-Err-clause-beyond : goal.returns-in-Err-clause-beyond
-returns-in-Err-clause-beyond c = ends_reply c.args.bytes.now c.fault.result (grind (arith, fault_is))
+pub returns-in-Ok-clause-judged : goal.returns-in-Ok-clause-judged
+returns-in-Ok-clause-judged c = judges_reply c.args.bytes.now (Ok c.in-Ok.answered) (search rules)
+
+pub returns-in-Ok-2-clause-judged : goal.returns-in-Ok-2-clause-judged
+returns-in-Ok-2-clause-judged c = judges_reply c.args.bytes.now (Err fault.TooManyValues) (search rules)
+
+pub returns-in-Err-clause-judged : goal.returns-in-Err-clause-judged
+returns-in-Err-clause-judged c = judges_reply c.args.bytes.now (Err c.fault.result) (grind (arith, fault_is))

@@ -1,6 +1,6 @@
 use Rattle.sv_xmlcall.specs.Trees.{view}
 use Rattle.sv_xmlcall.specs.Machine.{InReply}
-use Rattle.sv_xmlcall.proofs.DocumentLaws.{value_end_goes, value_end_halts}
+use Rattle.sv_xmlcall.proofs.ReplyEnds.{value_end_goes, value_end_halts}
 use Rattle.sv_xmlcall.proofs.read.value_reply.Goals as goal
 
 pub returns-in-Ok-value_end : goal.returns-in-Ok-value_end

@@ -1,0 +1,25 @@
+-- What the readers answer, by the good front of the bytes: the longest one with which a spelled text begins.
+use Rattle.std.specs.Prelude.{◌≡◌, ◌≤◌, ◌<◌, ℕ, List, length, Result, Ok, Err}
+use Rattle.sv_xmlcall.specs.Beginnings.{IsLongest}
+use Rattle.sv_xmlcall.specs.Openings.{amount_in, depth_in}
+use Rattle.sv_xmlcall.specs.declared.call.CallFault.{CallFault}
+use Rattle.sv_xmlcall.specs.declared.call.CallFault.TheVariants as fault
+
+-- the good front opens no value inside 32 others, and no more than 65,536
+abbrev pub IsFew : List ℕ → Type 0
+IsFew front = (depth_in front ≤ 32) × (amount_in front ≤ 65536)
+
+abbrev pub RefusesFor : List ℕ → CallFault → Type 0
+RefusesFor front fault.TooDeep = 32 < depth_in front
+RefusesFor front fault.TooManyValues = (depth_in front ≤ 32) × (65536 < amount_in front)
+RefusesFor front (fault.NotACall place) = IsFew front × (place ≡ length front)
+RefusesFor front fault.OutOfMemory = Unit {0}
+
+abbrev pub AnswersFor : {X : Type 0} → List ℕ → Result X CallFault → Type 0
+AnswersFor front (Ok x) = IsFew front
+AnswersFor front (Err fault) = RefusesFor front fault
+
+pub record Judges {X : Type 0} (Begins : List ℕ → Type 0) (bytes : List ℕ) (result : Result X CallFault) : Type 0 where
+  pub front : List ℕ
+  pub good : IsLongest Begins bytes front
+  pub answers : AnswersFor front result

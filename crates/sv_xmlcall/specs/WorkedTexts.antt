@@ -1,0 +1,23 @@
+-- Texts that were worked out by hand: a call that asks for the version, in three spellings, and the reply.
+use Rattle.std.specs.Prelude.{ℕ, List, codes}
+use Rattle.sv_xmlcall.specs.Trees.{text, no_tree, CallTree, Reply, Returns}
+
+abbrev pub version_call : CallTree
+version_call = record { method = codes "supervisor.getAPIVersion"; params = no_tree }
+
+abbrev pub plain_call : List ℕ
+plain_call = codes "<methodCall><methodName>supervisor.getAPIVersion</methodName></methodCall>"
+
+abbrev pub declared_call : List ℕ
+declared_call =
+    codes "<?xml version='1.0'?>\n<methodCall>\n<methodName>supervisor.getAPIVersion</methodName>\n<params>\n</params>\n</methodCall>\n"
+
+abbrev pub call_without_params : List ℕ
+call_without_params = codes "<methodCall><methodName>supervisor.getAPIVersion</methodName><params/></methodCall>"
+
+abbrev pub version_reply : Reply
+version_reply = Returns (text (codes "3.0"))
+
+abbrev pub version_text : List ℕ
+version_text =
+    codes "<?xml version='1.0'?><methodResponse><params><param><value><string>3.0</string></value></param></params></methodResponse>"
