@@ -1,5 +1,8 @@
 mod Judged
 mod OneReading
+mod OwnGroups
+mod OwnParts
+mod OwnPrograms
 mod Quiet
 mod ReadAll
 mod Refusals
