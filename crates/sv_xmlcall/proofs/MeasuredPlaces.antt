@@ -108,13 +108,13 @@ member_end_entered : (n : ℕ) (members : Members) (frames : List Frame) (count 
 member_end_entered n members frames count around rest s again t (inl is) = still (spot n (AtMemberEnd members) frames count around rest) again t tag.EndMember is (Close (AtMemberEnd members)) (λ limits count. refl) refl s
 member_end_entered n members frames count around rest s again t (inr o) = absurd o
 
-integer_end_entered : (n : ℕ) (number : ℤ) (frames : List Frame) (count around : ℕ) (rest : List ℕ) → Inside frames around → Again (spot n (AtIntegerEnd true number) frames count around rest) → (t : Tag) → IsOneOf t (tags_of (AtIntegerEnd true number)) → Entered (spot n (AtIntegerEnd true number) frames count around rest) t
-integer_end_entered n number frames count around rest s again t (inl is) = still (spot n (AtIntegerEnd true number) frames count around rest) again t tag.EndI4 is (Close (AtIntegerEnd true number)) (λ limits count. refl) refl s
-integer_end_entered n number frames count around rest s again t (inr o) = absurd o
-
-short_end_entered : (n : ℕ) (number : ℤ) (frames : List Frame) (count around : ℕ) (rest : List ℕ) → Inside frames around → Again (spot n (AtIntegerEnd false number) frames count around rest) → (t : Tag) → IsOneOf t (tags_of (AtIntegerEnd false number)) → Entered (spot n (AtIntegerEnd false number) frames count around rest) t
-short_end_entered n number frames count around rest s again t (inl is) = still (spot n (AtIntegerEnd false number) frames count around rest) again t tag.EndInt is (Close (AtIntegerEnd false number)) (λ limits count. refl) refl s
+short_end_entered : (n : ℕ) (number : ℤ) (frames : List Frame) (count around : ℕ) (rest : List ℕ) → Inside frames around → Again (spot n (AtIntegerEnd true number) frames count around rest) → (t : Tag) → IsOneOf t (tags_of (AtIntegerEnd true number)) → Entered (spot n (AtIntegerEnd true number) frames count around rest) t
+short_end_entered n number frames count around rest s again t (inl is) = still (spot n (AtIntegerEnd true number) frames count around rest) again t tag.EndI4 is (Close (AtIntegerEnd true number)) (λ limits count. refl) refl s
 short_end_entered n number frames count around rest s again t (inr o) = absurd o
+
+integer_end_entered : (n : ℕ) (number : ℤ) (frames : List Frame) (count around : ℕ) (rest : List ℕ) → Inside frames around → Again (spot n (AtIntegerEnd false number) frames count around rest) → (t : Tag) → IsOneOf t (tags_of (AtIntegerEnd false number)) → Entered (spot n (AtIntegerEnd false number) frames count around rest) t
+integer_end_entered n number frames count around rest s again t (inl is) = still (spot n (AtIntegerEnd false number) frames count around rest) again t tag.EndInt is (Close (AtIntegerEnd false number)) (λ limits count. refl) refl s
+integer_end_entered n number frames count around rest s again t (inr o) = absurd o
 
 truth_end_entered : (n : ℕ) (b : Bool) (frames : List Frame) (count around : ℕ) (rest : List ℕ) → Inside frames around → Again (spot n (AtTruthEnd b) frames count around rest) → (t : Tag) → IsOneOf t (tags_of (AtTruthEnd b)) → Entered (spot n (AtTruthEnd b) frames count around rest) t
 truth_end_entered n b frames count around rest s again t (inl is) = still (spot n (AtTruthEnd b) frames count around rest) again t tag.EndBoolean is (Close (AtTruthEnd b)) (λ limits count. refl) refl s
@@ -184,8 +184,8 @@ tag_entered n (AtArrayEnd items) frames count around rest l c s again t i = arra
 tag_entered n (AtMembers members) frames count around rest l c s again t i = members_entered n members frames count around rest s again t i
 tag_entered n (AtName members) frames count around rest l c s again t i = name_entered n members frames count around rest s again t i
 tag_entered n (AtMemberEnd members) frames count around rest l c s again t i = member_end_entered n members frames count around rest s again t i
-tag_entered n (AtIntegerEnd true number) frames count around rest l c s again t i = integer_end_entered n number frames count around rest s again t i
-tag_entered n (AtIntegerEnd false number) frames count around rest l c s again t i = short_end_entered n number frames count around rest s again t i
+tag_entered n (AtIntegerEnd true number) frames count around rest l c s again t i = short_end_entered n number frames count around rest s again t i
+tag_entered n (AtIntegerEnd false number) frames count around rest l c s again t i = integer_end_entered n number frames count around rest s again t i
 tag_entered n (AtTruthEnd b) frames count around rest l c s again t i = truth_end_entered n b frames count around rest s again t i
 tag_entered n (AtTextEnd InMethod bytes) frames count around rest l c s again t i = method_text_entered n bytes frames count around rest s again t i
 tag_entered n (AtTextEnd (InName before) bytes) frames count around rest l c s again t i = name_text_entered n before bytes frames count around rest s again t i

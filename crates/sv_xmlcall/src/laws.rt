@@ -6,7 +6,8 @@ ghost use Rattle.sv_xmlcall.specs.SpelledTexts.{Spells, SpellsCall, SpellsReply}
 ghost use Rattle.sv_xmlcall.specs.Beginnings.{BeginsCall, BeginsReply, IsLongest};
 ghost use Rattle.sv_xmlcall.specs.Writable.{IsWritableCall, IsWritableReply};
 ghost use Rattle.sv_xmlcall.specs.Written.{written_call, written_reply};
-ghost use Rattle.sv_xmlcall.specs.WorkedTexts.{plain_call, declared_call, call_without_params, version_call, version_text, version_reply};
+ghost use Rattle.sv_xmlcall.specs.WorkedTexts.{plain_call, declared_call, call_without_params, version_call, version_text, version_reply, three_values, value_declared};
+ghost use Rattle.sv_xmlcall.specs.Openings.{amount_in, depth_in};
 ghost use Rattle.sv_xmlcall.specs.declared.call.Call.{Call};
 ghost use Rattle.sv_xmlcall.specs.declared.call.Answered.{Answered};
 ghost use Rattle.sv_xmlcall.specs.declared.call.CallFault.{CallFault};
@@ -36,8 +37,8 @@ pub fn written_texts_are_read()
         → OnlyReply (written_reply reply) result → IsBackReply reply result }
 {}
 
-/// A law: three texts that spell one call, the reply to it as it is written, and the place at which letters behind the call
-/// are refused.
+/// A law: three texts that spell one call, the reply to it as it is written, the place at which letters behind the call are
+/// refused, and what two fronts open.
 pub fn worked_texts()
     ensures plain { SpellsCall plain_call version_call }
     ensures declared { SpellsCall declared_call version_call }
@@ -45,4 +46,7 @@ pub fn worked_texts()
     ensures written { written_reply version_reply ≡ version_text }
     ensures good { IsLongest BeginsCall (plain_call ++ codes " x") (plain_call ++ codes " ") }
     ensures place { length (plain_call ++ codes " ") ≡ 75 }
+    ensures opened { amount_in three_values ≡ 3 }
+    ensures deep { depth_in three_values ≡ 2 }
+    ensures undeclared { amount_in value_declared ≡ 0 }
 {}

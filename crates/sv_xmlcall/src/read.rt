@@ -39,8 +39,8 @@ pub fn read_call(alloc: Global, bytes: &[u8]) -> Result<Call, CallFault>
     }
 }
 
-/// The reply that these bytes spell (the XML-RPC specification, its chapter on responses). Refused are the same bytes as
-/// by [`read_call`], but that a good front begins a reply here, in whose fault any value may stand.
+/// The reply that these bytes spell (the XML-RPC specification, its chapter on responses). Bytes are refused as by
+/// [`read_call`], by the longest front that begins a reply, in whose fault any value may stand until it is whole.
 #[tactic(auto, using(crate::proofs::DocumentLaws::fault_is))]
 pub fn read_reply(alloc: Global, bytes: &[u8]) -> Result<Answered, CallFault>
     ensures found { IfOk result (λ answered. SpellsReply bytes.now (reply_view answered)) }
