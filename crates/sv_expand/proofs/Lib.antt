@@ -5,6 +5,7 @@ pub mod OneExpansion
 pub mod PairLists
 pub mod PairsRead
 pub mod Sizes
+pub mod Turns
 pub mod UniquePairs
 pub mod UniqueParts
 pub mod UniqueWords

@@ -1,8 +1,8 @@
-ghost use Rattle.std.specs.Prelude.{◌≡◌, ◌<◌, ◌^◌, Ok, IfOk, IfErr, length, encode_utf8_all};
+ghost use Rattle.std.specs.Prelude.{◌≡◌, Ok, IfOk, IfErr};
+ghost use Rattle.std.specs.Str.{chars};
 ghost use Rattle.sv_expand.specs.Cuts.{Expands, IsLeftmost};
 ghost use Rattle.sv_expand.specs.Expansion.{expansion_of, after_all, at_start, IsFault};
 
-use crate::characters::characters_of;
 use crate::expanding::Reading;
 use crate::fault::ExpandFault;
 use crate::names::Names;
@@ -25,28 +25,22 @@ fn read_text(alloc: Global, text: &str, names: &Names) -> Result<Text, ExpandFau
     ensures text { IfOk result (λ expanded. expansion_of names.now text.now ≡ Ok expanded) }
     ensures fault { IfErr result (λ fault. IsFault fault (expansion_of names.now text.now)) }
 {
-    let characters = characters_of(alloc, text)?;
-    match read_all(alloc, names, characters.as_slice()) {
+    match read_all(alloc, text, names) {
         Ok(reading) => reading.close(),
         Err(fault) => Err(fault),
     }
 }
 
-fn read_all(alloc: Global, names: &Names, characters: &[char]) -> Result<Reading, ExpandFault>
-    requires { length (encode_utf8_all characters.now) < 2 ^ 64 }
-    ensures read { IfOk result (λ reading. after_all names.now 0 characters.now at_start ≡ Ok reading) }
-    ensures fault { IfErr result (λ fault. IsFault fault (after_all names.now 0 characters.now at_start)) }
+fn read_all(alloc: Global, text: &str, names: &Names) -> Result<Reading, ExpandFault>
+    ensures read { IfOk result (λ reading. after_all names.now 0 (chars text.now) at_start ≡ Ok reading) }
+    ensures fault { IfErr result (λ fault. IsFault fault (after_all names.now 0 (chars text.now) at_start)) }
 {
     let mut reading = Reading::new(alloc);
-    let mut at = 0;
-    let mut rest = characters;
-    while let [c, left @ ..] = rest {
-        match reading.read(alloc, names, at, *c) {
+    for (at, c) in text.char_indices() {
+        match reading.read(alloc, names, at, c) {
             Ok(()) => {}
             Err(fault) => return Err(fault),
         }
-        at += c.len_utf8();
-        rest = left;
     }
     Ok(reading)
 }

@@ -2,7 +2,6 @@
 //! value, and expansions such as `%(program_name)s`.
 #![tactic(auto)]
 
-mod characters;
 pub mod expand;
 mod expanding;
 pub mod fault;

@@ -4,7 +4,6 @@ ghost use Rattle.sv_expand.specs.declared.fault.WordFault.TheVariants.{OpenQuote
 ghost use Rattle.sv_expand.specs.WordCuts.{HasWords, HasOpenQuote};
 ghost use Rattle.sv_expand.specs.Words.{words_of, after_all, at_start};
 
-use crate::characters::characters_of;
 use crate::fault::WordFault;
 use crate::split::Reading;
 use std::alloc::{AllocError, Global};
@@ -24,22 +23,19 @@ fn read_text(alloc: Global, text: &str) -> Result<Vec<Text>, WordFault>
     ensures words { IfOk result (λ words. words_of text.now ≡ Some words.items) }
     ensures fault { result ≡ Err OpenQuote → words_of text.now ≡ None }
 {
-    let characters = characters_of(alloc, text)?;
-    let reading = read_all(alloc, characters.as_slice())?;
+    let reading = read_all(alloc, text)?;
     match reading.close()? {
         Some(words) => Ok(words),
         None => Err(WordFault::OpenQuote),
     }
 }
 
-fn read_all(alloc: Global, characters: &[char]) -> Result<Reading, AllocError>
-    ensures { IfOk result (λ reading. reading ≡ after_all characters.now at_start) }
+fn read_all(alloc: Global, text: &str) -> Result<Reading, AllocError>
+    ensures { IfOk result (λ reading. reading ≡ after_all (chars text.now) at_start) }
 {
     let mut reading = Reading::new(alloc);
-    let mut rest = characters;
-    while let [c, left @ ..] = rest {
-        reading.read(alloc, *c)?;
-        rest = left;
+    for c in text.chars() {
+        reading.read(alloc, c)?;
     }
     Ok(reading)
 }
