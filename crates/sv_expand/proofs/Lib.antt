@@ -4,6 +4,7 @@ pub mod ExpansionCuts
 pub mod OneExpansion
 pub mod PairLists
 pub mod PairsRead
+pub mod Places
 pub mod Sizes
 pub mod Turns
 pub mod UniquePairs

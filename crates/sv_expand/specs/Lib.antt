@@ -3,6 +3,7 @@ pub mod Expansion
 pub mod Faults
 pub mod PairCuts
 pub mod Pairs
+pub mod Places
 pub mod Results
 pub mod Values
 pub mod WordCuts

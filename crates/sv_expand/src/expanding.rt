@@ -4,7 +4,7 @@ ghost use Rattle.sv_expand.specs.Expansion.{is_width, text_told, number_told};
 ghost use Rattle.sv_expand.specs.declared.fault.ExpandFault.TheVariants.{OutOfMemory};
 
 use crate::fault::ExpandFault;
-use crate::names::{Names, number_of, text_of};
+use crate::names::{Names, number_of};
 use std::alloc::{AllocError, Global};
 use std::marker::Model;
 use std::mem;
@@ -207,7 +207,7 @@ fn text_told(alloc: Global, names: &Names, name: &str) -> Result<Option<Text>, A
     ensures { IfOk result (λ value. value ≡ text_told names.now name.now) }
 {
     match (
-        text_of(names.pairs.as_slice(), name),
+        names.pairs.text_of(name),
         number_of(names.numbers.as_slice(), name),
     ) {
         (Some(text), _) => Ok(Some(Text::from_str(alloc, text)?)),
@@ -227,7 +227,7 @@ fn number_told(
     ensures { IfOk result (λ value. value ≡ number_told names.now filler width name.now) }
 {
     match (
-        text_of(names.pairs.as_slice(), name),
+        names.pairs.text_of(name),
         number_of(names.numbers.as_slice(), name),
     ) {
         (None, Some(number)) => Ok(Some(to_the_right(alloc, filler, width, number)?)),

@@ -1,6 +1,6 @@
 use crate::expand::expand;
 use crate::fault::{ExpandFault, PairFault, WordFault};
-use crate::names::Names;
+use crate::names::{NamedTexts, Names};
 use crate::pairs::pairs;
 use crate::words::words;
 use std::alloc::{AllocError, Global};
@@ -296,7 +296,7 @@ fn expansion_said(alloc: Global, text: &str, names: &Names) -> Result<String, Al
 }
 
 fn names(alloc: Global) -> Result<Names, AllocError> {
-    let mut pairs = Items::new(alloc);
+    let mut pairs = NamedTexts::new(alloc);
     for (name, text) in TEXTS {
         pairs.push((Text::fixed(name), Text::fixed(text)))?;
     }
