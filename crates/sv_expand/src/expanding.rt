@@ -11,7 +11,7 @@ use std::mem;
 use sv_base::text::Text;
 
 /// Where in a text the next character stands.
-#[derive(Clone, Copy, Debug)]
+#[derive(Clone, Copy)]
 pub enum Place {
     /// Outside forms, or at an end.
     Plain,
@@ -186,8 +186,7 @@ impl Reading {
 
     /// The expansion, where the text ends here.
     pub fn close(self) -> Result<Text, ExpandFault>
-        ensures read { IfOk result (λ text. closed self ≡ Ok text) }
-        ensures fault { IfErr result (λ fault. IsFault fault (closed self)) }
+        ensures { result ≡ closed self }
     {
         let Reading {
             told,

@@ -10,7 +10,7 @@ use std::mem;
 use sv_base::text::Text;
 
 /// Where in a text the next character stands.
-#[derive(Clone, Copy, Debug)]
+#[derive(Clone, Copy)]
 pub enum Place {
     /// Before a pair, or at an end.
     Before,
@@ -219,7 +219,7 @@ impl Reading {
 fn is_white(c: char) -> bool
     ensures { result ≡ is_white c }
 {
-    c == ' ' || c == '\t' || c == '\r' || c == '\n'
+    matches!(c, ' ' | '\t' | '\r' | '\n')
 }
 
 /// Whether the character may stand in a name: a letter, a digit or `_`.

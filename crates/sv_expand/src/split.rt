@@ -1,13 +1,15 @@
-ghost use Rattle.std.specs.Prelude.{◌≡◌, OnOk, IfOk, option_map};
+ghost use Rattle.std.specs.Prelude.{◌≡◌, OnOk, IfOk, Some, None, Err};
 ghost use Rattle.sv_expand.specs.Words.{parts_words};
+ghost use Rattle.sv_expand.specs.declared.fault.WordFault.TheVariants.{OpenQuote};
 
+use crate::fault::WordFault;
 use std::alloc::{AllocError, Global};
 use std::marker::Model;
 use std::mem;
 use sv_base::text::Text;
 
 /// Where in a text the next character stands.
-#[derive(Clone, Copy, Debug)]
+#[derive(Clone, Copy)]
 pub enum Place {
     /// Between two words, or at an end.
     Between,
@@ -117,8 +119,9 @@ impl Reading {
     }
 
     /// The words, where the text ends here; none in quotes or behind a backslash.
-    pub fn close(self) -> Result<Option<Vec<Text>>, AllocError>
-        ensures { IfOk result (λ words. option_map (λ w. w.items) words ≡ closed self) }
+    pub fn close(self) -> Result<Vec<Text>, WordFault>
+        ensures words { IfOk result (λ words. closed self ≡ Some words.items) }
+        ensures fault { result ≡ Err OpenQuote → closed self ≡ None }
     {
         let Reading {
             mut words,
@@ -126,12 +129,12 @@ impl Reading {
             place,
         } = self;
         match place {
-            Place::Between => Ok(Some(words)),
+            Place::Between => Ok(words),
             Place::Bare => {
                 words.push(Text::from_string(word))?;
-                Ok(Some(words))
+                Ok(words)
             }
-            _ => Ok(None),
+            _ => Err(WordFault::OpenQuote),
         }
     }
 }
@@ -140,5 +143,5 @@ impl Reading {
 fn parts_words(c: char) -> bool
     ensures { result ≡ parts_words c }
 {
-    c == ' ' || c == '\t' || c == '\n'
+    matches!(c, ' ' | '\t' | '\n')
 }

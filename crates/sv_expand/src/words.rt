@@ -23,11 +23,7 @@ fn read_text(alloc: Global, text: &str) -> Result<Vec<Text>, WordFault>
     ensures words { IfOk result (λ words. words_of text.now ≡ Some words.items) }
     ensures fault { result ≡ Err OpenQuote → words_of text.now ≡ None }
 {
-    let reading = read_all(alloc, text)?;
-    match reading.close()? {
-        Some(words) => Ok(words),
-        None => Err(WordFault::OpenQuote),
-    }
+    read_all(alloc, text)?.close()
 }
 
 fn read_all(alloc: Global, text: &str) -> Result<Reading, AllocError>
