@@ -1,4 +1,5 @@
--- The parts of a text with expansions. A text has one cut into such parts, and its expansion is their joined values.
+-- The parts of a text with expansions. A text has one cut into such parts, and its expansion is their
+-- joined values.
 use Rattle.std.specs.Prelude.{◌≡◌, ◌≢◌, ◌==◌, ◌-◌, ℕ, List, [], ◌∷◌, ◌++◌, length, Bool, true, false, Option, Some, None, encode_utf8, encode_utf8_all, if◌then◌else◌, ⊤}
 use Rattle.std.specs.Str.{chars}
 use Rattle.sv_expand.specs.declared.fault.ExpandFault.{ExpandFault}
@@ -6,6 +7,7 @@ use Rattle.sv_expand.specs.declared.fault.ExpandFault.TheVariants.{Unknown, BadF
 use Rattle.sv_expand.specs.declared.names.Names.{Names}
 use Rattle.sv_expand.specs.Expansion.{text_told, number_told, is_width}
 
+-- a character, a percent sign, or a form with the name that stands in it
 pub data Part : Type 0 where
   Plain : (c : ℕ) → Part
   Percent : Part
@@ -23,6 +25,7 @@ written (Number name) = 37 ∷ 40 ∷ (name ++ 41 ∷ 100 ∷ [])
 written (Spaced name digit) = 37 ∷ 40 ∷ (name ++ 41 ∷ digit ∷ 100 ∷ [])
 written (Zeroed name digit) = 37 ∷ 40 ∷ (name ++ 41 ∷ 48 ∷ digit ∷ 100 ∷ [])
 
+-- how parts are written: one behind another
 abbrev pub written_all : List Part → List ℕ
 written_all [] = []
 written_all (part ∷ parts) = written part ++ written_all parts
@@ -41,6 +44,7 @@ IsPart (Number name) = is_name name ≡ true
 IsPart (Spaced name digit) = (is_name name ≡ true) × (is_width digit ≡ true)
 IsPart (Zeroed name digit) = (is_name name ≡ true) × (is_width digit ≡ true)
 
+-- the same of each of them
 abbrev pub AreParts : List Part → Type 0
 AreParts [] = ⊤
 AreParts (part ∷ parts) = IsPart part × AreParts parts
@@ -54,6 +58,7 @@ value names (Number name) = number_told names 32 0 (encode_utf8_all name)
 value names (Spaced name digit) = number_told names 32 (digit - 48) (encode_utf8_all name)
 value names (Zeroed name digit) = number_told names 48 (digit - 48) (encode_utf8_all name)
 
+-- one value behind another, where both are there
 abbrev pub joined : Option (List ℕ) → Option (List ℕ) → Option (List ℕ)
 joined (Some front) (Some back) = Some (front ++ back)
 joined front back = None
@@ -63,7 +68,7 @@ abbrev pub values : Names → List Part → Option (List ℕ)
 values names [] = Some []
 values names (part ∷ parts) = joined (value names part) (values names parts)
 
--- a text expands to the joined values of its parts, where it has a cut into parts that each have one
+-- a text expands to the joined values of its parts, where it has a cut into parts that have values
 pub record Expands (names : Names) (text whole : List ℕ) : Type 0 where
   pub parts : List Part
   pub cut : chars text ≡ written_all parts
@@ -87,7 +92,8 @@ name_in (Zeroed name digit) = encode_utf8_all name
 -- a fault stands at a place: a form whose name has no value, or a percent sign that begins no form
 abbrev pub StandsAt : Names → ℕ → List ℕ → ExpandFault → Type 0
 StandsAt names place rest (Unknown name) =
-    (part : Part) × (more : List ℕ) × (rest ≡ written part ++ more) × IsPart part × (value names part ≡ None) × (name ≡ name_in part)
+    (part : Part) × (more : List ℕ) × (rest ≡ written part ++ more) × IsPart part
+    × (value names part ≡ None) × (name ≡ name_in part)
 StandsAt names place rest (BadForm at) = (at ≡ place) × BeginsNone rest
 StandsAt names place rest OutOfMemory = ⊥
 

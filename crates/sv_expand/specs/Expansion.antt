@@ -1,4 +1,5 @@
--- Expansions in a value, as a text is read from left to right (the manual's chapter on the configuration file).
+-- Expansions in a value, as a text is read from left to right (the manual's chapter on the
+-- configuration file).
 use Rattle.std.specs.Prelude.{◌≡◌, ◌==◌, ◌+◌, ◌-◌, ℕ, List, [], ◌∷◌, ◌++◌, Bool, ◌&&◌, Option, Some, None, Result, Ok, Err, nat_le, encode_utf8, if◌then◌else◌, ⊤}
 use Rattle.std.specs.Char.{len_utf8}
 use Rattle.std.specs.Str.{chars}
@@ -14,20 +15,24 @@ use Rattle.sv_expand.specs.declared.expanding.Place.TheVariants.{Plain, Percent,
 abbrev pub text_told : Names → List ℕ → Option (List ℕ)
 text_told names name = plain_value (value_of name names.pairs) (value_of name names.numbers)
 
+-- the number of a name, printed in so many places
 abbrev pub number_told : Names → ℕ → ℕ → List ℕ → Option (List ℕ)
-number_told names filler width name = number_value filler width (value_of name names.pairs) (value_of name names.numbers)
+number_told names filler width name =
+    number_value filler width (value_of name names.pairs) (value_of name names.numbers)
 
--- what was read so far: the expansion, the name of the form that is going on and the place of its percent sign,
--- and where that leaves us
+-- what was read so far: the expansion, the name of the form that is going on and the place of its
+-- percent sign, and where that leaves us
 pub record Reached : Type 0 where
   pub told : List ℕ
   pub name : List ℕ
   pub start : ℕ
   pub place : Place
 
+-- before the first character
 abbrev pub at_start : Reached
 at_start = record { told = []; name = []; start = 0; place = Plain }
 
+-- the same, at another place of the scan
 abbrev pub moved : Place → Reached → Reached
 moved place reached = record reached { place = place }
 
@@ -39,14 +44,17 @@ with_char c reached = record reached { told = reached.told ++ encode_utf8 c; pla
 abbrev pub begun : ℕ → Reached → Reached
 begun at reached = record { told = reached.told; name = []; start = at; place = Percent }
 
+-- a character of the form's name
 abbrev pub with_name : ℕ → Reached → Reached
 with_name c reached = record reached { name = reached.name ++ encode_utf8 c }
 
 -- a form ends, and gives its value
 abbrev pub with_value : Option (List ℕ) → Reached → Result Reached ExpandFault
-with_value (Some value) reached = Ok (record reached { told = reached.told ++ value; place = Plain })
+with_value (Some value) reached =
+    Ok (record reached { told = reached.told ++ value; place = Plain })
 with_value None reached = Err (Unknown reached.name)
 
+-- the percent sign of the form that goes on begins none
 abbrev pub bad_form : Reached → Result Reached ExpandFault
 bad_form reached = Err (BadForm reached.start)
 
@@ -70,16 +78,21 @@ behind_name names c reached =
     else if is_width c then Ok (moved (Wide 32 (c - 48)) reached)
     else bad_form reached
 
+-- a character more, by where it stands
 abbrev pub after_at : Names → Place → ℕ → ℕ → Reached → Result Reached ExpandFault
-after_at names Plain at c reached = if c == 37 then Ok (begun at reached) else Ok (with_char c reached)
+after_at names Plain at c reached =
+    if c == 37 then Ok (begun at reached) else Ok (with_char c reached)
 after_at names Percent at c reached = behind_percent c reached
-after_at names Name at c reached = if c == 41 then Ok (moved Behind reached) else Ok (with_name c reached)
+after_at names Name at c reached =
+    if c == 41 then Ok (moved Behind reached) else Ok (with_name c reached)
 after_at names Behind at c reached = behind_name names c reached
 after_at names Zero at c reached =
     if is_width c then Ok (moved (Wide 48 (c - 48)) reached) else bad_form reached
 after_at names (Wide filler width) at c reached =
-    if c == 100 then with_value (number_told names filler width reached.name) reached else bad_form reached
+    if c == 100 then with_value (number_told names filler width reached.name) reached
+    else bad_form reached
 
+-- the same, by where the reading has come
 abbrev pub after : Names → ℕ → ℕ → Reached → Result Reached ExpandFault
 after names at c reached = after_at names reached.place at c reached
 
@@ -94,6 +107,7 @@ abbrev pub closed_at : Place → Reached → Result (List ℕ) ExpandFault
 closed_at Plain reached = Ok reached.told
 closed_at place reached = Err (BadForm reached.start)
 
+-- the same, by where the reading has come
 abbrev pub closed : Reached → Result (List ℕ) ExpandFault
 closed reached = closed_at reached.place reached
 

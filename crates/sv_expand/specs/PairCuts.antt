@@ -1,4 +1,5 @@
--- A text is cut into pairs NAME=VALUE parted by commas (the manual's chapter on the configuration file, `environment`).
+-- A text is cut into pairs NAME=VALUE parted by commas (the manual's chapter on the configuration file,
+-- `environment`).
 use Rattle.std.specs.Prelude.{◌≡◌, ◌≢◌, ◌==◌, ℕ, List, [], ◌∷◌, ◌++◌, length, map, Bool, false, true, not, ◌||◌, encode_utf8_all, ⊤}
 use Rattle.std.specs.List.{flat_map, list_all}
 use Rattle.std.specs.Str.{chars}
@@ -27,9 +28,11 @@ abbrev pub value_written : Value → List ℕ
 value_written (Quoted quote cs after) = quote ∷ (cs ++ quote ∷ after)
 value_written (Bare before cs after) = before ++ (cs ++ after)
 
+-- white space, the name, `=`, the value
 abbrev pub written : Pair → List ℕ
 written pair = pair.before ++ (pair.name ++ 61 ∷ value_written pair.value)
 
+-- what stands behind the last comma
 abbrev pub last_written : Last → List ℕ
 last_written (Nothing white) = white
 last_written (One pair) = written pair
@@ -38,33 +41,42 @@ last_written (One pair) = written pair
 abbrev pub listed : List Pair → List ℕ
 listed pairs = flat_map (λ pair. written pair ++ 44 ∷ []) pairs
 
+-- white space and nothing else
 abbrev pub is_blank : List ℕ → Bool
 is_blank cs = list_all is_white cs
 
+-- white space stands first
 abbrev pub begins_white : List ℕ → Bool
 begins_white [] = false
 begins_white (c ∷ cs) = is_white c
 
+-- white space stands last
 abbrev pub ends_white : List ℕ → Bool
 ends_white [] = false
 ends_white (c ∷ []) = is_white c
 ends_white (c ∷ cs) = ends_white cs
 
--- in quotes their own quote doesn't stand; bare is neither a comma nor a quote, nor white space at an end
+-- in quotes their own quote doesn't stand; bare is neither a comma nor a quote, nor white space at an
+-- end
 abbrev pub IsValue : Value → Type 0
 IsValue (Quoted quote cs after) =
     (is_quote quote ≡ true) × (list_all (λ c. not (c == quote)) cs ≡ true) × (is_blank after ≡ true)
 IsValue (Bare before cs after) =
-    (is_blank before ≡ true) × (list_all (λ c. not ((c == 44) || is_quote c)) cs ≡ true) × (begins_white cs ≡ false) × (ends_white cs ≡ false)
-    × (is_blank after ≡ true) × (cs ≡ [] → after ≡ [])
+    (is_blank before ≡ true) × (list_all (λ c. not ((c == 44) || is_quote c)) cs ≡ true)
+    × (begins_white cs ≡ false) × (ends_white cs ≡ false) × (is_blank after ≡ true) × (cs ≡ [] → after ≡ [])
 
+-- a pair has a name
 abbrev pub IsPair : Pair → Type 0
-IsPair pair = (is_blank pair.before ≡ true) × (pair.name ≢ []) × (list_all is_name_char pair.name ≡ true) × IsValue pair.value
+IsPair pair =
+    (is_blank pair.before ≡ true) × (pair.name ≢ []) × (list_all is_name_char pair.name ≡ true)
+    × IsValue pair.value
 
+-- the same of each of them
 abbrev pub ArePairs : List Pair → Type 0
 ArePairs [] = ⊤
 ArePairs (pair ∷ pairs) = IsPair pair × ArePairs pairs
 
+-- the same of what stands behind the last comma
 abbrev pub IsLast : Last → Type 0
 IsLast (Nothing white) = is_blank white ≡ true
 IsLast (One pair) = IsPair pair
@@ -74,9 +86,11 @@ abbrev pub value_told : Value → List ℕ
 value_told (Quoted quote cs after) = encode_utf8_all cs
 value_told (Bare before cs after) = encode_utf8_all cs
 
+-- the name and the value of a pair
 abbrev pub told : Pair → List ℕ × List ℕ
 told pair = (encode_utf8_all pair.name, value_told pair.value)
 
+-- none, or the last pair's
 abbrev pub last_told : Last → List (List ℕ × List ℕ)
 last_told (Nothing white) = []
 last_told (One pair) = told pair ∷ []

@@ -1,4 +1,5 @@
--- Pairs NAME=VALUE, as a text is read from left to right (the manual's chapter on the configuration file, `environment`).
+-- Pairs NAME=VALUE, as a text is read from left to right (the manual's chapter on the configuration
+-- file, `environment`).
 use Rattle.std.specs.Prelude.{◌≡◌, ◌==◌, ◌+◌, ℕ, List, [], ◌∷◌, ◌++◌, Bool, ◌&&◌, ◌||◌, Result, Ok, Err, nat_le, encode_utf8, if◌then◌else◌, ⊤}
 use Rattle.std.specs.Char.{len_utf8}
 use Rattle.std.specs.Str.{chars}
@@ -8,8 +9,8 @@ use Rattle.sv_expand.specs.declared.fault.PairFault.TheVariants.{BadPair, OutOfM
 use Rattle.sv_expand.specs.declared.pairing.Place.{Place}
 use Rattle.sv_expand.specs.declared.pairing.Place.TheVariants.{Before, Name, Equals, Led, Bare, Single, Double, Closed}
 
--- what was read so far: the pairs that are over; of the one that is going on its name, its value, the white space
--- that may be the value's end, and the place of its first byte; and where that leaves us
+-- what was read so far: the pairs that are over; of the one that is going on its name, its value, the
+-- white space that may be the value's end, and the place of its first byte; and where that leaves us
 pub record Reached : Type 0 where
   pub pairs : List (List ℕ × List ℕ)
   pub name : List ℕ
@@ -25,25 +26,37 @@ is_white c = (c == 32) || ((c == 9) || ((c == 13) || (c == 10)))
 -- a letter, a digit or `_`
 abbrev pub is_name_char : ℕ → Bool
 is_name_char c =
-    (nat_le 97 c && nat_le c 122) || ((nat_le 65 c && nat_le c 90) || ((nat_le 48 c && nat_le c 57) || (c == 95)))
+    (nat_le 97 c && nat_le c 122)
+    || ((nat_le 65 c && nat_le c 90) || ((nat_le 48 c && nat_le c 57) || (c == 95)))
 
+-- a double or a single quote
 abbrev pub is_quote : ℕ → Bool
 is_quote c = (c == 34) || (c == 39)
 
+-- before the first character
 abbrev pub at_start : Reached
 at_start = record { pairs = []; name = []; value = []; gap = []; start = 0; place = Before }
 
+-- the same, at another place of the scan
 abbrev pub moved : Place → Reached → Reached
 moved place reached = record reached { place = place }
 
 -- a pair begins
 abbrev pub begun : ℕ → ℕ → Reached → Reached
-begun at c reached =
-    record { pairs = reached.pairs; name = encode_utf8 c; value = []; gap = []; start = at; place = Name }
+begun at c reached = record {
+  pairs = reached.pairs;
+  name = encode_utf8 c;
+  value = [];
+  gap = [];
+  start = at;
+  place = Name;
+}
 
+-- a character of the name
 abbrev pub with_name : ℕ → Reached → Reached
 with_name c reached = record reached { name = reached.name ++ encode_utf8 c }
 
+-- a character of a quoted value
 abbrev pub with_quoted : ℕ → Reached → Reached
 with_quoted c reached = record reached { value = reached.value ++ encode_utf8 c }
 
@@ -51,8 +64,10 @@ with_quoted c reached = record reached { value = reached.value ++ encode_utf8 c 
 abbrev pub with_gap : ℕ → Reached → Reached
 with_gap c reached = record reached { gap = reached.gap ++ encode_utf8 c }
 
+-- a character of a bare value, behind the white space that now counts
 abbrev pub with_bare : ℕ → Reached → Reached
-with_bare c reached = record reached { value = (reached.value ++ reached.gap) ++ encode_utf8 c; gap = []; place = Bare }
+with_bare c reached =
+    record reached { value = (reached.value ++ reached.gap) ++ encode_utf8 c; gap = []; place = Bare }
 
 -- the pair is over
 abbrev pub ended : Reached → Reached
@@ -72,6 +87,7 @@ in_bare c reached =
     else if is_quote c then Err (BadPair reached.start)
     else Ok (with_bare c reached)
 
+-- a character more, by where it stands
 abbrev pub after_at : Place → ℕ → ℕ → Reached → Result Reached PairFault
 after_at Before at c reached =
     if is_white c then Ok reached
@@ -88,20 +104,24 @@ after_at Equals at c reached =
     else in_bare c reached
 after_at Led at c reached = if is_white c then Ok reached else in_bare c reached
 after_at Bare at c reached = if is_white c then Ok (with_gap c reached) else in_bare c reached
-after_at Single at c reached = if c == 39 then Ok (moved Closed reached) else Ok (with_quoted c reached)
-after_at Double at c reached = if c == 34 then Ok (moved Closed reached) else Ok (with_quoted c reached)
+after_at Single at c reached =
+    if c == 39 then Ok (moved Closed reached) else Ok (with_quoted c reached)
+after_at Double at c reached =
+    if c == 34 then Ok (moved Closed reached) else Ok (with_quoted c reached)
 after_at Closed at c reached =
     if is_white c then Ok reached
     else if c == 44 then Ok (ended reached)
     else Err (BadPair reached.start)
 
+-- the same, by where the reading has come
 abbrev pub after : ℕ → ℕ → Reached → Result Reached PairFault
 after at c reached = after_at reached.place at c reached
 
 -- the characters in turn, of which the first stands at this place
 abbrev pub after_all : ℕ → List ℕ → Reached → Result Reached PairFault
 after_all at [] reached = Ok reached
-after_all at (c ∷ cs) reached = and_then (after at c reached) (λ next. after_all (at + len_utf8 c) cs next)
+after_all at (c ∷ cs) reached =
+    and_then (after at c reached) (λ next. after_all (at + len_utf8 c) cs next)
 
 -- the pairs where the text ends: a last one may be empty, none ends in its name or in quotes
 abbrev pub closed_at : Place → Reached → Result (List (List ℕ × List ℕ)) PairFault
@@ -111,6 +131,7 @@ closed_at Single reached = Err (BadPair reached.start)
 closed_at Double reached = Err (BadPair reached.start)
 closed_at place reached = Ok (reached.pairs ++ (reached.name, reached.value) ∷ [])
 
+-- the same, by where the reading has come
 abbrev pub closed : Reached → Result (List (List ℕ × List ℕ)) PairFault
 closed reached = closed_at reached.place reached
 

@@ -1,10 +1,11 @@
--- The place of each name in a list, kept in a table. It has those that going through the list would find.
+-- The place of each name in a list, kept in a table: the one that going through the list would find.
 use Rattle.std.specs.Prelude.{◌≡◌, ℕ, List, Bool, Option, Some, None, String, if◌then◌else◌}
 use Rattle.std.specs.HashMap.{HashMap, get_by_text}
 use Rattle.std.specs.List.{position, slice_get}
 use Rattle.std.specs.Option.{option_map, option_or}
 use Rattle.std.specs.Str.{bytes_eq}
 
+-- whether a pair has this name
 abbrev pub has_name : List ℕ → List ℕ × List ℕ → Bool
 has_name name pair = bytes_eq pair.0 name
 
@@ -20,7 +21,9 @@ module _ {Y S : Type 0} where
   -- this place for this name, where it had none, and the same places for all others
   abbrev pub AddsPlace : HashMap (String Y) ℕ S → HashMap (String Y) ℕ S → List ℕ → ℕ → Type 0
   AddsPlace old new name place = (other : List ℕ)
-      → get_by_text new other ≡ option_or (get_by_text old other) (if bytes_eq name other then Some place else None)
+      → get_by_text new other
+      ≡ option_or (get_by_text old other) (if bytes_eq name other then Some place else None)
 
+  -- the table has the place of each name, and no others
   abbrev pub HasPlaces : HashMap (String Y) ℕ S → List (List ℕ × List ℕ) → Type 0
   HasPlaces places pairs = (name : List ℕ) → get_by_text places name ≡ place_of name pairs

@@ -1,18 +1,19 @@
--- A command is cut into gaps and pieces of words (the manual's chapter on the configuration file, `command`). Pieces
--- that stand side by side make one word.
+-- A command is cut into gaps and pieces of words (the manual's chapter on the configuration file,
+-- `command`). Pieces that stand side by side make one word.
 use Rattle.std.specs.Prelude.{◌≡◌, ◌==◌, ℕ, List, [], ◌∷◌, ◌++◌, Bool, true, false, not, ◌&&◌, ◌||◌, ◌⊎◌, encode_utf8, encode_utf8_all, ⊤}
 use Rattle.std.specs.List.{flat_map, list_all}
 use Rattle.std.specs.Str.{chars}
 use Rattle.sv_expand.specs.Words.{parts_words}
 
--- what stands in double quotes: a character, a backslash with the quote or the backslash that it keeps, and a backslash
--- before any other character, which both stand for themselves
+-- what stands in double quotes: a character, a backslash with the quote or the backslash that it keeps,
+-- and a backslash before any other character, which both stand for themselves
 pub data Quoted : Type 0 where
   Itself : (c : ℕ) → Quoted
   Escaped : (c : ℕ) → Quoted
   Both : (c : ℕ) → Quoted
 
--- a gap, and the pieces: a character, one behind a backslash, and what stands in single or in double quotes
+-- a gap, and the pieces: a character, one behind a backslash, and what stands in single or in double
+-- quotes
 pub data Part : Type 0 where
   Gap : (c : ℕ) → Part
   Plain : (c : ℕ) → Part
@@ -26,6 +27,7 @@ quoted_written (Itself c) = c ∷ []
 quoted_written (Escaped c) = 92 ∷ c ∷ []
 quoted_written (Both c) = 92 ∷ c ∷ []
 
+-- of a gap, and of each piece
 abbrev pub written : Part → List ℕ
 written (Gap c) = c ∷ []
 written (Plain c) = c ∷ []
@@ -33,6 +35,7 @@ written (Kept c) = 92 ∷ c ∷ []
 written (Single cs) = 39 ∷ (cs ++ 39 ∷ [])
 written (Double quoted) = 34 ∷ (flat_map quoted_written quoted ++ 34 ∷ [])
 
+-- how parts are written: one behind another
 abbrev pub written_all : List Part → List ℕ
 written_all parts = flat_map written parts
 
@@ -40,11 +43,13 @@ written_all parts = flat_map written parts
 abbrev pub is_escaped : ℕ → Bool
 is_escaped c = (c == 34) || (c == 92)
 
+-- a backslash stands alone for itself only before other characters
 abbrev pub IsQuoted : Quoted → Type 0
 IsQuoted (Itself c) = is_escaped c ≡ false
 IsQuoted (Escaped c) = is_escaped c ≡ true
 IsQuoted (Both c) = is_escaped c ≡ false
 
+-- the same of each of them
 abbrev pub AreQuoted : List Quoted → Type 0
 AreQuoted [] = ⊤
 AreQuoted (first ∷ quoted) = IsQuoted first × AreQuoted quoted
@@ -57,6 +62,7 @@ is_single cs = list_all (λ c. not (c == 39)) cs
 abbrev pub is_plain : ℕ → Bool
 is_plain c = not (parts_words c) && (not (c == 39) && not (is_escaped c))
 
+-- a gap parts words, a plain piece doesn't, and what stands in quotes doesn't close them
 abbrev pub IsPart : Part → Type 0
 IsPart (Gap c) = parts_words c ≡ true
 IsPart (Plain c) = is_plain c ≡ true
@@ -64,6 +70,7 @@ IsPart (Kept c) = ⊤
 IsPart (Single cs) = is_single cs ≡ true
 IsPart (Double quoted) = AreQuoted quoted
 
+-- the same of each of them
 abbrev pub AreParts : List Part → Type 0
 AreParts [] = ⊤
 AreParts (part ∷ parts) = IsPart part × AreParts parts
@@ -74,6 +81,7 @@ quoted_value (Itself c) = encode_utf8 c
 quoted_value (Escaped c) = encode_utf8 c
 quoted_value (Both c) = encode_utf8 92 ++ encode_utf8 c
 
+-- of a gap, and of each piece
 abbrev pub value : Part → List ℕ
 value (Gap c) = []
 value (Plain c) = encode_utf8 c
@@ -81,7 +89,8 @@ value (Kept c) = encode_utf8 c
 value (Single cs) = encode_utf8_all cs
 value (Double quoted) = flat_map quoted_value quoted
 
--- a piece before these parts, which have these words: it begins the first word, unless a gap or the end stands between
+-- a piece before these parts, which have these words: it begins the first word, unless a gap or the end
+-- stands between
 abbrev pub with_piece : List ℕ → List Part → List (List ℕ) → List (List ℕ)
 with_piece piece [] words = piece ∷ words
 with_piece piece (Gap c ∷ parts) words = piece ∷ words
@@ -107,7 +116,8 @@ IsOpen rest =
     (rest ≡ 92 ∷ [])
     ⊎ ((cs : List ℕ) × (is_single cs ≡ true) × (rest ≡ 39 ∷ cs))
     ⊎ ((quoted : List Quoted) × AreQuoted quoted × (rest ≡ 34 ∷ flat_map quoted_written quoted))
-    ⊎ ((quoted : List Quoted) × AreQuoted quoted × (rest ≡ 34 ∷ (flat_map quoted_written quoted ++ 92 ∷ [])))
+    ⊎ ((quoted : List Quoted) × AreQuoted quoted
+    × (rest ≡ 34 ∷ (flat_map quoted_written quoted ++ 92 ∷ [])))
 
 -- a text has no words where it ends so behind whole parts
 pub record HasOpenQuote (text : List ℕ) : Type 0 where

@@ -1,10 +1,11 @@
--- A command's words, as a text is read from left to right (the manual's chapter on the configuration file, `command`).
+-- A command's words, as a text is read from left to right (the manual's chapter on the configuration
+-- file, `command`).
 use Rattle.std.specs.Prelude.{◌==◌, ℕ, List, [], ◌∷◌, ◌++◌, Bool, ◌||◌, Option, Some, None, encode_utf8, if◌then◌else◌}
 use Rattle.std.specs.Str.{chars}
 use Rattle.sv_expand.specs.declared.split.Place.{Place}
 use Rattle.sv_expand.specs.declared.split.Place.TheVariants.{Between, Bare, Kept, Single, Double, DoubleKept}
 
--- what was read so far: the words that are over, the word that is going on, and where that leaves us
+-- what was read so far: the words that are over, the word that goes on, and where that leaves us
 pub record Reached : Type 0 where
   pub words : List (List ℕ)
   pub word : List ℕ
@@ -14,9 +15,11 @@ pub record Reached : Type 0 where
 abbrev pub parts_words : ℕ → Bool
 parts_words c = (c == 32) || ((c == 9) || (c == 10))
 
+-- before the first character
 abbrev pub at_start : Reached
 at_start = record { words = []; word = []; place = Between }
 
+-- the same, at another place of the scan
 abbrev pub moved : Place → Reached → Reached
 moved place reached = record reached { place = place }
 
@@ -28,7 +31,8 @@ with_char place c reached = record reached { word = reached.word ++ encode_utf8 
 abbrev pub ended : Reached → Reached
 ended reached = record { words = reached.words ++ reached.word ∷ []; word = []; place = Between }
 
--- outside quotes a quote opens a quoted part, a backslash keeps the next character, others stand for themselves
+-- outside quotes a quote opens a quoted part, a backslash keeps the next character, others stand for
+-- themselves
 abbrev pub outside : ℕ → Reached → Reached
 outside c reached =
     if c == 39 then moved Single reached
@@ -42,18 +46,23 @@ kept_in_quotes c reached =
     if (c == 34) || (c == 92) then with_char Double c reached
     else with_char Double c (with_char Double 92 reached)
 
+-- a character more, by where it stands
 abbrev pub after_at : Place → ℕ → Reached → Reached
 after_at Between c reached = if parts_words c then reached else outside c reached
 after_at Bare c reached = if parts_words c then ended reached else outside c reached
 after_at Kept c reached = with_char Bare c reached
 after_at Single c reached = if c == 39 then moved Bare reached else with_char Single c reached
 after_at Double c reached =
-    if c == 34 then moved Bare reached else if c == 92 then moved DoubleKept reached else with_char Double c reached
+    if c == 34 then moved Bare reached
+    else if c == 92 then moved DoubleKept reached
+    else with_char Double c reached
 after_at DoubleKept c reached = kept_in_quotes c reached
 
+-- the same, by where the reading has come
 abbrev pub after : ℕ → Reached → Reached
 after c reached = after_at reached.place c reached
 
+-- the characters in turn
 abbrev pub after_all : List ℕ → Reached → Reached
 after_all [] reached = reached
 after_all (c ∷ cs) reached = after_all cs (after c reached)
@@ -64,6 +73,7 @@ closed_at Between reached = Some reached.words
 closed_at Bare reached = Some (reached.words ++ reached.word ∷ [])
 closed_at place reached = None
 
+-- the same, by where the reading has come
 abbrev pub closed : Reached → Option (List (List ℕ))
 closed reached = closed_at reached.place reached
 

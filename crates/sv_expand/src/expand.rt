@@ -1,3 +1,4 @@
+//! The expansion of a text.
 ghost use Rattle.std.specs.Prelude.{◌≡◌, Ok, IfOk, IfErr};
 ghost use Rattle.std.specs.Str.{chars};
 ghost use Rattle.sv_expand.specs.Cuts.{Expands, IsLeftmost};
@@ -9,9 +10,9 @@ use crate::names::Names;
 use std::alloc::Global;
 use sv_base::text::Text;
 
-/// The expansion of a text. `%%` is a percent sign; `%(NAME)s` is the value of a name; `%(NAME)d`, `%(NAME)Nd` and
-/// `%(NAME)0Nd` print its number to the right in N places, from 1 to 9, with spaces or zeros. A text with several
-/// faults has the leftmost.
+/// The expansion of a text. `%%` is a percent sign; `%(NAME)s` is the value of a name; `%(NAME)d`,
+/// `%(NAME)Nd` and `%(NAME)0Nd` print its number to the right in N places, from 1 to 9, with spaces or
+/// zeros. A text with several faults has the leftmost.
 pub fn expand(alloc: Global, text: &str, names: &Names) -> Result<Text, ExpandFault>
     ensures text { IfOk result (λ expanded. expansion_of names.now text.now ≡ Ok expanded) }
     ensures fault { IfErr result (λ fault. IsFault fault (expansion_of names.now text.now)) }
@@ -32,8 +33,10 @@ fn read_text(alloc: Global, text: &str, names: &Names) -> Result<Text, ExpandFau
 }
 
 fn read_all(alloc: Global, text: &str, names: &Names) -> Result<Reading, ExpandFault>
-    ensures read { IfOk result (λ reading. after_all names.now 0 (chars text.now) at_start ≡ Ok reading) }
-    ensures fault { IfErr result (λ fault. IsFault fault (after_all names.now 0 (chars text.now) at_start)) }
+    ensures read { let all = after_all names.now 0 (chars text.now) at_start in
+        IfOk result (λ reading. all ≡ Ok reading) }
+    ensures fault { let all = after_all names.now 0 (chars text.now) at_start in
+        IfErr result (λ fault. IsFault fault all) }
 {
     let mut reading = Reading::new(alloc);
     for (at, c) in text.char_indices() {

@@ -1,3 +1,4 @@
+//! A text with expansions, read character by character.
 ghost use Rattle.std.specs.Prelude.{◌≡◌, ◌≤◌, ◌-◌, Ok, OnOk, IfOk, IfErr, string_bytes};
 ghost use Rattle.sv_expand.specs.Values.{filled, to_the_right};
 ghost use Rattle.sv_expand.specs.Expansion.{is_width, text_told, number_told};
@@ -43,7 +44,12 @@ impl Model for Reading {
 
     ghost Value = { Reached };
 
-    ghost view = { λ r. record { told = string_bytes r.told; name = string_bytes r.name; start = r.start; place = r.place } };
+    ghost view = { λ r. record {
+      told = string_bytes r.told;
+      name = string_bytes r.name;
+      start = r.start;
+      place = r.place;
+    } };
 }
 
 impl Reading {
@@ -61,7 +67,8 @@ impl Reading {
         }
     }
 
-    /// Reads one more character, which stands at this place. After a fault the reading is of no further use.
+    /// Reads one more character, which stands at this place. After a fault the reading is of no further
+    /// use.
     pub fn read(
         &mut self,
         alloc: Global,
@@ -146,8 +153,10 @@ impl Reading {
     }
 
     fn add_text(&mut self, alloc: Global, names: &Names) -> Result<(), ExpandFault>
-        ensures read { OnOk result (with_value (text_told names.now self.old.name) self.old ≡ Ok self.new) }
-        ensures fault { IfErr result (λ fault. IsFault fault (with_value (text_told names.now self.old.name) self.old)) }
+        ensures read { let told = text_told names.now self.old.name in
+            OnOk result (with_value told self.old ≡ Ok self.new) }
+        ensures fault { let told = text_told names.now self.old.name in
+            IfErr result (λ fault. IsFault fault (with_value told self.old)) }
     {
         let value = text_told(alloc, names, self.name.as_str())?;
         self.add_value(alloc, value)
@@ -160,8 +169,10 @@ impl Reading {
         filler: char,
         width: usize,
     ) -> Result<(), ExpandFault>
-        ensures read { OnOk result (with_value (number_told names.now filler width self.old.name) self.old ≡ Ok self.new) }
-        ensures fault { IfErr result (λ fault. IsFault fault (with_value (number_told names.now filler width self.old.name) self.old)) }
+        ensures read { let told = number_told names.now filler width self.old.name in
+            OnOk result (with_value told self.old ≡ Ok self.new) }
+        ensures fault { let told = number_told names.now filler width self.old.name in
+            IfErr result (λ fault. IsFault fault (with_value told self.old)) }
     {
         let value = number_told(alloc, names, filler, width, self.name.as_str())?;
         self.add_value(alloc, value)

@@ -1,3 +1,4 @@
+//! Why a text has no words, no pairs or no expansion.
 ghost use Rattle.sv_expand.specs.declared.fault.WordFault.TheVariants as word;
 ghost use Rattle.sv_expand.specs.declared.fault.PairFault.TheVariants as pair;
 ghost use Rattle.sv_expand.specs.declared.fault.ExpandFault.TheVariants as expand;

@@ -1,5 +1,5 @@
-//! The three small languages inside the values of a configuration: a command's words, pairs of a name and a
-//! value, and expansions such as `%(program_name)s`.
+//! The three small languages inside the values of a configuration: a command's words, pairs of a name
+//! and a value, and expansions such as `%(program_name)s`.
 #![tactic(auto)]
 
 pub mod expand;
@@ -10,6 +10,7 @@ pub mod names;
 mod pairing;
 pub mod pairs;
 mod split;
-#[cfg(test)]
-mod tests;
 pub mod words;
+
+pub use fault::{ExpandFault, PairFault, WordFault};
+pub use names::{NamedTexts, Names, number_of, text_of};

@@ -10,8 +10,8 @@ use std::marker::Model;
 use sv_base::items::Items;
 use sv_base::text::Text;
 
-/// What the names in a text stand for. Of several equal names the first counts, and the pairs stand before the
-/// numbers.
+/// What the names in a text stand for. Of several equal names the first counts, and the pairs stand
+/// before the numbers.
 #[derive(Drop)]
 pub struct Names {
     /// Names with the texts that they stand for.
@@ -69,7 +69,7 @@ impl NamedTexts {
         }
     }
 
-    /// The text of a name, where a pair has it: that of the first such pair. It is found in the table.
+    /// The text of a name, where a pair has it: that of the first such pair. The table finds it.
     pub fn text_of(&self, name: &str) -> Option<&str>
         ensures { option_map (λ text. text.now) result ≡ value_of name.now self.now }
     {

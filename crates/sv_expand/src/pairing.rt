@@ -1,3 +1,4 @@
+//! A list of pairs, read character by character.
 ghost use Rattle.std.specs.Prelude.{◌≡◌, Ok, OnOk, IfOk, IfErr, string_bytes};
 ghost use Rattle.sv_expand.specs.Pairs.{is_white, is_name_char};
 ghost use Rattle.sv_expand.specs.declared.fault.PairFault.TheVariants.{OutOfMemory};
@@ -49,7 +50,14 @@ impl Model for Reading {
 
     ghost Value = { Reached };
 
-    ghost view = { λ r. record { pairs = r.pairs.items; name = string_bytes r.name; value = string_bytes r.value; gap = string_bytes r.gap; start = r.start; place = r.place } };
+    ghost view = { λ r. record {
+      pairs = r.pairs.items;
+      name = string_bytes r.name;
+      value = string_bytes r.value;
+      gap = string_bytes r.gap;
+      start = r.start;
+      place = r.place;
+    } };
 }
 
 impl Reading {
@@ -69,7 +77,8 @@ impl Reading {
         }
     }
 
-    /// Reads one more character, which stands at this place. After a fault the reading is of no further use.
+    /// Reads one more character, which stands at this place. After a fault the reading is of no further
+    /// use.
     pub fn read(&mut self, alloc: Global, at: usize, c: char) -> Result<(), PairFault>
         ensures read { OnOk result (after at c self.old ≡ Ok self.new) }
         ensures fault { IfErr result (λ fault. IsFault fault (after at c self.old)) }

@@ -1,3 +1,4 @@
+//! The pairs NAME=VALUE of a text.
 ghost use Rattle.std.specs.Prelude.{◌≡◌, Ok, IfOk, IfErr};
 ghost use Rattle.std.specs.Str.{chars};
 ghost use Rattle.sv_expand.specs.PairCuts.{HasPairs, IsFirstBad};
@@ -8,8 +9,9 @@ use crate::pairing::Reading;
 use std::alloc::Global;
 use sv_base::text::Text;
 
-/// The pairs of a text: NAME=VALUE parted by commas, each in the order of the text. White space round a pair is
-/// dropped, and the last one may be empty. A name is of letters, digits and `_`; a value is quoted whole or bare.
+/// The pairs of a text: NAME=VALUE parted by commas, each in the order of the text. White space round a
+/// pair is dropped, and the last one may be empty. A name is of letters, digits and `_`; a value is
+/// quoted whole or bare.
 pub fn pairs(alloc: Global, text: &str) -> Result<Vec<(Text, Text)>, PairFault>
     ensures pairs { IfOk result (λ pairs. pairs_of text.now ≡ Ok pairs.items) }
     ensures fault { IfErr result (λ fault. IsFault fault (pairs_of text.now)) }

@@ -1,3 +1,4 @@
+//! A command, read character by character.
 ghost use Rattle.std.specs.Prelude.{◌≡◌, OnOk, IfOk, Some, None, Err};
 ghost use Rattle.sv_expand.specs.Words.{parts_words};
 ghost use Rattle.sv_expand.specs.declared.fault.WordFault.TheVariants.{OpenQuote};
@@ -39,7 +40,11 @@ impl Model for Reading {
 
     ghost Value = { Reached };
 
-    ghost view = { λ r. record { words = r.words.items; word = string_bytes r.word; place = r.place } };
+    ghost view = { λ r. record {
+      words = r.words.items;
+      word = string_bytes r.word;
+      place = r.place;
+    } };
 }
 
 impl Reading {

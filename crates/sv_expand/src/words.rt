@@ -1,3 +1,4 @@
+//! The words of a command.
 ghost use Rattle.std.specs.Prelude.{◌≡◌, IfOk, Some, None, Err};
 ghost use Rattle.std.specs.Str.{chars};
 ghost use Rattle.sv_expand.specs.declared.fault.WordFault.TheVariants.{OpenQuote};
@@ -9,7 +10,8 @@ use crate::split::Reading;
 use std::alloc::{AllocError, Global};
 use sv_base::text::Text;
 
-/// The words of a command. Spaces, tabs and line feeds part them; quotes and a backslash keep such characters.
+/// The words of a command. Spaces, tabs and line feeds part them; quotes and a backslash keep such
+/// characters.
 pub fn words(alloc: Global, text: &str) -> Result<Vec<Text>, WordFault>
     ensures words { IfOk result (λ words. words_of text.now ≡ Some words.items) }
     ensures fault { result ≡ Err OpenQuote → words_of text.now ≡ None }

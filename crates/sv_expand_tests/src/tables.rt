@@ -1,12 +1,13 @@
-use crate::expand::expand;
-use crate::fault::{ExpandFault, PairFault, WordFault};
-use crate::names::{NamedTexts, Names};
-use crate::pairs::pairs;
-use crate::words::words;
+//! Tables of texts, with the words, the pairs and the expansion that each has.
 use std::alloc::{AllocError, Global};
 use std::process::Abort;
 use sv_base::items::Items;
 use sv_base::text::Text;
+use sv_expand::expand::expand;
+use sv_expand::fault::{ExpandFault, PairFault, WordFault};
+use sv_expand::names::{NamedTexts, Names};
+use sv_expand::pairs::pairs;
+use sv_expand::words::words;
 
 /// A text a row, and its words, each ended by `|`, or the fault. In all tables `~` stands for a line feed, `^` for
 /// CR and a backquote for a tab.
