@@ -17,13 +17,17 @@ fn repeated(alloc: Global, piece: &str, count: usize) -> Result<String, AllocErr
     Ok(text)
 }
 
+fn named(alloc: Global, number: u32) -> Result<(Text, Text), AllocError> {
+    let name = format!(in alloc; "n{number}")?;
+    let text = format!(in alloc; "{number},")?;
+    Ok((Text::from_string(name), Text::from_string(text)))
+}
+
 /// The names `n0` to `n9999`, of which each stands for its own number and a comma.
 fn many_names(alloc: Global) -> Result<Names, AllocError> {
     let mut pairs = NamedTexts::new(alloc);
     for number in 0..10_000 {
-        let name = format!(in alloc; "n{number}")?;
-        let text = format!(in alloc; "{number},")?;
-        pairs.push((Text::from_string(name), Text::from_string(text)))?;
+        pairs.push(named(alloc, number)?)?;
     }
     let numbers = Items::new(alloc);
     Ok(Names { pairs, numbers })
