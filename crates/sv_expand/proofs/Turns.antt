@@ -1,6 +1,6 @@
 -- One character more of a text that is read from left to right: what is left of it goes on where the reading has come.
-use Rattle.std.proofs.Common.{◌≡◌, ◌+◌, ℕ, List, [], ◌∷◌, ◌++◌, IsUtf8, length, refl, ap, sym, ◌∙◌, arith}
-use Rattle.std.specs.Prelude.{Result, Ok, Err, encode_utf8}
+use Rattle.std.proofs.Common.{◌≡◌, ◌+◌, ℕ, List, [], ◌∷◌, ◌++◌, IsUtf8, length, ap, sym, ◌∙◌, arith}
+use Rattle.std.specs.Prelude.{Result, Ok, encode_utf8}
 use Rattle.std.specs.Str.{chars}
 use Rattle.std.specs.Char.{len_utf8}
 use Rattle.std.proofs.lemmas.Str.{chars-nil, chars_past_char, length-encode}

@@ -1,6 +1,5 @@
-use Rattle.std.proofs.Common.{arith, length-append, ap, ◌∙◌}
+use Rattle.std.proofs.Common.{length, ap, ◌∙◌, arith, length-append}
 use Rattle.std.proofs.lemmas.Str.{IsUtf8-past_char}
-use Rattle.std.proofs.Common.{length}
 use Rattle.std.specs.Prelude.{encode_utf8}
 use Rattle.sv_expand.proofs.Turns.{expansion_turn, expansion_end, expansion_fault}
 use Rattle.sv_expand.proofs.expand.read_all.Goals as goal
