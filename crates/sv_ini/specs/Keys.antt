@@ -21,5 +21,6 @@ with_further place text keys =
     let entry = slice_index_or keys place ([], []) in
     slice_set keys place (entry.0, entry.1 ++ 10 ∷ text)
 
+-- the section with these keys in place of its own
 abbrev pub with_keys : Section → List (List ℕ × List ℕ) → Section
 with_keys section keys = record section { keys = keys }

@@ -5,6 +5,7 @@ use Rattle.sv_ini.specs.declared.kind.LineKind.TheVariants as found
 use Rattle.sv_ini.specs.Lines.{LineKind}
 use Rattle.sv_ini.specs.Lines.LineKind.{Blank, Comment, Further, Opens, Sets, Bad}
 
+-- the line's kind, its texts as bytes and its key in lower case
 abbrev pub seen : Found → LineKind
 seen found.Blank = Blank
 seen found.Comment = Comment

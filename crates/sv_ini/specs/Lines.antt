@@ -8,12 +8,15 @@ use Rattle.std.specs.Str.{str_to_ascii_lowercase}
 abbrev pub is_blank : ℕ → Bool
 is_blank b = (b == 32) || (b == 9)
 
+-- what ends a line
 abbrev pub is_feed : ℕ → Bool
 is_feed b = b == 10
 
+-- `[`, with which the line of a section begins
 abbrev pub is_opening : ℕ → Bool
 is_opening b = b == 91
 
+-- `]`, which ends a section's name
 abbrev pub is_bracket : ℕ → Bool
 is_bracket b = b == 93
 
@@ -21,6 +24,7 @@ is_bracket b = b == 93
 abbrev pub is_separator : ℕ → Bool
 is_separator b = (b == 61) || (b == 58)
 
+-- what begins a comment behind a value
 abbrev pub is_semicolon : ℕ → Bool
 is_semicolon b = b == 59
 
@@ -28,21 +32,25 @@ is_semicolon b = b == 59
 abbrev pub is_comment_mark : ℕ → Bool
 is_comment_mark b = (b == 59) || (b == 35)
 
+-- no bytes at all
 abbrev pub is_empty : List ℕ → Bool
 is_empty [] = true
 is_empty (b ∷ bs) = false
 
+-- whether there is a first byte, and it passes
 abbrev pub begins_with : (ℕ → Bool) → List ℕ → Bool
 begins_with p [] = false
 begins_with p (b ∷ bs) = p b
 
--- without the spaces and tabs before, and without those behind
+-- without the spaces and tabs before
 abbrev pub without_indent : List ℕ → List ℕ
 without_indent bs = drop (prefix_len is_blank bs) bs
 
+-- without the spaces and tabs behind
 abbrev pub without_tail : List ℕ → List ℕ
 without_tail bs = take (length bs - suffix_len is_blank bs) bs
 
+-- without the spaces and tabs round it
 abbrev pub trimmed : List ℕ → List ℕ
 trimmed bs = without_tail (without_indent bs)
 
@@ -54,6 +62,7 @@ cut_at p bs = option_map (λ at. (take at bs, drop (at + 1) bs)) (position p bs)
 abbrev pub without_return : List ℕ → List ℕ
 without_return bs = if slice_index bs (length bs - 1) == 13 then take (length bs - 1) bs else bs
 
+-- the lines without the CR that belongs to their ends; behind the last one stands no line feed
 abbrev pub whole_lines : List (List ℕ) → List (List ℕ)
 whole_lines [] = []
 whole_lines (last ∷ []) = last ∷ []
@@ -72,6 +81,7 @@ comment_at (b ∷ bs) = if is_blank b && begins_with is_semicolon bs then 0 else
 abbrev pub value_in : List ℕ → List ℕ
 value_in bs = trimmed (take (comment_at bs) bs)
 
+-- what a line is: a blank, a comment, a further line of a value, a section, a key, or none of these
 pub data LineKind : Type 0 where
   Blank : LineKind
   Comment : LineKind
@@ -93,10 +103,12 @@ name_between (Some parts) = if not (is_empty parts.0) && is_end parts.1 then Som
 abbrev pub behind_bracket : List ℕ → Option (List ℕ)
 behind_bracket bs = if begins_with is_opening bs then Some (drop 1 bs) else None
 
+-- the name behind an opening bracket, where there is one
 abbrev pub name_inside : Option (List ℕ) → Option (List ℕ)
 name_inside None = None
 name_inside (Some bs) = name_between (cut_at is_bracket bs)
 
+-- the name of the section that a line opens
 abbrev pub section_name : List ℕ → Option (List ℕ)
 section_name content = name_inside (behind_bracket content)
 
@@ -104,8 +116,10 @@ section_name content = name_inside (behind_bracket content)
 abbrev pub key_and_value : Option (List ℕ × List ℕ) → LineKind
 key_and_value None = Bad
 key_and_value (Some parts) =
-    if is_empty (trimmed parts.0) then Bad else Sets (str_to_ascii_lowercase (trimmed parts.0)) (value_in parts.1)
+    if is_empty (trimmed parts.0) then Bad
+    else Sets (str_to_ascii_lowercase (trimmed parts.0)) (value_in parts.1)
 
+-- a section where the line has its name, and else a key with its value
 abbrev pub opens_or_sets : Option (List ℕ) → List ℕ → LineKind
 opens_or_sets (Some name) content = Opens name
 opens_or_sets None content = key_and_value (cut_at is_separator content)

@@ -20,6 +20,7 @@ text_limit = 1048576
 abbrev pub no_section : Section
 no_section = record { name = []; keys = [] }
 
+-- the section at this place
 abbrev pub section_at : ℕ → List Section → Section
 section_at place sections = slice_index_or sections place no_section
 
@@ -27,6 +28,7 @@ section_at place sections = slice_index_or sections place no_section
 abbrev pub place_of_section : List ℕ → List Section → ℕ
 place_of_section name sections = position_or_len (λ (s : Section). bytes_eq s.name name) sections
 
+-- a section of this name, which keeps the place of its first appearance
 abbrev pub with_section : List ℕ → List Section → List Section
 with_section name sections =
     if nat_lt (place_of_section name sections) (length sections) then sections
@@ -48,9 +50,12 @@ opened name reading = record {
   going = None;
 }
 
-abbrev pub in_section : ℕ → (List (List ℕ × List ℕ) → List (List ℕ × List ℕ)) → List Section → List Section
+-- a change of the keys of the section at this place
+abbrev pub in_section : ℕ → (List (List ℕ × List ℕ) → List (List ℕ × List ℕ)) → List Section
+    → List Section
 in_section place change sections =
-    slice_set sections place (with_keys (section_at place sections) (change (section_at place sections).keys))
+    slice_set sections place
+    (with_keys (section_at place sections) (change (section_at place sections).keys))
 
 -- a key of the open section, whose value is then going on
 abbrev pub set_at : ℕ → List ℕ → List ℕ → Reading → Reading
@@ -60,11 +65,13 @@ set_at place key value reading = record {
   going = Some (place_of_key key (section_at place reading.sections).keys);
 }
 
+-- a further line of the value that is going on
 abbrev pub gone_on : Option ℕ → Option ℕ → List ℕ → Reading → Reading
 gone_on (Some place) (Some key) text reading =
     record reading { sections = in_section place (with_further key text) reading.sections }
 gone_on current going text reading = reading
 
+-- a key in the open section; before any section it is a fault
 abbrev pub after_key : Option ℕ → ℕ → List ℕ → List ℕ → Reading → Result Reading IniFault
 after_key (Some place) number key value reading = Ok (set_at place key value reading)
 after_key None number key value reading = Err (OutsideSection number)
@@ -78,10 +85,13 @@ after_kind (Opens name) number reading = Ok (opened name reading)
 after_kind (Sets key value) number reading = after_key reading.current number key value reading
 after_kind Bad number reading = Err (BadLine number)
 
+-- what the line of this number makes of what was read before it
 abbrev pub after_line : ℕ → List ℕ → Reading → Result Reading IniFault
 after_line number line reading = after_kind (kind_of (is_some reading.going) line) number reading
 
-abbrev pub and_then : {A B : Type 0} → Result A IniFault → (A → Result B IniFault) → Result B IniFault
+-- goes on, unless there was a fault
+abbrev pub and_then : {A B : Type 0} → Result A IniFault → (A → Result B IniFault)
+    → Result B IniFault
 and_then (Ok x) f = f x
 and_then (Err fault) f = Err fault
 

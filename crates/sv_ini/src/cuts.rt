@@ -1,3 +1,5 @@
+//! The ways to cut a line: at a byte, at its indent, at a comment.
+
 ghost use Rattle.std.specs.Prelude.{◌≡◌, ◌<◌, ◌+◌, ◌-◌, IfSome, List, ℕ, length, take, drop, slice_index};
 ghost use Rattle.std.specs.List.{position, prefix_len, suffix_len};
 ghost use Rattle.std.specs.Option.{option_map};
@@ -116,7 +118,8 @@ fn first_separator(bytes: &[u8]) -> Option<usize>
 /// What stands before an ASCII byte, and what behind it.
 fn cut_round(text: &str, at: Option<usize>) -> Option<(&str, &str)>
     requires { IfSome at (λ i. (i < length text.now) × (slice_index text.now i < 128)) }
-    ensures cut { option_map (λ x. (x.0.now, x.1.now)) result ≡ option_map {U = List ℕ × List ℕ} (λ i. (take i text.now, drop (i + 1) text.now)) at }
+    ensures cut { option_map (λ x. (x.0.now, x.1.now)) result
+        ≡ option_map {U = List ℕ × List ℕ} (λ i. (take i text.now, drop (i + 1) text.now)) at }
     ensures text { IfSome result (λ x. IsUtf8 x.1.now) }
     ensures shorter { IfSome result (λ x. length x.1.now < length text.now) }
 {

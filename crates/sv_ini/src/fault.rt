@@ -1,3 +1,5 @@
+//! Why a configuration text is refused.
+
 ghost use Rattle.std.specs.Prelude.{◌≡◌};
 ghost use Rattle.sv_ini.specs.declared.fault.IniFault.TheVariants.{OutOfMemory};
 

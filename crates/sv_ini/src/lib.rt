@@ -13,3 +13,4 @@ pub mod section;
 pub mod sections;
 #[cfg(test)]
 mod tests;
+mod value;

@@ -1,8 +1,6 @@
+//! What was read of a text so far.
+
 ghost use Rattle.std.specs.Prelude.{◌≡◌, [], Ok, IfOk, IfErr, OnOk, Some};
-ghost use Rattle.std.specs.List.{position};
-ghost use Rattle.std.specs.Str.{bytes_eq};
-ghost use Rattle.sv_ini.specs.declared.section.Section.{Section};
-ghost use Rattle.sv_ini.specs.Sections.{place_of_section};
 
 use crate::draft::Draft;
 use crate::fault::IniFault;
@@ -13,7 +11,7 @@ use std::collections::HashMap;
 use std::marker::Model;
 use sv_base::text::Text;
 
-/// The sections that are being read, in order of first appearance, with an index by name.
+/// The sections that are being read, in order of first appearance, with their places by name.
 #[derive(Drop)]
 pub struct Drafts {
     drafts: Vec<Draft>,
@@ -21,17 +19,15 @@ pub struct Drafts {
 }
 
 impl Model for Drafts {
-    ghost use Rattle.std.specs.Prelude.{List, ℕ, ◌≡◌};
-    ghost use Rattle.std.specs.List.{position};
-    ghost use Rattle.std.specs.HashMap.{get_by_text};
-    ghost use Rattle.std.specs.Str.{bytes_eq};
+    ghost use Rattle.std.specs.Prelude.{List};
+    ghost use Rattle.sv_ini.specs.Places.{HasPlaces};
     ghost use Rattle.sv_ini.specs.declared.section.Section.{Section};
 
     ghost Value = { List Section };
 
     ghost view = { λ d. d.drafts.items };
 
-    ghost invariant = { λ d. (name : List ℕ) → get_by_text d.places name ≡ position (λ (s : Section). bytes_eq s.name name) d.drafts.items };
+    ghost invariant = { λ d. HasPlaces (λ (s : Section). s.name) d.places d.drafts.items };
 }
 
 /// What was read of a text so far.
@@ -97,7 +93,8 @@ impl Drafts {
         value: &str,
     ) -> Result<usize, AllocError>
         ensures place { IfOk result (λ at. at ≡ place_of_key key (section_at place self.old).keys) }
-        ensures after { OnOk result (self.new ≡ in_section place (with_key key value.now) self.old) }
+        ensures after { OnOk result
+            (self.new ≡ in_section place (with_key key value.now) self.old) }
     {
         if place < self.drafts.as_slice().len() {
             let draft = &mut self.drafts[place];
@@ -148,7 +145,8 @@ impl Reading {
     /// Reads one more line, which has this number. After a fault the reading is of no further use.
     pub fn read(&mut self, alloc: Global, number: usize, line: &str) -> Result<(), IniFault>
         ensures read { OnOk result (after_line number line.now self.old ≡ Ok self.new) }
-        ensures fault { IfErr result (λ fault. IsFault fault (after_line number line.now self.old)) }
+        ensures fault { IfErr result
+            (λ fault. IsFault fault (after_line number line.now self.old)) }
     {
         match kind_of(self.going.is_some(), line) {
             LineKind::Blank => self.going = None,
@@ -174,7 +172,8 @@ impl Reading {
 
     fn set(&mut self, alloc: Global, place: usize, key: &str, value: &str) -> Result<(), AllocError>
         requires { self.old.current ≡ Some place }
-        ensures { OnOk result (self.new ≡ set_at place (str_to_ascii_lowercase key.now) value.now self.old) }
+        ensures { OnOk result
+            (self.new ≡ set_at place (str_to_ascii_lowercase key.now) value.now self.old) }
     {
         let key = Text::from_string(key.to_ascii_lowercase(alloc)?);
         self.going = Some(self.sections.set(alloc, place, key, value)?);
@@ -182,7 +181,8 @@ impl Reading {
     }
 
     fn go_on(&mut self, line: &str) -> Result<(), AllocError>
-        ensures { OnOk result (self.new ≡ gone_on self.old.current self.old.going line.now self.old) }
+        ensures { OnOk result
+            (self.new ≡ gone_on self.old.current self.old.going line.now self.old) }
     {
         if let (Some(place), Some(key)) = (self.current, self.going) {
             self.sections.go_on(place, key, line)?;

@@ -1,3 +1,5 @@
+//! A section of a configuration text.
+
 use sv_base::items::Items;
 use sv_base::text::Text;
 

@@ -1,3 +1,5 @@
+//! The sections of a configuration text, or its first fault.
+
 ghost use Rattle.std.specs.Prelude.{◌≡◌, ◌≤◌, Ok, IfOk, IfErr, length};
 ghost use Rattle.sv_ini.specs.Lines.{lines_of};
 ghost use Rattle.sv_ini.specs.Sections.{text_limit, nothing_read, after_lines, sections_of, IsFault};
@@ -41,8 +43,10 @@ fn sections_of_text(alloc: Global, text: &str) -> Result<Vec<Section>, IniFault>
 /// Reads the lines in turn.
 fn read_lines(alloc: Global, text: &str) -> Result<Reading, IniFault>
     requires { length text.now ≤ text_limit }
-    ensures read { IfOk result (λ reading. after_lines 1 (lines_of text.now) nothing_read ≡ Ok reading) }
-    ensures fault { IfErr result (λ fault. IsFault fault (after_lines 1 (lines_of text.now) nothing_read)) }
+    ensures read { IfOk result
+        (λ reading. after_lines 1 (lines_of text.now) nothing_read ≡ Ok reading) }
+    ensures fault { IfErr result
+        (λ fault. IsFault fault (after_lines 1 (lines_of text.now) nothing_read)) }
 {
     let mut reading = Reading::new(alloc);
     let mut number = 1;

@@ -1,3 +1,5 @@
+//! Texts and what they say.
+
 use crate::fault::IniFault;
 use crate::section::Section;
 use crate::sections::sections;

@@ -3,6 +3,7 @@ use Rattle.std.specs.HashMap.{get_by_text}
 use Rattle.std.specs.Prelude.{Some}
 use Rattle.std.proofs.lemmas.Map.Text.{hash_map_updates_text}
 use Rattle.sv_ini.specs.Sections.{place_of_section}
+use Rattle.sv_ini.specs.declared.section.Section.{Section}
 use Rattle.sv_ini.proofs.Index.{index_added}
 use Rattle.sv_ini.proofs.reading.Drafts.add.Goals as goal
 
@@ -14,7 +15,7 @@ invariant_of-self-in-Ok c = λ name.
     let is_name = c.new-draft.ensures.name ∙ c.in_ok-from_str.ensures ∙ sym c.in_ok-key.ensures.ok in
     let far : length items ≤ c.place_of-place.result = omega (arith, ap length c.as_slice.ensures.value) in
     rw c.in_ok-push.ensures.items
-    (index_added key c.place_of-place.result (get_by_text c.self.inside.places) (get_by_text c.insert.new.self) items
+    (index_added (λ (s : Section). s.name) key c.place_of-place.result (get_by_text c.self.inside.places) (get_by_text c.insert.new.self) items
     c.new-draft.result is_name c.self.invariant
     (λ q. hash_map_updates_text key c.self.inside.places c.insert.new.self (Some c.place_of-place.result) c.in-Ok.ensures.updates q)
     is_place far name)

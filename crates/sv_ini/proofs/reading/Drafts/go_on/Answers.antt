@@ -1,12 +1,11 @@
-use Rattle.std.proofs.Common.{List, ℕ, sym, ap, ◌∙◌}
-use Rattle.std.specs.Str.{bytes_eq}
+use Rattle.std.proofs.Common.{ap, sym, ◌∙◌}
 use Rattle.sv_ini.specs.declared.section.Section.{Section}
-use Rattle.sv_ini.proofs.Index.{position_kept}
+use Rattle.sv_ini.proofs.Index.{index_kept}
 use Rattle.sv_ini.proofs.reading.Drafts.go_on.Goals as goal
 
 pub invariant_of-self-in_err-go_on : goal.invariant_of-self-in_err-go_on
 invariant_of-self-in_err-go_on c = λ name.
     let same = c.in_err-go_on.ensures.name ∙ ap (λ (s : Section). s.name) c.index_mut-draft.ensures.value in
     c.self.invariant name
-    ∙ sym (position_kept (λ (s : Section). bytes_eq s.name name) c.self.inside.drafts.items c.args.place c.go_on.new.self
-    c.index_mut-draft.result.now (ap (λ (n : List ℕ). bytes_eq n name) same))
+    ∙ sym (index_kept (λ (s : Section). s.name) c.self.inside.drafts.items c.args.place c.go_on.new.self
+    c.index_mut-draft.result.now same name)
