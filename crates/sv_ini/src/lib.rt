@@ -11,6 +11,4 @@ mod kind;
 mod reading;
 pub mod section;
 pub mod sections;
-#[cfg(test)]
-mod tests;
 mod value;

@@ -1,10 +1,10 @@
 //! Texts and what they say.
 
-use crate::fault::IniFault;
-use crate::section::Section;
-use crate::sections::sections;
 use std::alloc::{AllocError, Global};
 use std::process::Abort;
+use sv_ini::fault::IniFault;
+use sv_ini::section::Section;
+use sv_ini::sections::sections;
 
 /// A configuration text a row, and what it says: the sections, each key and value ended by a bar, or the fault.
 /// In both `~` stands for a line feed, `^` for CR, a backquote for a tab and `@` for NUL.
