@@ -1,4 +1,9 @@
 pub mod Boundaries
+pub mod FirstOnes
+pub mod GivenKeys
 pub mod Index
+pub mod KeyFolds
 pub mod LineCuts
+pub mod Names
 pub mod Places
+pub mod Steps

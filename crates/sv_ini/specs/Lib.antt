@@ -1,3 +1,4 @@
+pub mod Appearances
 pub mod Keys
 pub mod Kinds
 pub mod Lines

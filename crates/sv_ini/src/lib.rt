@@ -8,7 +8,11 @@ mod cuts;
 mod draft;
 pub mod fault;
 mod kind;
+pub mod laws;
 mod reading;
 pub mod section;
 pub mod sections;
 mod value;
+
+pub use fault::IniFault;
+pub use sections::TEXT_LIMIT;
