@@ -17,10 +17,6 @@ mod nested;
 pub mod read;
 mod simple;
 mod stop;
-#[cfg(test)]
-mod tables;
 mod tag;
-#[cfg(test)]
-mod tests;
 pub mod value;
 pub mod write;

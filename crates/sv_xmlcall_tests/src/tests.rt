@@ -1,12 +1,14 @@
-use crate::call::{Answered, Call, CallFault};
-use crate::log::text_of_log;
-use crate::read::{read_call, read_reply};
+//! What the texts of the tables spell, or where they are refused; nesting and numbers of values at their limits.
+
 use crate::tables::{
     CALLS, LOGS, NO_CALLS, NO_FORMS, NO_REPLIES, NO_TAGS, NO_TEXTS, NO_UTF8, REPLIES, VALUES,
 };
-use crate::write::{write_call, write_fault, write_reply};
 use std::alloc::Global;
 use std::process::Abort;
+use sv_xmlcall::call::{Answered, Call, CallFault};
+use sv_xmlcall::log::text_of_log;
+use sv_xmlcall::read::{read_call, read_reply};
+use sv_xmlcall::write::{write_call, write_fault, write_reply};
 
 const BEFORE_VALUE: &str = "<methodCall><methodName>m</methodName><params><param>";
 
