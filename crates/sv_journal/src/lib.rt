@@ -12,8 +12,6 @@ pub mod laws;
 mod number;
 pub mod read;
 mod stop;
-#[cfg(test)]
-mod tests;
 mod token;
 mod word;
 mod words;

@@ -1,7 +1,5 @@
-use crate::fault::LineFault;
-use crate::header::Header;
-use crate::read::{read_header, read_input};
-use crate::write::{write_input, write_order};
+//! Lines of a journal with the column at which each breaks, and values with their lines.
+
 use std::alloc::Global;
 use std::process::Abort;
 use sv_base::ids::Run;
@@ -9,6 +7,10 @@ use sv_base::items::Items;
 use sv_base::signal::Signal;
 use sv_base::state::State;
 use sv_base::text::Text;
+use sv_journal::fault::LineFault;
+use sv_journal::header::Header;
+use sv_journal::read::{read_header, read_input};
+use sv_journal::write::{write_input, write_order};
 use sv_out::order::{Order, SpawnOrder};
 
 /// A line of a long header, as it is to be read.

@@ -1,0 +1,6 @@
+//! The tests of `sv_journal`: tables of lines, each with the column at which it breaks, and the lines of values. A crate of
+//! their own, so that `sv_journal` is proved once and not a second time with its tests.
+#![tactic(auto)]
+
+#[cfg(test)]
+mod tests;
