@@ -25,7 +25,5 @@ mod stopping;
 pub mod sweep;
 mod sweeping;
 pub mod target;
-#[cfg(test)]
-mod tests;
 mod ticks;
 mod turn;

@@ -1,4 +1,5 @@
-use crate::machine::Machine;
+//! Journals of one child and of groups, each input with the orders that it brings.
+
 use std::alloc::Global;
 use std::process::Abort;
 use sv_base::config::{ClientSpec, Config, Host};
@@ -11,6 +12,7 @@ use sv_base::signal::{DaemonSignal, Signal};
 use sv_base::spec::{GroupSpec, LogSpec, Spec};
 use sv_base::state::{Autorestart, How, Level, State};
 use sv_base::text::Text;
+use sv_core::machine::Machine;
 use sv_out::input::Input;
 use sv_out::order::Order;
 
