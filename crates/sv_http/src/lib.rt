@@ -13,5 +13,3 @@ mod line;
 pub mod reader;
 pub mod reply;
 pub mod status;
-#[cfg(test)]
-mod tests;

@@ -1,13 +1,15 @@
-use crate::ask::Ask;
-use crate::guard::Guard;
-use crate::reader::HttpReader;
-use crate::reply::reply;
-use crate::status::{Refusal, Status};
+//! Streams with their asks, cut behind every byte and in single bytes, and the texts of replies.
+
 use hex::FromHex;
 use std::alloc::{AllocError, Global};
 use std::process::Abort;
 use sv_base::config::Password;
 use sv_base::text::Text;
+use sv_http::ask::Ask;
+use sv_http::guard::Guard;
+use sv_http::reader::HttpReader;
+use sv_http::reply::reply;
+use sv_http::status::{Refusal, Status};
 
 // Each line is a guard, `|`, a stream, `=>`, and the asks of the stream. In a stream `~` stands for CR LF, `_` for a line
 // feed, `%` for CR, `^` for NUL, `@` for the start line of a call, `#` for `Content-Length: ` and `$` for
