@@ -1,3 +1,5 @@
+//! Journals of long headers, which hold a configuration.
+
 use crate::tests::{Case, play};
 
 const CASES: [Case; 33] = [

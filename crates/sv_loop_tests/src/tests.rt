@@ -1,9 +1,11 @@
+//! Journals of short headers, at whole and cut, with failing sources and sinks, and at their limits.
+
 ghost use Rattle.std.specs.Prelude.{None};
 
-use crate::replay::{JOURNAL_LIMIT, replay};
 use std::alloc::Global;
 use std::process::Abort;
 use sv_base::text::Text;
+use sv_loop::replay::{JOURNAL_LIMIT, replay};
 use sv_out::failed::Failed;
 use sv_out::sink::{ListSink, Sink};
 use sv_out::source::{ListSource, Source};

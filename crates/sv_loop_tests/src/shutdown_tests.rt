@@ -1,3 +1,5 @@
+//! Journals of shutdowns, of signals and of orders that failed.
+
 use crate::tests::{Case, play};
 
 /// Journals of shutdowns, of signals and of orders that failed, with what is written.
