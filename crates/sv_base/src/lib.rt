@@ -17,7 +17,5 @@ pub mod signal;
 pub mod sizes;
 pub mod spec;
 pub mod state;
-#[cfg(test)]
-mod tests;
 pub mod text;
 pub mod words;

@@ -1,13 +1,15 @@
-use crate::bytes::Bytes;
-use crate::items::Items;
-use crate::kind::Kind;
-use crate::names::split_name;
-use crate::signal::Signal;
-use crate::sizes::size_of_text;
-use crate::text::Text;
-use crate::words::{kind_of, signal_of, truth_of};
+//! The words of tables, sizes and names, with what each stands for; and that calls succeed with ample memory.
+
 use std::alloc::{AllocError, Global};
 use std::process::Abort;
+use sv_base::bytes::Bytes;
+use sv_base::items::Items;
+use sv_base::kind::Kind;
+use sv_base::names::split_name;
+use sv_base::signal::Signal;
+use sv_base::sizes::size_of_text;
+use sv_base::text::Text;
+use sv_base::words::{kind_of, signal_of, truth_of};
 
 const SIGNALS: [(&str, Option<Signal>); 16] = [
     ("TERM", Some(Signal::Term)),
