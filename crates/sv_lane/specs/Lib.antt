@@ -1,0 +1,4 @@
+pub mod Ends
+pub mod LaneRule
+pub mod Order
+pub mod Roles

@@ -1,0 +1,17 @@
+//! A lane between threads: many seats post, one taker takes. For each seat, what was taken of it, then what of it is in
+//! the channel, is what it posted; `Taker::finish` tells it, once all posters are back.
+#![tactic(auto)]
+
+mod finishing;
+mod making;
+mod poster;
+mod role;
+mod rule;
+mod seats;
+mod steps;
+mod taker;
+
+pub use making::lane;
+pub use poster::Poster;
+pub use seats::Seats;
+pub use taker::Taker;
