@@ -13,7 +13,8 @@ use crate::signal::Signal;
 /// The signal of one of its words, in any case of letters: its name with or without `SIG`, or its number without
 /// leading zeros. `None` exactly for all other texts.
 pub fn signal_of(text: &str) -> Option<Signal>
-    ensures { (signal : Signal) → (result ≡ Some signal) ↔ SpellsSignal text.now signal }
+    ensures spells { (signal : Signal) → (result ≡ Some signal) ↔ SpellsSignal text.now signal }
+    ensures found { result ≡ find (is_signal_word (str_to_ascii_lowercase text.now)) all_signals }
 {
     first_signal(text)
 }
@@ -76,7 +77,8 @@ fn digits(signal: Signal) -> &'static str
 /// The answer that a text gives, in any case of letters: yes, true, on and 1, or no, false, off and 0. `None` exactly
 /// for all other texts.
 pub fn truth_of(text: &str) -> Option<bool>
-    ensures { (value : Bool) → (result ≡ Some value) ↔ SpellsTruth text.now value }
+    ensures spells { (value : Bool) → (result ≡ Some value) ↔ SpellsTruth text.now value }
+    ensures found { result ≡ truth_word (str_to_ascii_lowercase text.now) }
 {
     truth_word(text)
 }
@@ -113,7 +115,8 @@ fn is_false_word(text: &str) -> bool
 
 /// The event type of this name, letter for letter. `None` exactly for all other texts.
 pub fn kind_of(text: &str) -> Option<Kind>
-    ensures { (kind : Kind) → (result ≡ Some kind) ↔ (text.now ≡ kind_name kind) }
+    ensures spells { (kind : Kind) → (result ≡ Some kind) ↔ (text.now ≡ kind_name kind) }
+    ensures found { result ≡ find (λ kind. bytes_eq (kind_name kind) text.now) all_kinds }
 {
     first_kind(text)
 }
