@@ -1,10 +1,10 @@
 -- The keys of a section's processes, one process further.
 use Rattle.std.proofs.Common.{◌≡◌, ◌+◌, ◌-◌, ◌<◌, ℕ, suc, zero, List, Bool, Result, refl, arith}
-use Rattle.sv_conf.specs.KeyTable.{Keys, draft_of}
-use Rattle.sv_conf.specs.KnownNames.{with_process}
+use Rattle.sv_keys.specs.KeyTable.{Keys, draft_of}
+use Rattle.sv_keys.specs.KnownNames.{with_process}
 use Rattle.sv_conf.specs.Processes.{with_next, drafts_from}
-use Rattle.sv_conf.specs.declared.judged.KeyFault.{KeyFault}
-use Rattle.sv_conf.specs.declared.table.Draft.{Draft}
+use Rattle.sv_keys.specs.declared.judged.KeyFault.{KeyFault}
+use Rattle.sv_keys.specs.declared.table.Draft.{Draft}
 use Rattle.sv_expand.specs.declared.names.Names.{Names}
 
 pub one_draft : (listener : Bool) (program : List ℕ) (keys pairs : Keys) (count : ℕ) (done next : Result (List Draft) KeyFault) (process left : ℕ)

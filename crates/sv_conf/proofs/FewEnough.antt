@@ -1,16 +1,14 @@
 -- Groups whose names stand once are a roster where they are few enough.
-use Rattle.std.proofs.Common.{◌≡◌, ◌↔◌, ◌<◌, ◌≤◌, ◌-◌, ℕ, ◌+◌, List, [], ◌∷◌, ◌++◌, map, length, Bool, true, false, ◌&&◌, ◌⊎◌, inl, inr, refl, ap, sym, ◌∙◌, arith}
+use Rattle.std.proofs.Common.{◌≡◌, ◌↔◌, ◌<◌, ◌-◌, ℕ, ◌+◌, List, [], ◌∷◌, ◌++◌, map, length, Bool, true, false, ◌&&◌, ◌⊎◌, inl, inr, refl, arith}
 use Rattle.std.proofs.lemmas.Bool.Decides.{nat_tests}
-use Rattle.std.specs.List.{list_any, list_all}
 use Rattle.std.specs.Prelude.{Option, Some, None, Result, Ok, Err, nat_le, if◌then◌else◌}
-use Rattle.std.specs.Str.{bytes_eq}
 use Rattle.sv_base.specs.Order.{is_rising, are_distinct}
 use Rattle.sv_base.specs.Roster.{is_membership, are_memberships, fit_within, is_roster}
 use Rattle.sv_base.specs.declared.spec.GroupSpec.{GroupSpec}
 use Rattle.sv_base.specs.declared.spec.Spec.{Spec}
-use Rattle.sv_conf.proofs.Sorting.{both_true, and_true, has_name, are_new, total, sorted_is_good, total_sorted, all_sorted, new_map}
+use Rattle.sv_conf.proofs.Sorting.{and_true, has_name, are_new, total, sorted_is_good, total_sorted, all_sorted, new_map}
 use Rattle.sv_conf.specs.Configuration.{twice_at, first_twice, twice_in, or_twice, each_once, sorted_from, sorted_members, with_sorted, sorted_groups, with_groups, config_of, of_groups}
-use Rattle.sv_conf.specs.Judged.{and_then}
+use Rattle.sv_keys.specs.Judged.{and_then}
 use Rattle.sv_conf.specs.Limits.{processes, AreTooMany}
 use Rattle.sv_conf.specs.ServerSections.{or_else}
 use Rattle.sv_conf.specs.declared.fault.ConfFault.{ConfFault}

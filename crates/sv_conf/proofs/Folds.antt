@@ -1,9 +1,9 @@
 -- Folds over a list, one element further.
-use Rattle.std.proofs.Common.{◌≡◌, ◌+◌, ℕ, suc, zero, ℤ, List, [], ◌∷◌, ◌++◌, take, drop, refl, ap, add-one, ◌∙◌, sym}
+use Rattle.std.proofs.Common.{◌≡◌, ◌+◌, ℕ, suc, zero, ℤ, List, [], ◌∷◌, ◌++◌, take, drop, refl, ap, add-one, sym}
 use Rattle.sv_base.specs.declared.spec.GroupSpec.{GroupSpec}
 use Rattle.sv_conf.specs.Configuration.{with_all_keys, with_section, with_sections, placed, sorted_from}
 use Rattle.sv_conf.specs.Homes.{with_part, with_parts}
-use Rattle.sv_conf.specs.KeyTable.{Keys}
+use Rattle.sv_keys.specs.KeyTable.{Keys}
 use Rattle.sv_conf.specs.declared.homes.Part.{Part}
 use Rattle.sv_ini.specs.Keys.{with_key}
 use Rattle.sv_ini.specs.declared.section.Section.{Section}

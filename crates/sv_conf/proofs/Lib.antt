@@ -1,9 +1,7 @@
-pub mod Boundaries
+pub mod Accepted
 pub mod Drafts
 pub mod FewEnough
 pub mod Folds
 pub mod Lookups
-pub mod Parts
 pub mod Places
 pub mod Sorting
-pub mod Words

@@ -6,6 +6,7 @@ use Rattle.sv_conf.specs.declared.fault.ConfFault.TheVariants.{Ini, Missing, Bad
 use Rattle.sv_ini.specs.declared.fault.IniFault.{IniFault}
 use Rattle.sv_ini.specs.declared.fault.IniFault.TheVariants as ini
 
+-- the number of a fault; want of memory has none
 abbrev pub fault_number : ConfFault → Option ℕ
 fault_number (Ini fault) = Some 1
 fault_number (Missing section key) = Some 2
@@ -18,9 +19,11 @@ fault_number (TwiceNamed name) = Some 8
 fault_number TooMany = Some 9
 fault_number OutOfMemory = None
 
+-- a head and one part
 abbrev pub with_one : List ℕ → List ℕ → List ℕ
 with_one head part = head ++ 32 ∷ part
 
+-- a head and two parts
 abbrev pub with_two : List ℕ → List ℕ → List ℕ → List ℕ
 with_two head one other = head ++ 32 ∷ (one ++ 32 ∷ other)
 
@@ -32,6 +35,7 @@ ini_text (ini.OutsideSection line) = with_one (codes "1 Ini 3 OutsideSection") (
 ini_text ini.TooLong = codes "1 Ini 4 TooLong"
 ini_text ini.OutOfMemory = codes "out of memory"
 
+-- the printed text of a fault
 abbrev pub fault_text : ConfFault → List ℕ
 fault_text (Ini fault) = ini_text fault
 fault_text (Missing section key) = with_two (codes "2 Missing") section key

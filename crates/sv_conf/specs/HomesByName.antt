@@ -22,5 +22,6 @@ module _ {Y Z S : Type 0} where
   AddsHomes old new place group names = (program : List ℕ)
       → homes_for new program ≡ homes_for old program ++ homes_in place program group names
 
+  -- the groups that are kept are those that going through all would find
   abbrev pub HasHomes : HashMap (String Y) (Vec Home Z) S → List Named → Type 0
   HasHomes homes named = (program : List ℕ) → homes_for homes program ≡ homes_from 0 program named

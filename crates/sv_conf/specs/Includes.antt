@@ -3,16 +3,15 @@ use Rattle.std.specs.Prelude.{◌==◌, ◌-◌, ℕ, List, [], ◌∷◌, ◌++
 use Rattle.std.specs.List.{find}
 use Rattle.std.specs.Str.{bytes_eq}
 use Rattle.sv_base.specs.declared.config.Host.{Host}
-use Rattle.sv_conf.specs.Cuts.{gaps_in, is_empty}
-use Rattle.sv_conf.specs.Judged.{and_then, section_fault}
-use Rattle.sv_conf.specs.KeyNames.{key_row}
-use Rattle.sv_conf.specs.KnownNames.{host_names}
-use Rattle.sv_conf.specs.Rows.{value_at}
+use Rattle.sv_keys.specs.Cuts.{gaps_in, is_empty}
+use Rattle.sv_conf.specs.SectionFaults.{or_section_fault}
+use Rattle.sv_keys.specs.Judged.{and_then}
+use Rattle.sv_keys.specs.KeyNames.{key_name}
+use Rattle.sv_keys.specs.KnownNames.{host_names}
+use Rattle.sv_keys.specs.Rows.{value_at}
 use Rattle.sv_conf.specs.declared.fault.ConfFault.{ConfFault}
 use Rattle.sv_conf.specs.declared.fault.ConfFault.TheVariants.{Ini, Missing}
-use Rattle.sv_conf.specs.declared.judged.KeyFault.{KeyFault}
-use Rattle.sv_conf.specs.declared.key.Key.{Key}
-use Rattle.sv_conf.specs.declared.key.Key.TheVariants.{Files}
+use Rattle.sv_keys.specs.declared.key.Key.TheVariants.{Files}
 use Rattle.sv_ini.specs.Sections.{sections_of}
 use Rattle.sv_ini.specs.declared.fault.IniFault.{IniFault}
 use Rattle.sv_ini.specs.declared.section.Section.{Section}
@@ -22,6 +21,7 @@ abbrev pub or_ini : Result (List Section) IniFault → Result (List Section) Con
 or_ini (Ok sections) = Ok sections
 or_ini (Err fault) = Err (Ini fault)
 
+-- the sections of a text, or their fault as one of the configuration
 unfoldable pub sections_in : List ℕ → Result (List Section) ConfFault
 sections_in text = or_ini (sections_of text)
 
@@ -29,6 +29,7 @@ sections_in text = or_ini (sections_of text)
 abbrev pub section_named : List ℕ → List Section → Option Section
 section_named name sections = find (λ (s : Section). bytes_eq s.name name) sections
 
+-- a path from the root
 abbrev pub begins_with_slash : List ℕ → Bool
 begins_with_slash [] = false
 begins_with_slash (b ∷ bs) = b == 47
@@ -41,15 +42,16 @@ slash_behind here = if is_empty here || (slice_index here (length here - 1) == 4
 abbrev pub joined : List ℕ → List ℕ → List ℕ
 joined here pattern = if begins_with_slash pattern then pattern else here ++ (slash_behind here ++ pattern)
 
-abbrev pub patterns_in : Host → Option (Result (List ℕ) KeyFault) → Result (List (List ℕ)) ConfFault
-patterns_in host None = Err (Missing (codes "include") (key_row Files).1)
-patterns_in host (Some (Ok text)) = Ok (map (joined host.here) (gaps_in text))
-patterns_in host (Some (Err fault)) = Err (section_fault (codes "include") fault)
+-- the patterns of the value of `files`, which must be set
+abbrev pub patterns_in : Host → Option (List ℕ) → Result (List (List ℕ)) ConfFault
+patterns_in host None = Err (Missing (codes "include") (key_name Files))
+patterns_in host (Some text) = Ok (map (joined host.here) (gaps_in text))
 
 -- the patterns of an include section; without one there are none
 unfoldable pub patterns_of : Host → Option Section → Result (List (List ℕ)) ConfFault
 patterns_of host None = Ok []
-patterns_of host (Some section) = patterns_in host (value_at Files section.keys (host_names host))
+patterns_of host (Some section) =
+    and_then (or_section_fault (codes "include") (value_at Files section.keys (host_names host))) (patterns_in host)
 
 -- the patterns of the files that a configuration includes, or its first fault
 unfoldable pub includes_of : List ℕ → Host → Result (List (List ℕ)) ConfFault

@@ -1,38 +1,38 @@
 -- The processes of a section in a group.
-use Rattle.std.specs.Prelude.{◌+◌, ℕ, zero, suc, ℤ, List, [], ◌∷◌, ◌++◌, Bool, true, false, ◌&&◌, nat_lt, map, Option, Some, None, Result, Ok, Err, codes, length, if◌then◌else◌}
-use Rattle.std.specs.List.{list_any}
+use Rattle.std.specs.Prelude.{◌+◌, ℕ, zero, suc, ℤ, List, [], ◌∷◌, ◌++◌, Bool, true, false, ◌&&◌, nat_lt, map, Option, Some, None, Result, Ok, Err, codes, length}
 use Rattle.sv_base.specs.declared.config.Host.{Host}
 use Rattle.sv_base.specs.declared.spec.GroupSpec.{GroupSpec}
 use Rattle.sv_base.specs.declared.spec.LogSpec.{LogSpec}
 use Rattle.sv_base.specs.declared.spec.Spec.{Spec}
-use Rattle.sv_conf.specs.Environments.{environment_of, server_url}
-use Rattle.sv_conf.specs.Judged.{and_then, earlier, joined}
-use Rattle.sv_conf.specs.KeyNames.{key_row}
-use Rattle.sv_conf.specs.KeyTable.{Keys, or_default, numprocs, numprocs_start, draft_of, settings_of}
-use Rattle.sv_conf.specs.KnownNames.{program_pairs, without_numbers, with_count, with_process}
-use Rattle.sv_conf.specs.declared.judged.KeyFault.{KeyFault}
-use Rattle.sv_conf.specs.declared.key.Key.TheVariants.{ProcessName}
+use Rattle.sv_keys.specs.Environments.{environment_of, server_url}
+use Rattle.sv_keys.specs.Judged.{and_then, earlier, joined}
+use Rattle.sv_keys.specs.KeyNames.{key_name}
+use Rattle.sv_keys.specs.KeyTable.{Keys, or_default, numprocs, numprocs_start, draft_of, settings_of}
+use Rattle.sv_keys.specs.KnownNames.{program_pairs, without_numbers, with_count, with_process}
+use Rattle.sv_keys.specs.declared.judged.KeyFault.{KeyFault}
+use Rattle.sv_keys.specs.declared.key.Key.TheVariants.{ProcessName}
 use Rattle.sv_conf.specs.declared.processes.Common.{Common}
-use Rattle.sv_conf.specs.declared.table.Draft.{Draft}
-use Rattle.sv_conf.specs.declared.table.Log.{Log}
-use Rattle.sv_conf.specs.declared.table.Settings.{Settings}
-use Rattle.sv_conf.specs.declared.values.LogFile.{LogFile}
-use Rattle.sv_conf.specs.declared.values.LogFile.TheVariants.{Auto, Nowhere, Named}
+use Rattle.sv_keys.specs.declared.table.Draft.{Draft}
+use Rattle.sv_keys.specs.declared.table.Log.{Log}
+use Rattle.sv_keys.specs.declared.table.Settings.{Settings}
+use Rattle.sv_keys.specs.declared.values.LogFile.{LogFile}
+use Rattle.sv_keys.specs.declared.values.LogFile.TheVariants.{Auto, Nowhere, Named}
 use Rattle.sv_expand.specs.Expansion.{expansion_of}
 use Rattle.sv_expand.specs.Values.{value_of}
 use Rattle.sv_expand.specs.declared.fault.ExpandFault.{ExpandFault}
-use Rattle.sv_expand.specs.declared.names.Names.{Names}
 
 -- AUTO is a file in the directory of child logs, named for the process
 abbrev pub auto_file : List ℕ → List ℕ → List ℕ → List ℕ → List ℕ
 auto_file directory group name stream =
     directory ++ 47 ∷ (group ++ 45 ∷ (name ++ 45 ∷ (stream ++ codes ".log")))
 
+-- where a log goes
 abbrev pub file_of : LogFile → List ℕ → List ℕ → List ℕ → List ℕ → Option (List ℕ)
 file_of Auto directory group name stream = Some (auto_file directory group name stream)
 file_of Nowhere directory group name stream = None
 file_of (Named file) directory group name stream = Some file
 
+-- the log of a stream
 abbrev pub log_spec : Log → List ℕ → List ℕ → List ℕ → List ℕ → LogSpec
 log_spec log directory group name stream = record {
   file = file_of log.file directory group name stream;
@@ -91,17 +91,18 @@ abbrev pub all_drafts : Bool → List ℕ → Keys → Keys → ℕ → ℕ → 
 all_drafts listener program keys pairs count start =
     drafts_from listener program keys pairs count (Ok []) start count
 
+-- the processes of these keys
 abbrev pub all_specs : Common → Bool → List ℕ → ℤ → List Draft → List Spec
 all_specs common listener group priority drafts = map (spec_of common listener group priority) drafts
 
-unfoldable pub group_from : Common → Bool → List ℕ → Result (Settings × List Draft) KeyFault → Result GroupSpec KeyFault
-group_from common listener group (Err fault) = Err fault
-group_from common listener group (Ok read) = Ok (record {
+-- a group of these settings and processes
+unfoldable pub group_from : Common → Bool → List ℕ → Settings × List Draft → GroupSpec
+group_from common listener group read = record {
   name = group;
   priority = read.0.priority;
   members = all_specs common listener group read.0.priority read.1;
   pool = read.0.pool;
-})
+}
 
 -- the processes of a section in a group, as a group of their own
 unfoldable pub part_of : Host → Common → Bool → List ℕ → Keys → List ℕ → Result GroupSpec KeyFault
@@ -110,9 +111,10 @@ part_of host common listener program keys group =
     let names = without_numbers pairs in
     let count = or_default 1 (numprocs keys names) in
     let start = or_default 0 (numprocs_start keys names) in
-    group_from common listener group
-    (joined (settings_of listener keys names) (all_drafts listener program keys pairs count start))
+    and_then (joined (settings_of listener keys names) (all_drafts listener program keys pairs count start)) (λ read.
+    Ok (group_from common listener group read))
 
+-- the text has an expansion
 abbrev pub is_expanded : Result (List ℕ) ExpandFault → Bool
 is_expanded (Ok text) = true
 is_expanded (Err fault) = false
@@ -126,4 +128,4 @@ lacks_number pairs count (Some text) = is_expanded (expansion_of (with_count pai
 unfoldable pub needs_number : Host → List ℕ → Keys → GroupSpec → Bool
 needs_number host program keys part =
     nat_lt 1 (length part.members)
-    && lacks_number (program_pairs host program part.name) (length part.members) (value_of (key_row ProcessName).1 keys)
+    && lacks_number (program_pairs host program part.name) (length part.members) (value_of (key_name ProcessName) keys)

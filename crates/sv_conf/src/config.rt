@@ -1,6 +1,9 @@
+//! The configuration of a text and of the texts that it includes.
+
 ghost use Rattle.std.specs.Prelude.{◌≡◌, Ok, IfOk, IfErr};
 ghost use Rattle.std.specs.List.{list_any};
-ghost use Rattle.sv_conf.specs.Configuration.{has_rpc, with_groups, config_of, of_groups, of_sections, configuration_of};
+ghost use Rattle.std.specs.Str.{bytes_eq};
+ghost use Rattle.sv_conf.specs.Configuration.{has_rpc, with_groups, config_of, of_groups, of_parts, of_sections, configuration_of};
 ghost use Rattle.sv_conf.specs.FaultTexts.{IsFault};
 
 use crate::fault::ConfFault;
@@ -8,8 +11,8 @@ use crate::groups::{all_groups, each_once, sorted_groups};
 use crate::includes::{patterns_of, section_named, sections_in};
 use crate::programs::all_parts;
 use crate::sections::{all_supported, with_included};
-use crate::server::{Daemon, Decided, Others, common_of, others_of};
-use std::alloc::{AllocError, Global};
+use crate::server::{Others, common_of, others_of};
+use std::alloc::Global;
 use sv_base::bytes::Bytes;
 use sv_base::config::{Config, Host};
 use sv_base::groups::Groups;
@@ -17,75 +20,56 @@ use sv_base::items::Items;
 use sv_base::spec::GroupSpec;
 use sv_base::text::Text;
 use sv_ini::section::Section;
+use sv_keys::server_keys::Daemon;
 
 /// The configuration that a text tells, with the texts that it includes, each with the name of its file, on a host.
 /// Refused with the first fault: the text itself, its `include` section, the included texts, sections that aren't
 /// supported, programs and listeners, servers and the daemon's and client's sections, groups, names that stand twice,
 /// too many groups or processes.
+#[tactic(auto, unfolding(crate::specs::Configuration::configuration_of))]
 pub fn config(
     alloc: Global,
     main: &[u8],
     included: &[(Text, Bytes)],
     host: &Host,
 ) -> Result<Config, ConfFault>
-    ensures config { IfOk result (λ config. configuration_of main.now included.now host.now ≡ Ok config) }
-    ensures fault { IfErr result (λ fault. IsFault fault (configuration_of main.now included.now host.now)) }
+    ensures config { IfOk result (λ config.
+        configuration_of main.now included.now host.now ≡ Ok config) }
+    ensures fault { IfErr result (λ fault.
+        IsFault fault (configuration_of main.now included.now host.now)) }
 {
-    match configuration_of(alloc, main, included, host)? {
-        Ok(config) => Ok(config),
-        Err(fault) => Err(fault),
-    }
-}
-
-#[tactic(auto, unfolding(crate::specs::Configuration::configuration_of))]
-fn configuration_of(
-    alloc: Global,
-    main: &[u8],
-    included: &[(Text, Bytes)],
-    host: &Host,
-) -> Result<Decided<Config>, AllocError>
-    ensures { IfOk result (λ config. config ≡ configuration_of main.now included.now host.now) }
-{
-    let sections = match sections_in(alloc, main)? {
-        Ok(sections) => sections,
-        Err(fault) => return Ok(Err(fault)),
-    };
-    match patterns_of(alloc, host, section_named("include", sections.as_slice()))? {
-        Ok(_) => {}
-        Err(fault) => return Ok(Err(fault)),
-    }
-    match with_included(alloc, sections, included)? {
-        Ok(sections) => of_sections(alloc, host, sections.as_slice()),
-        Err(fault) => Ok(Err(fault)),
-    }
+    let sections = sections_in(alloc, main)?;
+    let _patterns = patterns_of(alloc, host, section_named("include", sections.as_slice()))?;
+    let all = with_included(alloc, sections, included)?;
+    of_sections(alloc, host, all.as_slice())
 }
 
 #[tactic(auto, unfolding(crate::specs::Configuration::of_sections))]
-fn of_sections(
+fn of_sections(alloc: Global, host: &Host, sections: &[Section]) -> Result<Config, ConfFault>
+    ensures value { IfOk result (λ value. of_sections host.now sections.now ≡ Ok value) }
+    ensures fault { IfErr result (λ fault. IsFault fault (of_sections host.now sections.now)) }
+{
+    all_supported(sections)?;
+    let others = others_of(alloc, host, sections)?;
+    let common = common_of(alloc, &others)?;
+    let parts = all_parts(alloc, host, &common, sections)?;
+    of_parts(alloc, host, sections, others?, parts)
+}
+
+#[tactic(auto, unfolding(crate::specs::Configuration::of_parts))]
+fn of_parts(
     alloc: Global,
     host: &Host,
     sections: &[Section],
-) -> Result<Decided<Config>, AllocError>
-    ensures { IfOk result (λ config. config ≡ of_sections host.now sections.now) }
+    others: Others,
+    parts: Items<Items<GroupSpec>>,
+) -> Result<Config, ConfFault>
+    ensures value { IfOk result (λ value. of_parts host.now sections.now others parts ≡ Ok value) }
+    ensures fault { IfErr result (λ fault.
+        IsFault fault (of_parts host.now sections.now others parts)) }
 {
-    match all_supported(sections)? {
-        Ok(_) => {}
-        Err(fault) => return Ok(Err(fault)),
-    }
-    let others = others_of(alloc, host, sections)?;
-    let common = common_of(alloc, &others)?;
-    let parts = match all_parts(alloc, host, &common, sections)? {
-        Ok(parts) => parts,
-        Err(fault) => return Ok(Err(fault)),
-    };
-    let others = match others {
-        Ok(others) => others,
-        Err(fault) => return Ok(Err(fault)),
-    };
-    match all_groups(alloc, host, sections, parts)? {
-        Ok(groups) => of_groups(alloc, others, has_rpc(sections), groups),
-        Err(fault) => Ok(Err(fault)),
-    }
+    let groups = all_groups(alloc, host, sections, parts)?;
+    of_groups(alloc, others, has_rpc(sections), groups)
 }
 
 fn has_rpc(sections: &[Section]) -> bool
@@ -100,20 +84,19 @@ fn of_groups(
     others: Others,
     rpc: bool,
     groups: Items<GroupSpec>,
-) -> Result<Decided<Config>, AllocError>
-    ensures { IfOk result (λ config. config ≡ of_groups others rpc groups) }
+) -> Result<Config, ConfFault>
+    ensures value { IfOk result (λ value. of_groups others rpc groups ≡ Ok value) }
+    ensures fault { IfErr result (λ fault. IsFault fault (of_groups others rpc groups)) }
 {
-    match each_once(groups.as_slice())? {
-        Ok(_) => {}
-        Err(fault) => return Ok(Err(fault)),
-    }
+    each_once(groups.as_slice())?;
     let groups = sorted_groups(alloc, groups)?;
-    Ok(config_of(others, rpc, groups))
+    config_of(others, rpc, groups)
 }
 
 #[tactic(auto, unfolding(crate::specs::Configuration::config_of))]
-fn config_of(others: Others, rpc: bool, groups: Vec<GroupSpec>) -> Decided<Config>
-    ensures { result ≡ config_of others rpc groups.items }
+fn config_of(others: Others, rpc: bool, groups: Vec<GroupSpec>) -> Result<Config, ConfFault>
+    ensures value { IfOk result (λ value. config_of others rpc groups.items ≡ Ok value) }
+    ensures fault { IfErr result (λ fault. IsFault fault (config_of others rpc groups.items)) }
 {
     match Groups::new(groups) {
         Some(groups) => Ok(with_groups(others, rpc, groups)),

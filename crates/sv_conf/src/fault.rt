@@ -1,3 +1,5 @@
+//! Why a configuration is refused.
+
 ghost use Rattle.std.specs.Prelude.{◌≡◌, ◌++◌, ◌∷◌, IfOk};
 ghost use Rattle.std.specs.Fmt.{decimal};
 ghost use Rattle.sv_conf.specs.declared.fault.ConfFault.TheVariants.{OutOfMemory};

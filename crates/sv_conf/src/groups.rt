@@ -1,5 +1,13 @@
-ghost use Rattle.std.specs.Prelude.{◌≡◌, ◌++◌, ◌≤◌, [], IfOk, OnOk, List, ℤ, ℕ, map, length, codes};
-ghost use Rattle.sv_conf.specs.ProgramNames.{titled};
+//! The groups of a configuration, each name once, in start order.
+
+ghost use Rattle.std.specs.Prelude.{◌≡◌, ◌++◌, ◌≤◌, [], Ok, true, false, IfOk, IfErr, OnOk, List, ℤ, ℕ, map, length, codes};
+ghost use Rattle.sv_conf.specs.FaultTexts.{IsFault};
+ghost use Rattle.sv_conf.specs.SectionFaults.{or_section_fault};
+ghost use Rattle.sv_keys.specs.KeyTable.{priority};
+ghost use Rattle.sv_keys.specs.Rows.{needed};
+ghost use Rattle.sv_keys.specs.Values.{programs_of};
+ghost use Rattle.sv_keys.specs.declared.key.Key.TheVariants as key;
+ghost use Rattle.sv_keys.specs.ProgramNames.{titled};
 ghost use Rattle.std.specs.List.{find, list_any, prefix_len};
 ghost use Rattle.std.specs.Option.{option_map};
 ghost use Rattle.std.specs.Ordering.{is_lt};
@@ -11,12 +19,8 @@ ghost use Rattle.sv_conf.specs.Titles.{has_title, AddsTitle, HasTitles};
 ghost use Rattle.sv_conf.specs.Configuration.{is_program, is_missing, missing_in, members_of, group_at, groups_by, groups_from, all_groups, twice_at, first_twice, twice_in, each_once, placed, sorted_from, sorted_members, with_sorted, sorted_groups};
 
 use crate::fault::ConfFault;
-use crate::key::Key;
 use crate::programs::named_section;
-use crate::server::{Decided, is_set, missing, or_section_fault};
-use crate::table::priority;
-use crate::titles::titled;
-use crate::{names, rows};
+use crate::section_faults::{must_have, section_fault};
 use std::alloc::{AllocError, Global};
 use std::collections::HashSet;
 use std::marker::Model;
@@ -27,6 +31,13 @@ use sv_base::spec::{GroupSpec, Spec};
 use sv_base::text::Text;
 use sv_expand::names::Names;
 use sv_ini::section::Section;
+use sv_keys::judged::Unread;
+use sv_keys::key::Key;
+use sv_keys::names;
+use sv_keys::rows::needed;
+use sv_keys::table::priority;
+use sv_keys::titles::titled;
+use sv_keys::values::Programs;
 
 /// The sections of all texts, with their titles.
 #[derive(Drop)]
@@ -95,20 +106,20 @@ fn missing_in(
     sections: &Titled,
     group: &str,
     programs: &[Text],
-) -> Result<Decided<bool>, AllocError>
-    ensures { IfOk result (λ good. good ≡ missing_in group.now (find (is_missing sections.now) programs.now)) }
+) -> Result<(), ConfFault>
+    ensures good { IfOk result (λ _.
+        missing_in group.now (find (is_missing sections.now) programs.now) ≡ Ok true) }
+    ensures fault { IfErr result (λ fault.
+        IsFault fault (missing_in group.now (find (is_missing sections.now) programs.now))) }
 {
     let mut left = programs;
     while let [program, rest @ ..] = left {
         if !is_program(alloc, sections, program.as_str())? {
-            return Ok(Err(ConfFault::NoSuchProgram(
-                Text::from_str(alloc, group)?,
-                program.clone()?,
-            )));
+            return Err(ConfFault::NoSuchProgram(Text::from_str(alloc, group)?, program.clone()?));
         }
         left = rest;
     }
-    Ok(Ok(true))
+    Ok(())
 }
 
 fn members_of(alloc: Global, parts: Items<GroupSpec>) -> Result<Items<Spec>, AllocError>
@@ -130,6 +141,46 @@ fn add_members(members: &mut Items<Spec>, more: Items<Spec>) -> Result<(), Alloc
     Ok(())
 }
 
+/// The programs that a group names.
+fn programs_in(
+    alloc: Global,
+    title: &str,
+    keys: &[(Text, Text)],
+    names: &Names,
+) -> Result<Items<Text>, ConfFault>
+    ensures value { IfOk result (λ value.
+        or_section_fault title.now (needed key.Programs programs_of keys.now names.now)
+        ≡ Ok value) }
+    ensures fault { IfErr result (λ fault.
+        IsFault fault
+        (or_section_fault title.now (needed key.Programs programs_of keys.now names.now))) }
+{
+    match needed::<Programs>(alloc, Key::Programs, keys, names) {
+        Ok(value) => Ok(value),
+        Err(Unread::Faulty(fault)) => Err(section_fault(alloc, title, fault)?),
+        Err(Unread::OutOfMemory) => Err(ConfFault::OutOfMemory),
+    }
+}
+
+/// The priority of a group.
+fn priority_in(
+    alloc: Global,
+    title: &str,
+    keys: &[(Text, Text)],
+    names: &Names,
+) -> Result<i32, ConfFault>
+    ensures value { IfOk result (λ value.
+        or_section_fault title.now (priority false keys.now names.now) ≡ Ok value) }
+    ensures fault { IfErr result (λ fault.
+        IsFault fault (or_section_fault title.now (priority false keys.now names.now))) }
+{
+    match priority(alloc, false, keys, names) {
+        Ok(value) => Ok(value),
+        Err(Unread::Faulty(fault)) => Err(section_fault(alloc, title, fault)?),
+        Err(Unread::OutOfMemory) => Err(ConfFault::OutOfMemory),
+    }
+}
+
 #[tactic(auto, unfolding(crate::specs::Configuration::group_at))]
 fn group_at(
     alloc: Global,
@@ -139,35 +190,23 @@ fn group_at(
     group: &str,
     keys: &[(Text, Text)],
     parts: Items<GroupSpec>,
-) -> Result<Decided<GroupSpec>, AllocError>
-    ensures { IfOk result (λ made. made ≡ group_at sections.now names.now title.now group.now keys.now parts) }
+) -> Result<GroupSpec, ConfFault>
+    ensures value { IfOk result (λ value.
+        group_at sections.now names.now title.now group.now keys.now parts ≡ Ok value) }
+    ensures fault { IfErr result (λ fault.
+        IsFault fault (group_at sections.now names.now title.now group.now keys.now parts)) }
 {
-    if !is_set(Key::Programs, keys) {
-        return Ok(Err(missing(alloc, title, Key::Programs)?));
-    }
-    match named_section(alloc, title, group)? {
-        Ok(_) => {}
-        Err(fault) => return Ok(Err(fault)),
-    }
-    let programs = rows::programs(alloc, Key::Programs, keys, names)?;
-    let programs = match or_section_fault(alloc, title, programs)? {
-        Ok(programs) => programs,
-        Err(fault) => return Ok(Err(fault)),
-    };
-    let priority = priority(alloc, false, keys, names)?;
-    let priority = match or_section_fault(alloc, title, priority)? {
-        Ok(priority) => priority,
-        Err(fault) => return Ok(Err(fault)),
-    };
-    match missing_in(alloc, sections, group, programs.as_slice())? {
-        Ok(_) => Ok(Ok(GroupSpec {
-            name: Text::from_str(alloc, group)?,
-            priority,
-            members: members_of(alloc, parts)?,
-            pool: None,
-        })),
-        Err(fault) => Ok(Err(fault)),
-    }
+    must_have(alloc, title, Key::Programs, keys)?;
+    named_section(alloc, title, group)?;
+    let programs = programs_in(alloc, title, keys, names)?;
+    let priority = priority_in(alloc, title, keys, names)?;
+    missing_in(alloc, sections, group, programs.as_slice())?;
+    Ok(GroupSpec {
+        name: Text::from_str(alloc, group)?,
+        priority,
+        members: members_of(alloc, parts)?,
+        pool: None,
+    })
 }
 
 /// The groups that a section makes, behind those of the sections before it.
@@ -178,21 +217,23 @@ fn groups_by(
     names: &Names,
     section: &Section,
     parts: Items<GroupSpec>,
-) -> Result<Decided<Items<GroupSpec>>, AllocError>
-    ensures { IfOk result (λ made. made ≡ groups_by sections.now names.now section.now parts (titled (codes "group") section.now.name)) }
+) -> Result<Items<GroupSpec>, ConfFault>
+    ensures value { IfOk result (λ value.
+        groups_by sections.now names.now section.now parts (titled (codes "group") section.now.name)
+        ≡ Ok value) }
+    ensures fault { IfErr result (λ fault.
+        IsFault fault
+        (groups_by sections.now names.now section.now parts (titled (codes "group") section.now.name))) }
 {
     let title = section.name.as_str();
     let keys = section.keys.as_slice();
     match titled("group", title) {
-        None => Ok(Ok(parts)),
-        Some(group) => match group_at(alloc, sections, names, title, group, keys, parts)? {
-            Ok(made) => {
-                let mut groups = Items::new(alloc);
-                groups.push(made)?;
-                Ok(Ok(groups))
-            }
-            Err(fault) => Ok(Err(fault)),
-        },
+        None => Ok(parts),
+        Some(group) => {
+            let mut groups = Items::new(alloc);
+            groups.push(group_at(alloc, sections, names, title, group, keys, parts)?)?;
+            Ok(groups)
+        }
     }
 }
 
@@ -203,8 +244,9 @@ pub fn all_groups(
     host: &Host,
     sections: &[Section],
     parts: Items<Items<GroupSpec>>,
-) -> Result<Decided<Items<GroupSpec>>, AllocError>
-    ensures { IfOk result (λ groups. groups ≡ all_groups host.now sections.now parts) }
+) -> Result<Items<GroupSpec>, ConfFault>
+    ensures value { IfOk result (λ value. all_groups host.now sections.now parts ≡ Ok value) }
+    ensures fault { IfErr result (λ fault. IsFault fault (all_groups host.now sections.now parts)) }
 {
     let names = names::host_names(alloc, host)?;
     let titled = Titled::new(alloc, sections)?;
@@ -213,15 +255,15 @@ pub fn all_groups(
     let mut left = sections;
     while let [section, rest @ ..] = left {
         let Some(part) = there.next() else {
-            return Ok(Ok(groups));
+            return Ok(groups);
         };
-        match groups_by(alloc, &titled, &names, section, part)? {
-            Ok(made) => add_groups(&mut groups, made)?,
-            Err(fault) => return Ok(Err(fault)),
-        }
+        add_groups(
+            &mut groups,
+            groups_by(alloc, &titled, &names, section, part)?,
+        )?;
         left = rest;
     }
-    Ok(Ok(groups))
+    Ok(groups)
 }
 
 fn add_groups(groups: &mut Items<GroupSpec>, more: Items<GroupSpec>) -> Result<(), AllocError>
@@ -284,22 +326,23 @@ fn twice_in<'a>(before: &[GroupSpec], group: &'a GroupSpec) -> Option<&'a Text>
     first_twice(group.members.as_slice())
 }
 
-/// Whether each name stands once, or the first that stands twice as a fault.
+/// Nothing where each name stands once, else the first that stands twice as a fault.
 #[tactic(auto, using(crate::proofs::Folds::taken_more, crate::proofs::Folds::dropped_more))]
-pub fn each_once(groups: &[GroupSpec]) -> Result<Decided<bool>, AllocError>
-    ensures { IfOk result (λ once. once ≡ each_once [] groups.now) }
+pub fn each_once(groups: &[GroupSpec]) -> Result<(), ConfFault>
+    ensures good { IfOk result (λ _. each_once [] groups.now ≡ Ok true) }
+    ensures fault { IfErr result (λ fault. IsFault fault (each_once [] groups.now)) }
 {
     let mut place = 0;
     let mut left = groups;
     while let [group, rest @ ..] = left {
         match twice_in(&groups[..place], group) {
-            Some(name) => return Ok(Err(ConfFault::TwiceNamed(name.clone()?))),
+            Some(name) => return Err(ConfFault::TwiceNamed(name.clone()?)),
             None => {}
         }
         place += 1;
         left = rest;
     }
-    Ok(Ok(true))
+    Ok(())
 }
 
 /// How many of these start before this one.

@@ -1,14 +1,15 @@
+//! Which groups the processes of a section belong to.
+
 ghost use Rattle.std.specs.Prelude.{◌≡◌, ◌++◌, ◌+◌, ◌≤◌, IfOk, OnOk, length};
 ghost use Rattle.sv_conf.specs.Homes.{named_by, named_in, all_named, homes_in, homes_from, own_home, or_own, homes_of, with_part, with_parts};
 ghost use Rattle.sv_conf.specs.HomesByName.{AddsHome, AddsHomes, HasHomes};
 ghost use Rattle.std.specs.Option.{option_map};
 ghost use Rattle.std.specs.Prelude.{[], ◌∷◌};
-ghost use Rattle.sv_conf.specs.KeyTable.{or_default};
+ghost use Rattle.sv_keys.specs.KeyTable.{or_default};
+ghost use Rattle.sv_keys.specs.Rows.{needed};
+ghost use Rattle.sv_keys.specs.Values.{programs_of};
+ghost use Rattle.sv_keys.specs.declared.key.Key.TheVariants as key;
 
-use crate::judged::Judged;
-use crate::key::Key;
-use crate::titles::titled;
-use crate::{names, rows};
 use std::alloc::{AllocError, Global};
 use std::collections::HashMap;
 use std::marker::Model;
@@ -18,16 +19,22 @@ use sv_base::spec::GroupSpec;
 use sv_base::text::Text;
 use sv_expand::names::Names;
 use sv_ini::section::Section;
+use sv_keys::judged::Unread;
+use sv_keys::key::Key;
+use sv_keys::names;
+use sv_keys::rows::needed;
+use sv_keys::titles::titled;
+use sv_keys::values::Programs;
 
 /// What a section names as a group; nothing where it isn't one.
-#[derive(Debug, Drop)]
+#[derive(Drop)]
 pub struct Named {
     pub group: Text,
     pub programs: Items<Text>,
 }
 
 /// A group that a program belongs to: the place of the section that makes it, and its name.
-#[derive(Debug, Drop)]
+#[derive(Drop)]
 pub struct Home {
     pub place: usize,
     pub group: Text,
@@ -68,18 +75,15 @@ impl NamedGroups {
 }
 
 /// The processes of a section in a group, and the place of the section that makes the group.
-#[derive(Debug, Drop)]
+#[derive(Drop)]
 pub struct Part {
     pub place: usize,
     pub group: GroupSpec,
 }
 
-fn named_by(
-    alloc: Global,
-    group: Option<&str>,
-    programs: Judged<Items<Text>>,
-) -> Result<Named, AllocError>
-    ensures { IfOk result (λ named. named ≡ named_by (option_map (λ x. x.now) group.entry) programs) }
+fn named_by(alloc: Global, group: Option<&str>, programs: Items<Text>) -> Result<Named, AllocError>
+    ensures { IfOk result (λ named.
+        named ≡ named_by (option_map (λ x. x.now) group.entry) programs) }
 {
     match group {
         None => Ok(Named {
@@ -88,17 +92,24 @@ fn named_by(
         }),
         Some(group) => Ok(Named {
             group: Text::from_str(alloc, group)?,
-            programs: or_none(alloc, programs),
+            programs,
         }),
     }
 }
 
-fn or_none(alloc: Global, programs: Judged<Items<Text>>) -> Items<Text>
-    ensures { result ≡ or_default [] programs }
+/// The programs that a section names, none where its list is faulty.
+fn programs_in(
+    alloc: Global,
+    keys: &[(Text, Text)],
+    names: &Names,
+) -> Result<Items<Text>, AllocError>
+    ensures { IfOk result (λ programs.
+        programs ≡ or_default [] (needed key.Programs programs_of keys.now names.now)) }
 {
-    match programs {
-        Ok(programs) => programs,
-        Err(_) => Items::new(alloc),
+    match needed::<Programs>(alloc, Key::Programs, keys, names) {
+        Ok(programs) => Ok(programs),
+        Err(Unread::Faulty(_)) => Ok(Items::new(alloc)),
+        Err(Unread::OutOfMemory) => Err(AllocError),
     }
 }
 
@@ -106,7 +117,7 @@ fn or_none(alloc: Global, programs: Judged<Items<Text>>) -> Items<Text>
 fn named_in(alloc: Global, names: &Names, section: &Section) -> Result<Named, AllocError>
     ensures { IfOk result (λ named. named ≡ named_in names.now section.now) }
 {
-    let programs = rows::programs(alloc, Key::Programs, section.keys.as_slice(), names)?;
+    let programs = programs_in(alloc, section.keys.as_slice(), names)?;
     named_by(alloc, titled("group", section.name.as_str()), programs)
 }
 

@@ -1,67 +1,57 @@
+//! Which files a configuration includes.
+
 ghost use Rattle.std.specs.Prelude.{◌≡◌, ◌++◌, [], Ok, IfOk, IfErr, List, ℕ, map, codes, Option, Some, None};
 ghost use Rattle.std.specs.List.{find};
 ghost use Rattle.std.specs.Option.{option_map};
 ghost use Rattle.std.specs.Str.{bytes_eq};
 ghost use Rattle.sv_conf.specs.FaultTexts.{IsFault};
 ghost use Rattle.sv_conf.specs.Includes.{sections_in, section_named, begins_with_slash, slash_behind, joined, patterns_in, patterns_of, includes_of};
+ghost use Rattle.sv_conf.specs.SectionFaults.{or_section_fault};
+ghost use Rattle.sv_keys.specs.Rows.{value_at};
+ghost use Rattle.sv_keys.specs.declared.key.Key.TheVariants.{Files};
 ghost use Rattle.sv_ini.specs.declared.section.Section.{Section};
 
 use crate::fault::ConfFault;
-use crate::judged::Judged;
-use crate::key::Key;
-use crate::{cuts, names, rows};
+use crate::section_faults::section_fault;
 use std::alloc::{AllocError, Global};
 use sv_base::config::Host;
 use sv_base::items::Items;
 use sv_base::text::Text;
+use sv_expand::names::Names;
 use sv_ini::fault::IniFault;
 use sv_ini::section::Section;
 use sv_ini::sections::sections;
+use sv_keys::judged::Unread;
+use sv_keys::key::Key;
+use sv_keys::rows::value_at;
+use sv_keys::{cuts, names};
 
 /// The patterns of the files that a configuration text includes: those of its `include` section, expanded, in order,
 /// a relative one joined to the directory of the configuration file. Refused as `Ini` where the text has no sections,
 /// as `Missing` where the section has no `files`, as `Expand` where they can't be expanded.
+#[tactic(auto, unfolding(crate::specs::Includes::includes_of))]
 pub fn includes(alloc: Global, main: &[u8], host: &Host) -> Result<Vec<Text>, ConfFault>
     ensures patterns { IfOk result (λ patterns. includes_of main.now host.now ≡ Ok patterns.items) }
     ensures fault { IfErr result (λ fault. IsFault fault (includes_of main.now host.now)) }
 {
-    match patterns_of_text(alloc, main, host)? {
-        Ok(patterns) => Ok(patterns.into_vec()),
-        Err(fault) => Err(fault),
-    }
-}
-
-#[tactic(auto, unfolding(crate::specs::Includes::includes_of))]
-fn patterns_of_text(
-    alloc: Global,
-    main: &[u8],
-    host: &Host,
-) -> Result<Result<Items<Text>, ConfFault>, AllocError>
-    ensures { IfOk result (λ patterns. patterns ≡ includes_of main.now host.now) }
-{
-    match sections_in(alloc, main)? {
-        Ok(sections) => { patterns_of(alloc, host, section_named("include", sections.as_slice())) }
-        Err(fault) => Ok(Err(fault)),
-    }
+    let sections = sections_in(alloc, main)?;
+    let patterns = patterns_of(alloc, host, section_named("include", sections.as_slice()))?;
+    Ok(patterns.into_vec())
 }
 
 /// The sections of a text.
 #[tactic(auto, unfolding(crate::specs::Includes::sections_in))]
-pub fn sections_in(
-    alloc: Global,
-    text: &[u8],
-) -> Result<Result<Items<Section>, ConfFault>, AllocError>
-    ensures { IfOk result (λ sections. sections ≡ sections_in text.now) }
+pub fn sections_in(alloc: Global, text: &[u8]) -> Result<Items<Section>, ConfFault>
+    ensures value { IfOk result (λ value. sections_in text.now ≡ Ok value) }
+    ensures fault { IfErr result (λ fault. IsFault fault (sections_in text.now)) }
 {
     match sections(alloc, text) {
-        Ok(sections) => Ok(Ok(Items::from_vec(sections))),
-        Err(IniFault::OutOfMemory) => Err(AllocError),
-        Err(IniFault::TooLong) => Ok(Err(ConfFault::Ini(IniFault::TooLong))),
-        Err(IniFault::NotUtf8(place)) => Ok(Err(ConfFault::Ini(IniFault::NotUtf8(place)))),
-        Err(IniFault::BadLine(line)) => Ok(Err(ConfFault::Ini(IniFault::BadLine(line)))),
-        Err(IniFault::OutsideSection(line)) => {
-            Ok(Err(ConfFault::Ini(IniFault::OutsideSection(line))))
-        }
+        Ok(sections) => Ok(Items::from_vec(sections)),
+        Err(IniFault::OutOfMemory) => Err(ConfFault::OutOfMemory),
+        Err(IniFault::TooLong) => Err(ConfFault::Ini(IniFault::TooLong)),
+        Err(IniFault::NotUtf8(place)) => Err(ConfFault::Ini(IniFault::NotUtf8(place))),
+        Err(IniFault::BadLine(line)) => Err(ConfFault::Ini(IniFault::BadLine(line))),
+        Err(IniFault::OutsideSection(line)) => Err(ConfFault::Ini(IniFault::OutsideSection(line))),
     }
 }
 
@@ -85,33 +75,51 @@ pub fn patterns_of(
     alloc: Global,
     host: &Host,
     section: Option<&Section>,
-) -> Result<Result<Items<Text>, ConfFault>, AllocError>
-    ensures { IfOk result (λ patterns. patterns ≡ patterns_of host.now (option_map (λ x. x.now) section.entry)) }
+) -> Result<Items<Text>, ConfFault>
+    ensures value { IfOk result (λ value.
+        patterns_of host.now (option_map (λ x. x.now) section.entry) ≡ Ok value) }
+    ensures fault { IfErr result (λ fault.
+        IsFault fault (patterns_of host.now (option_map (λ x. x.now) section.entry))) }
 {
     match section {
         Some(section) => {
             let names = names::host_names(alloc, host)?;
-            let files = rows::value_at(alloc, Key::Files, section.keys.as_slice(), &names)?;
+            let files = files_in(alloc, "include", section.keys.as_slice(), &names)?;
             patterns_in(alloc, host, files)
         }
-        None => Ok(Ok(Items::new(alloc))),
+        None => Ok(Items::new(alloc)),
     }
 }
 
-fn patterns_in(
+/// The value of `files`, where it is set.
+fn files_in(
     alloc: Global,
-    host: &Host,
-    files: Option<Judged<Text>>,
-) -> Result<Result<Items<Text>, ConfFault>, AllocError>
-    ensures { IfOk result (λ patterns. patterns ≡ patterns_in host.now files) }
+    title: &str,
+    keys: &[(Text, Text)],
+    names: &Names,
+) -> Result<Option<Text>, ConfFault>
+    ensures value { IfOk result (λ value.
+        or_section_fault title.now (value_at Files keys.now names.now) ≡ Ok value) }
+    ensures fault { IfErr result (λ fault.
+        IsFault fault (or_section_fault title.now (value_at Files keys.now names.now))) }
+{
+    match value_at(alloc, Key::Files, keys, names) {
+        Ok(value) => Ok(value),
+        Err(Unread::Faulty(fault)) => Err(section_fault(alloc, title, fault)?),
+        Err(Unread::OutOfMemory) => Err(ConfFault::OutOfMemory),
+    }
+}
+
+fn patterns_in(alloc: Global, host: &Host, files: Option<Text>) -> Result<Items<Text>, ConfFault>
+    ensures value { IfOk result (λ value. patterns_in host.now files ≡ Ok value) }
+    ensures fault { IfErr result (λ fault. IsFault fault (patterns_in host.now files)) }
 {
     match files {
-        None => Ok(Err(ConfFault::Missing(Text::fixed("include"), Text::fixed(Key::Files.name())))),
-        Some(Ok(text)) => {
+        None => Err(ConfFault::Missing(Text::fixed("include"), Text::fixed(Key::Files.name()))),
+        Some(text) => {
             let parts = cuts::gaps_in(alloc, text.as_str())?;
-            Ok(Ok(all_joined(alloc, host.here.as_str(), parts.as_slice())?))
+            Ok(all_joined(alloc, host.here.as_str(), parts.as_slice())?)
         }
-        Some(Err(fault)) => Ok(Err(fault.of_section(alloc, "include")?)),
     }
 }
 

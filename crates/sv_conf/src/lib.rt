@@ -5,25 +5,13 @@
 #![tactic(auto)]
 
 pub mod config;
-mod cuts;
-mod environment;
-#[cfg(test)]
-mod example_tests;
 pub mod fault;
 mod groups;
 mod homes;
 pub mod includes;
-mod judged;
-pub mod key;
 pub mod laws;
-mod names;
 mod processes;
 mod programs;
-mod rows;
+mod section_faults;
 mod sections;
 mod server;
-mod table;
-#[cfg(test)]
-mod tests;
-mod titles;
-mod values;

@@ -1,17 +1,12 @@
-ghost use Rattle.std.specs.Prelude.{◌≡◌, ◌≤◌, ◌+◌, [], Ok, IfOk, ◌++◌, ◌∷◌, codes, length};
-ghost use Rattle.sv_conf.specs.KeyTable.{or_default};
+//! The processes of a section in a group.
+
+ghost use Rattle.std.specs.Prelude.{◌≡◌, ◌≤◌, ◌+◌, [], Ok, IfOk, IfErr, ◌++◌, ◌∷◌, codes, length};
+ghost use Rattle.sv_keys.specs.Judged.{IsFault};
+ghost use Rattle.sv_keys.specs.KeyTable.{or_default, numprocs, numprocs_start, settings_of, draft_of};
 ghost use Rattle.std.specs.Option.{option_map};
 ghost use Rattle.sv_expand.specs.Expansion.{expansion_of};
 ghost use Rattle.sv_conf.specs.Processes.{is_expanded, auto_file, file_of, log_spec, without_capture, spec_of, with_next, drafts_from, all_drafts, all_specs, group_from, part_of, lacks_number, needs_number};
 
-use crate::environment::{environment_of, server_url};
-use crate::judged::{Judged, earlier};
-use crate::key::Key;
-use crate::names;
-use crate::table::{
-    Count, Draft, Log, Settings, Start, draft_of, joined, numprocs, numprocs_start, settings_of,
-};
-use crate::values::LogFile;
 use std::alloc::{AllocError, Global};
 use sv_base::config::Host;
 use sv_base::items::Items;
@@ -20,10 +15,18 @@ use sv_base::spec::{GroupSpec, LogSpec, Spec};
 use sv_base::text::Text;
 use sv_expand::expand::expand;
 use sv_expand::fault::ExpandFault;
-use sv_expand::names::{Names, text_of};
+use sv_expand::names::{NamedTexts, Names, text_of};
+use sv_keys::environment::{environment_of, server_url};
+use sv_keys::judged::{Judged, KeyFault, Unread, earlier, joined};
+use sv_keys::key::Key;
+use sv_keys::names;
+use sv_keys::table::{
+    Count, Draft, Log, Settings, Start, draft_of, numprocs, numprocs_start, settings_of,
+};
+use sv_keys::values::LogFile;
 
 /// What the processes of all sections share.
-#[derive(Debug, Drop)]
+#[derive(Drop)]
 pub struct Common {
     /// Where the logs of processes go that are named for them.
     pub childlogdir: Text,
@@ -53,7 +56,8 @@ fn file_of(
     name: &str,
     stream: &str,
 ) -> Result<Option<Text>, AllocError>
-    ensures { IfOk result (λ name_of_file. name_of_file ≡ file_of file directory.now group.now name.now stream.now) }
+    ensures { IfOk result (λ name_of_file.
+        name_of_file ≡ file_of file directory.now group.now name.now stream.now) }
 {
     match file {
         LogFile::Auto => Ok(Some(auto_file(alloc, directory, group, name, stream)?)),
@@ -70,7 +74,8 @@ fn log_spec(
     name: &str,
     stream: &str,
 ) -> Result<LogSpec, AllocError>
-    ensures { IfOk result (λ spec. spec ≡ log_spec log directory.now group.now name.now stream.now) }
+    ensures { IfOk result (λ spec.
+        spec ≡ log_spec log directory.now group.now name.now stream.now) }
 {
     Ok(LogSpec {
         file: file_of(alloc, log.file, directory, group, name, stream)?,
@@ -153,9 +158,9 @@ fn spec_of(
 
 /// One more of several, where the fault of the earliest key counts.
 pub fn with_next<T: Drop>(
-    done: Judged<Items<T>>,
-    next: Judged<T>,
-) -> Result<Judged<Items<T>>, AllocError>
+    done: Result<Items<T>, KeyFault>,
+    next: Result<T, KeyFault>,
+) -> Result<Result<Items<T>, KeyFault>, AllocError>
     ensures { IfOk result (λ all. all ≡ with_next done next) }
 {
     match (done, next) {
@@ -175,11 +180,12 @@ fn all_drafts(
     listener: bool,
     program: &str,
     keys: &[(Text, Text)],
-    pairs: Items<(Text, Text)>,
+    pairs: NamedTexts,
     count: Count,
     start: Start,
-) -> Result<Judged<Items<Draft>>, AllocError>
-    ensures { IfOk result (λ drafts. drafts ≡ all_drafts listener program.now keys.now pairs count start) }
+) -> Result<Result<Items<Draft>, KeyFault>, AllocError>
+    ensures { IfOk result (λ drafts.
+        drafts ≡ all_drafts listener program.now keys.now pairs count start) }
 {
     let mut done = Ok(Items::new(alloc));
     let mut known = pairs;
@@ -187,7 +193,8 @@ fn all_drafts(
     let mut left = count.get();
     while left > 0 {
         let names = names::with_process(alloc, known, count.get(), process)?;
-        done = with_next(done, draft_of(alloc, listener, program, keys, &names)?)?;
+        let draft = draft_in(alloc, listener, program, keys, &names)?;
+        done = with_next(done, draft)?;
         known = names.pairs;
         process += 1;
         left -= 1;
@@ -203,7 +210,8 @@ fn all_specs(
     priority: i32,
     drafts: Items<Draft>,
 ) -> Result<Items<Spec>, AllocError>
-    ensures { IfOk result (λ specs. specs ≡ all_specs common.now listener group.now priority drafts) }
+    ensures { IfOk result (λ specs.
+        specs ≡ all_specs common.now listener group.now priority drafts) }
 {
     let mut specs = Items::new(alloc);
     for draft in drafts.into_vec() {
@@ -218,22 +226,19 @@ fn group_from(
     common: &Common,
     listener: bool,
     group: &str,
-    read: Judged<(Settings, Items<Draft>)>,
-) -> Result<Judged<GroupSpec>, AllocError>
-    ensures { IfOk result (λ part. part ≡ group_from common.now listener group.now read) }
+    settings: Settings,
+    drafts: Items<Draft>,
+) -> Result<GroupSpec, AllocError>
+    ensures { IfOk result (λ part.
+        part ≡ group_from common.now listener group.now (settings, drafts)) }
 {
-    match read {
-        Err(fault) => Ok(Err(fault)),
-        Ok((settings, drafts)) => {
-            let priority = settings.priority;
-            Ok(Ok(GroupSpec {
-                name: Text::from_str(alloc, group)?,
-                priority,
-                members: all_specs(alloc, common, listener, group, priority, drafts)?,
-                pool: settings.pool,
-            }))
-        }
-    }
+    let priority = settings.priority;
+    Ok(GroupSpec {
+        name: Text::from_str(alloc, group)?,
+        priority,
+        members: all_specs(alloc, common, listener, group, priority, drafts)?,
+        pool: settings.pool,
+    })
 }
 
 /// The processes of a section in a group, as a group of their own.
@@ -246,44 +251,86 @@ pub fn part_of(
     program: &str,
     keys: &[(Text, Text)],
     group: &str,
-) -> Result<Judged<GroupSpec>, AllocError>
-    ensures { IfOk result (λ part. part ≡ part_of host.now common.now listener program.now keys.now group.now) }
+) -> Judged<GroupSpec>
+    ensures value { IfOk result (λ part.
+        part_of host.now common.now listener program.now keys.now group.now ≡ Ok part) }
+    ensures fault { IfErr result (λ fault.
+        IsFault fault (part_of host.now common.now listener program.now keys.now group.now)) }
 {
     let pairs = names::program_pairs(alloc, host, program, group)?;
     let names = names::without_numbers(alloc, pairs);
-    let count = or_one(numprocs(alloc, keys, &names)?);
-    let start = or_zero(numprocs_start(alloc, keys, &names)?);
-    let settings = settings_of(alloc, listener, keys, &names)?;
+    let count = count_in(alloc, keys, &names)?;
+    let start = start_in(alloc, keys, &names)?;
+    let settings = settings_in(alloc, listener, keys, &names)?;
     let drafts = all_drafts(alloc, listener, program, keys, names.pairs, count, start)?;
-    group_from(alloc, common, listener, group, joined(settings, drafts))
+    let (settings, drafts) = joined(settings, drafts)?;
+    Ok(group_from(alloc, common, listener, group, settings, drafts)?)
 }
 
-fn or_one(count: Judged<Count>) -> Count
-    ensures { result ≡ or_default 1 count }
+/// How many processes there are; one where that is faulty.
+fn count_in(alloc: Global, keys: &[(Text, Text)], names: &Names) -> Result<Count, AllocError>
+    ensures { IfOk result (λ value. value ≡ or_default 1 (numprocs keys.now names.now)) }
 {
-    match count {
-        Ok(count) => count,
-        Err(_) => Count::least(),
+    match numprocs(alloc, keys, names) {
+        Ok(value) => Ok(value),
+        Err(Unread::Faulty(_)) => Ok(Count::least()),
+        Err(Unread::OutOfMemory) => Err(AllocError),
     }
 }
 
-fn or_zero(start: Judged<Start>) -> Start
-    ensures { result ≡ or_default 0 start }
+/// The number of the first process; 0 where that is faulty.
+fn start_in(alloc: Global, keys: &[(Text, Text)], names: &Names) -> Result<Start, AllocError>
+    ensures { IfOk result (λ value. value ≡ or_default 0 (numprocs_start keys.now names.now)) }
 {
-    match start {
-        Ok(start) => start,
-        Err(_) => Start::least(),
+    match numprocs_start(alloc, keys, names) {
+        Ok(value) => Ok(value),
+        Err(Unread::Faulty(_)) => Ok(Start::least()),
+        Err(Unread::OutOfMemory) => Err(AllocError),
+    }
+}
+
+/// What is read once for all processes, or its fault.
+fn settings_in(
+    alloc: Global,
+    listener: bool,
+    keys: &[(Text, Text)],
+    names: &Names,
+) -> Result<Result<Settings, KeyFault>, AllocError>
+    ensures { IfOk result (λ value. value ≡ settings_of listener keys.now names.now) }
+{
+    match settings_of(alloc, listener, keys, names) {
+        Ok(value) => Ok(Ok(value)),
+        Err(Unread::Faulty(fault)) => Ok(Err(fault)),
+        Err(Unread::OutOfMemory) => Err(AllocError),
+    }
+}
+
+/// All keys of a process, or their fault.
+fn draft_in(
+    alloc: Global,
+    listener: bool,
+    program: &str,
+    keys: &[(Text, Text)],
+    names: &Names,
+) -> Result<Result<Draft, KeyFault>, AllocError>
+    ensures { IfOk result (λ value. value ≡ draft_of listener program.now keys.now names.now) }
+{
+    match draft_of(alloc, listener, program, keys, names) {
+        Ok(value) => Ok(Ok(value)),
+        Err(Unread::Faulty(fault)) => Ok(Err(fault)),
+        Err(Unread::OutOfMemory) => Err(AllocError),
     }
 }
 
 /// Whether a name has no form with the process's number.
 fn lacks_number(
     alloc: Global,
-    pairs: Items<(Text, Text)>,
+    pairs: NamedTexts,
     count: usize,
     name: Option<&str>,
 ) -> Result<bool, AllocError>
-    ensures { IfOk result (λ lacks. lacks ≡ lacks_number pairs count (option_map (λ x. x.now) name.entry)) }
+    ensures { IfOk result (λ lacks.
+        lacks ≡ lacks_number pairs count (option_map (λ x. x.now) name.entry)) }
 {
     match name {
         None => Ok(true),

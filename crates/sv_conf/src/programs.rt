@@ -1,28 +1,51 @@
-ghost use Rattle.std.specs.Prelude.{◌≡◌, [], Ok, IfOk, map, List};
-ghost use Rattle.std.specs.Option.{option_map};
+//! The processes of the sections of programs and listeners.
+
+ghost use Rattle.std.specs.Prelude.{◌≡◌, [], Ok, true, IfOk, IfErr, map, List, Result};
 ghost use Rattle.sv_conf.specs.Configuration.{with_place, parts_from, need_numbers, numbered_by, numbered, named_section, has_events, program_parts, parts_by, parts_at, after_programs, no_parts, all_parts};
-ghost use Rattle.sv_conf.specs.ServerSections.{or_missing};
+ghost use Rattle.sv_conf.specs.FaultTexts.{IsFault};
+ghost use Rattle.sv_conf.specs.SectionFaults.{or_missing, or_section_fault};
+ghost use Rattle.sv_conf.specs.Processes.{part_of};
 
 use crate::fault::ConfFault;
 use crate::homes::{Home, NamedGroups, Part, all_named, homes_of, own_home, put_parts};
-use crate::judged::Judged;
-use crate::key::Key;
 use crate::processes::{Common, needs_number, part_of, with_next};
-use crate::server::{Decided, is_set, missing, or_section_fault};
-use crate::titles::{is_name, titled};
+use crate::section_faults::{must_have, section_fault};
 use std::alloc::{AllocError, Global};
 use sv_base::config::Host;
 use sv_base::items::Items;
 use sv_base::spec::GroupSpec;
 use sv_base::text::Text;
 use sv_ini::section::Section;
+use sv_keys::judged::{KeyFault, Unread};
+use sv_keys::key::Key;
+use sv_keys::titles::{is_name, titled};
 
-fn with_place(place: usize, part: Judged<GroupSpec>) -> Judged<Part>
+fn with_place(place: usize, part: Result<GroupSpec, KeyFault>) -> Result<Part, KeyFault>
     ensures { result ≡ with_place place part }
 {
     match part {
         Ok(group) => Ok(Part { place, group }),
         Err(fault) => Err(fault),
+    }
+}
+
+/// The processes of a section in a group, or their fault.
+fn part_in(
+    alloc: Global,
+    host: &Host,
+    common: &Common,
+    listener: bool,
+    program: &str,
+    keys: &[(Text, Text)],
+    group: &str,
+) -> Result<Result<GroupSpec, KeyFault>, AllocError>
+    ensures { IfOk result (λ part.
+        part ≡ part_of host.now common.now listener program.now keys.now group.now) }
+{
+    match part_of(alloc, host, common, listener, program, keys, group) {
+        Ok(part) => Ok(Ok(part)),
+        Err(Unread::Faulty(fault)) => Ok(Err(fault)),
+        Err(Unread::OutOfMemory) => Err(AllocError),
     }
 }
 
@@ -35,51 +58,63 @@ fn parts_from(
     program: &str,
     keys: &[(Text, Text)],
     homes: &[Home],
-) -> Result<Judged<Items<Part>>, AllocError>
-    ensures { IfOk result (λ parts. parts ≡ parts_from host.now common.now listener program.now keys.now (Ok []) homes.now) }
+) -> Result<Result<Items<Part>, KeyFault>, AllocError>
+    ensures { IfOk result (λ parts.
+        parts ≡ parts_from host.now common.now listener program.now keys.now (Ok []) homes.now) }
 {
     let mut done = Ok(Items::new(alloc));
     let mut left = homes;
     while let [home, rest @ ..] = left {
         let group = home.group.as_str();
-        let part = part_of(alloc, host, common, listener, program, keys, group)?;
+        let part = part_in(alloc, host, common, listener, program, keys, group)?;
         done = with_next(done, with_place(home.place, part))?;
         left = rest;
     }
     Ok(done)
 }
 
+/// The processes of a section in each of its groups, or its fault.
+fn parts_in(
+    alloc: Global,
+    host: &Host,
+    common: &Common,
+    listener: bool,
+    title: &str,
+    program: &str,
+    keys: &[(Text, Text)],
+    homes: &[Home],
+) -> Result<Items<Part>, ConfFault>
+    ensures value { IfOk result (λ value.
+        or_section_fault title.now
+        (parts_from host.now common.now listener program.now keys.now (Ok []) homes.now) ≡ Ok value) }
+    ensures fault { IfErr result (λ fault.
+        IsFault fault
+        (or_section_fault title.now (parts_from host.now common.now listener program.now keys.now (Ok []) homes.now))) }
+{
+    match parts_from(alloc, host, common, listener, program, keys, homes)? {
+        Ok(parts) => Ok(parts),
+        Err(fault) => Err(section_fault(alloc, title, fault)?),
+    }
+}
+
+#[tactic(auto, unfolding(crate::specs::Configuration::numbered))]
 fn numbered(
     alloc: Global,
     host: &Host,
     title: &str,
     program: &str,
     keys: &[(Text, Text)],
-    parts: Decided<Items<Part>>,
-) -> Result<Decided<Items<Part>>, AllocError>
-    ensures { IfOk result (λ decided. decided ≡ numbered host.now title.now program.now keys.now parts) }
-{
-    match parts {
-        Err(fault) => Ok(Err(fault)),
-        Ok(parts) => {
-            let need = need_numbers(alloc, host, program, keys, parts.as_slice())?;
-            numbered_by(alloc, need, title, parts)
-        }
-    }
-}
-
-fn numbered_by(
-    alloc: Global,
-    need: bool,
-    title: &str,
     parts: Items<Part>,
-) -> Result<Decided<Items<Part>>, AllocError>
-    ensures { IfOk result (λ decided. decided ≡ numbered_by need title.now parts) }
+) -> Result<Items<Part>, ConfFault>
+    ensures value { IfOk result (λ value.
+        numbered host.now title.now program.now keys.now parts ≡ Ok value) }
+    ensures fault { IfErr result (λ fault.
+        IsFault fault (numbered host.now title.now program.now keys.now parts)) }
 {
-    if need {
-        Ok(Err(ConfFault::NeedsNumber(Text::from_str(alloc, title)?)))
+    if need_numbers(alloc, host, program, keys, parts.as_slice())? {
+        Err(ConfFault::NeedsNumber(Text::from_str(alloc, title)?))
     } else {
-        Ok(Ok(parts))
+        Ok(parts)
     }
 }
 
@@ -103,14 +138,15 @@ fn need_numbers(
     Ok(false)
 }
 
-/// Whether the name in a section's title may be a name.
-pub fn named_section(alloc: Global, title: &str, name: &str) -> Result<Decided<bool>, AllocError>
-    ensures { IfOk result (λ named. named ≡ named_section title.now name.now) }
+/// Nothing where the name in a section's title may be a name, else the fault that it may not.
+pub fn named_section(alloc: Global, title: &str, name: &str) -> Result<(), ConfFault>
+    ensures good { IfOk result (λ _. named_section title.now name.now ≡ Ok true) }
+    ensures fault { IfErr result (λ fault. IsFault fault (named_section title.now name.now)) }
 {
     if is_name(name) {
-        return Ok(Ok(true));
+        return Ok(());
     }
-    Ok(Err(ConfFault::BadValue(Text::from_str(alloc, title)?, Text::fixed("name"))))
+    Err(ConfFault::BadValue(Text::from_str(alloc, title)?, Text::fixed("name")))
 }
 
 #[tactic(auto, unfolding(crate::specs::Configuration::program_parts))]
@@ -123,21 +159,20 @@ fn program_parts(
     program: &str,
     keys: &[(Text, Text)],
     homes: &[Home],
-) -> Result<Decided<Items<Part>>, AllocError>
-    ensures { IfOk result (λ parts. parts ≡ program_parts host.now common.now listener title.now program.now keys.now homes.now) }
+) -> Result<Items<Part>, ConfFault>
+    ensures value { IfOk result (λ value.
+        program_parts host.now common.now listener title.now program.now keys.now homes.now
+        ≡ Ok value) }
+    ensures fault { IfErr result (λ fault.
+        IsFault fault
+        (program_parts host.now common.now listener title.now program.now keys.now homes.now)) }
 {
-    match named_section(alloc, title, program)? {
-        Ok(_) => {}
-        Err(fault) => return Ok(Err(fault)),
+    named_section(alloc, title, program)?;
+    must_have(alloc, title, Key::Command, keys)?;
+    if listener {
+        must_have(alloc, title, Key::Events, keys)?;
     }
-    if !is_set(Key::Command, keys) {
-        return Ok(Err(missing(alloc, title, Key::Command)?));
-    }
-    if listener && !is_set(Key::Events, keys) {
-        return Ok(Err(missing(alloc, title, Key::Events)?));
-    }
-    let parts = parts_from(alloc, host, common, listener, program, keys, homes)?;
-    let parts = or_section_fault(alloc, title, parts)?;
+    let parts = parts_in(alloc, host, common, listener, title, program, keys, homes)?;
     numbered(alloc, host, title, program, keys, parts)
 }
 
@@ -149,8 +184,11 @@ fn parts_at(
     named: &NamedGroups,
     place: usize,
     section: &Section,
-) -> Result<Decided<Items<Part>>, AllocError>
-    ensures { IfOk result (λ parts. parts ≡ parts_at host.now common.now named.now place section.now) }
+) -> Result<Items<Part>, ConfFault>
+    ensures value { IfOk result (λ value.
+        parts_at host.now common.now named.now place section.now ≡ Ok value) }
+    ensures fault { IfErr result (λ fault.
+        IsFault fault (parts_at host.now common.now named.now place section.now)) }
 {
     let title = section.name.as_str();
     let keys = section.keys.as_slice();
@@ -164,7 +202,7 @@ fn parts_at(
         let homes = homes.as_slice();
         return program_parts(alloc, host, common, true, title, listener, keys, homes);
     }
-    Ok(Ok(Items::new(alloc)))
+    Ok(Items::new(alloc))
 }
 
 /// The parts of each group, at the place of the section that makes it.
@@ -174,22 +212,22 @@ pub fn all_parts(
     host: &Host,
     common: &Common,
     sections: &[Section],
-) -> Result<Decided<Items<Items<GroupSpec>>>, AllocError>
-    ensures { IfOk result (λ parts. parts ≡ all_parts host.now common.now sections.now) }
+) -> Result<Items<Items<GroupSpec>>, ConfFault>
+    ensures value { IfOk result (λ value. all_parts host.now common.now sections.now ≡ Ok value) }
+    ensures fault { IfErr result (λ fault.
+        IsFault fault (all_parts host.now common.now sections.now)) }
 {
     let named = all_named(alloc, host, sections)?;
     let mut parts = no_parts(alloc, sections)?;
     let mut place = 0;
     let mut left = sections;
     while let [section, rest @ ..] = left {
-        match parts_at(alloc, host, common, &named, place, section)? {
-            Ok(more) => put_parts(&mut parts, more)?,
-            Err(fault) => return Ok(Err(fault)),
-        }
+        let more = parts_at(alloc, host, common, &named, place, section)?;
+        put_parts(&mut parts, more)?;
         place += 1;
         left = rest;
     }
-    Ok(Ok(Items::from_vec(parts)))
+    Ok(Items::from_vec(parts))
 }
 
 fn no_parts(alloc: Global, sections: &[Section]) -> Result<Vec<Items<GroupSpec>>, AllocError>

@@ -1,4 +1,7 @@
-ghost use Rattle.std.specs.Prelude.{◌≡◌, IfOk, OnOk};
+//! The sections of a text with those of the texts that it includes.
+
+ghost use Rattle.std.specs.Prelude.{◌≡◌, Ok, true, IfOk, IfErr, OnOk};
+ghost use Rattle.sv_conf.specs.FaultTexts.{IsFault};
 ghost use Rattle.sv_conf.specs.Configuration.{with_all_keys, with_section, with_sections, with_included, is_not_supervisor, is_unsupported, all_supported};
 ghost use Rattle.std.specs.Prelude.{List, ℕ};
 ghost use Rattle.std.specs.List.{position};
@@ -10,33 +13,31 @@ ghost use Rattle.sv_ini.specs.Sections.{place_of_section};
 
 use crate::fault::ConfFault;
 use crate::includes::sections_in;
-use crate::server::Decided;
-use crate::titles::titled;
 use std::alloc::{AllocError, Global};
 use std::mem;
 use sv_base::bytes::Bytes;
 use sv_base::items::Items;
 use sv_base::text::Text;
 use sv_ini::section::Section;
+use sv_keys::titles::titled;
 
 /// These sections with those of included texts.
 pub fn with_included(
     alloc: Global,
     sections: Items<Section>,
     included: &[(Text, Bytes)],
-) -> Result<Decided<Items<Section>>, AllocError>
-    ensures { IfOk result (λ all. all ≡ with_included sections included.now) }
+) -> Result<Items<Section>, ConfFault>
+    ensures value { IfOk result (λ value. with_included sections included.now ≡ Ok value) }
+    ensures fault { IfErr result (λ fault. IsFault fault (with_included sections included.now)) }
 {
     let mut all = sections;
     let mut left = included;
     while let [text, rest @ ..] = left {
-        match sections_in(alloc, text.1.as_slice())? {
-            Ok(more) => all = with_sections(alloc, all, more)?,
-            Err(fault) => return Ok(Err(fault)),
-        }
+        let more = sections_in(alloc, text.1.as_slice())?;
+        all = with_sections(alloc, all, more)?;
         left = rest;
     }
-    Ok(Ok(all))
+    Ok(all)
 }
 
 #[tactic(auto, using(crate::proofs::Folds::sections_more))]
@@ -154,17 +155,18 @@ fn is_not_supervisor(name: Option<&str>) -> bool
     }
 }
 
-/// Whether all sections are supported, or the first that isn't as a fault.
+/// Nothing where all sections are supported, else the first that isn't as a fault.
 #[tactic(auto, unfolding(crate::specs::Configuration::all_supported))]
-pub fn all_supported(sections: &[Section]) -> Result<Decided<bool>, AllocError>
-    ensures { IfOk result (λ supported. supported ≡ all_supported sections.now) }
+pub fn all_supported(sections: &[Section]) -> Result<(), ConfFault>
+    ensures good { IfOk result (λ _. all_supported sections.now ≡ Ok true) }
+    ensures fault { IfErr result (λ fault. IsFault fault (all_supported sections.now)) }
 {
     let mut left = sections;
     while let [section, rest @ ..] = left {
         if is_unsupported(section) {
-            return Ok(Err(ConfFault::Unsupported(section.name.clone()?)));
+            return Err(ConfFault::Unsupported(section.name.clone()?));
         }
         left = rest;
     }
-    Ok(Ok(true))
+    Ok(())
 }

@@ -1,74 +1,37 @@
-ghost use Rattle.std.specs.Prelude.{◌≡◌, ◌++◌, ◌∷◌, [], IfOk, codes, Option, List, ℕ};
+//! The sections of the servers, the daemon and the client.
+
+ghost use Rattle.std.specs.Prelude.{◌≡◌, ◌++◌, ◌∷◌, [], Ok, IfOk, IfErr, codes, Option, List, ℕ, Result};
 ghost use Rattle.sv_base.specs.declared.config.Host.{Host};
-ghost use Rattle.sv_conf.specs.KnownNames.{host_names};
-ghost use Rattle.sv_conf.specs.KeyNames.{key_row};
-ghost use Rattle.sv_conf.specs.Judged.{and_then};
-ghost use Rattle.sv_conf.specs.declared.fault.ConfFault.TheVariants.{Missing};
-ghost use Rattle.std.specs.Prelude.{Ok};
-ghost use Rattle.sv_conf.specs.ServerSections.{first_daemon, first_client, first_others, is_set, or_missing, or_section_fault, username_of, password_in, whole_server, socket_of, unix_server, inet_server, whole_main, main_log, whole_daemon, daemon_of, whole_client, client_of, with_server, after_unix, after_inet, after_daemon, after_client, after_section, after_sections, others_of, or_else, host_in_url, unix_url, inet_url, first_url, url_of, common_of};
+ghost use Rattle.sv_conf.specs.FaultTexts.{IsFault};
+ghost use Rattle.sv_conf.specs.SectionFaults.{or_missing, or_section_fault};
+ghost use Rattle.sv_conf.specs.ServerSections.{first_others, with_server, after_unix, after_inet, after_daemon, after_client, after_section, after_sections, others_of, or_else, host_in_url, unix_url, inet_url, first_url, url_of, common_of};
+ghost use Rattle.sv_conf.specs.declared.fault.ConfFault.{ConfFault};
+ghost use Rattle.sv_conf.specs.declared.server.Others.{Others};
+ghost use Rattle.sv_keys.specs.KnownNames.{host_names};
+ghost use Rattle.sv_keys.specs.ServerKeys.{unix_server, inet_server, daemon_of, client_of};
 
 use crate::fault::ConfFault;
-use crate::judged::Judged;
-use crate::key::Key;
 use crate::processes::Common;
-use crate::{names, rows};
+use crate::section_faults::{must_have, section_fault};
 use std::alloc::{AllocError, Global};
-use sv_base::config::{ClientSpec, Host, Password, Place, ServerSpec};
+use sv_base::config::{ClientSpec, Host, Place, ServerSpec};
 use sv_base::items::Items;
-use sv_base::number::{Backups, CaptureBytes};
-use sv_base::spec::LogSpec;
-use sv_base::state::Level;
 use sv_base::text::Text;
-use sv_expand::names::{Names, text_of};
+use sv_expand::names::Names;
 use sv_ini::section::Section;
-
-/// What the daemon's own section tells.
-#[derive(Debug, Drop)]
-pub struct Daemon {
-    pub main: LogSpec,
-    pub level: Level,
-    pub identifier: Text,
-    pub environment: Items<(Text, Text)>,
-    pub childlogdir: Text,
-}
+use sv_keys::judged::Unread;
+use sv_keys::key::Key;
+use sv_keys::names;
+use sv_keys::server_keys::{
+    Daemon, client_of, daemon_of, first_client, first_daemon, inet_server, unix_server,
+};
 
 /// What the sections of the daemon, its servers and its client tell.
-#[derive(Debug, Drop)]
+#[derive(Drop)]
 pub struct Others {
     pub daemon: Daemon,
     pub client: ClientSpec,
     pub servers: Items<ServerSpec>,
-}
-
-/// What is decided of a configuration, or its fault.
-pub type Decided<T> = Result<T, ConfFault>;
-
-fn first_daemon(alloc: Global) -> Daemon
-    ensures { result ≡ first_daemon }
-{
-    Daemon {
-        main: LogSpec {
-            file: Some(Text::fixed("supervisord.log")),
-            maxbytes: 52_428_800,
-            backups: Backups::new(10).unwrap(),
-            capture: CaptureBytes::least(),
-            events: false,
-        },
-        level: Level::Info,
-        identifier: Text::fixed("supervisor"),
-        environment: Items::new(alloc),
-        childlogdir: Text::fixed("/tmp"),
-    }
-}
-
-fn first_client() -> ClientSpec
-    ensures { result ≡ first_client }
-{
-    ClientSpec {
-        url: Text::fixed("http://localhost:9001"),
-        username: Text::fixed(""),
-        password: Text::fixed(""),
-    }
 }
 
 fn first_others(alloc: Global) -> Others
@@ -81,256 +44,91 @@ fn first_others(alloc: Global) -> Others
     }
 }
 
-/// Whether a key stands in its section.
-pub fn is_set(key: Key, keys: &[(Text, Text)]) -> bool
-    ensures { result ≡ is_set key keys.now }
+fn with_server(others: Others, server: ServerSpec) -> Result<Others, AllocError>
+    ensures { IfOk result (λ next. next ≡ with_server others server) }
 {
-    text_of(keys, key.name()).is_some()
+    let mut servers = others.servers;
+    servers.push(server)?;
+    Ok(Others {
+        daemon: others.daemon,
+        client: others.client,
+        servers,
+    })
 }
 
-/// A value of a section, or its fault.
-pub fn or_section_fault<T: Drop>(
+/// The server of a `unix_http_server` section.
+fn unix_in(
     alloc: Global,
-    section: &str,
-    value: Judged<T>,
-) -> Result<Decided<T>, AllocError>
-    ensures { IfOk result (λ decided. decided ≡ or_section_fault section.now value) }
+    title: &str,
+    keys: &[(Text, Text)],
+    names: &Names,
+) -> Result<ServerSpec, ConfFault>
+    ensures value { IfOk result (λ value.
+        or_section_fault title.now (unix_server keys.now names.now) ≡ Ok value) }
+    ensures fault { IfErr result (λ fault.
+        IsFault fault (or_section_fault title.now (unix_server keys.now names.now))) }
 {
-    match value {
-        Ok(value) => Ok(Ok(value)),
-        Err(fault) => Ok(Err(fault.of_section(alloc, section)?)),
+    match unix_server(alloc, keys, names) {
+        Ok(value) => Ok(value),
+        Err(Unread::Faulty(fault)) => Err(section_fault(alloc, title, fault)?),
+        Err(Unread::OutOfMemory) => Err(ConfFault::OutOfMemory),
     }
 }
 
-/// The fault that a key is missing in a section.
-pub fn missing(alloc: Global, section: &str, key: Key) -> Result<ConfFault, AllocError>
-    ensures { IfOk result (λ fault. fault ≡ Missing section.now (key_row key).1) }
-{
-    Ok(ConfFault::Missing(Text::from_str(alloc, section)?, Text::fixed(key.name())))
-}
-
-fn username_of(
+/// The server of an `inet_http_server` section.
+fn inet_in(
     alloc: Global,
+    title: &str,
     keys: &[(Text, Text)],
     names: &Names,
-) -> Result<Judged<Text>, AllocError>
-    ensures { IfOk result (λ value. value ≡ username_of keys.now names.now) }
+) -> Result<ServerSpec, ConfFault>
+    ensures value { IfOk result (λ value.
+        or_section_fault title.now (inet_server keys.now names.now) ≡ Ok value) }
+    ensures fault { IfErr result (λ fault.
+        IsFault fault (or_section_fault title.now (inet_server keys.now names.now))) }
 {
-    rows::text(alloc, Key::Username, Text::fixed(""), keys, names)
-}
-
-fn password_in(
-    alloc: Global,
-    keys: &[(Text, Text)],
-    names: &Names,
-) -> Result<Judged<Password>, AllocError>
-    ensures { IfOk result (λ value. value ≡ password_in keys.now names.now) }
-{
-    rows::password(alloc, Key::Password, Password::None, keys, names)
-}
-
-fn whole_server(
-    place: Judged<Place>,
-    username: Judged<Text>,
-    password: Judged<Password>,
-) -> Judged<ServerSpec>
-    ensures { result ≡ whole_server place username password }
-{
-    Ok(ServerSpec {
-        place: place?,
-        username: username?,
-        password: password?,
-    })
-}
-
-fn socket_of(file: Judged<Text>) -> Judged<Place>
-    ensures { result ≡ socket_of file }
-{
-    Ok(Place::Unix(file?))
-}
-
-#[tactic(auto, unfolding(crate::specs::ServerSections::unix_server))]
-fn unix_server(
-    alloc: Global,
-    keys: &[(Text, Text)],
-    names: &Names,
-) -> Result<Judged<ServerSpec>, AllocError>
-    ensures { IfOk result (λ server. server ≡ unix_server keys.now names.now) }
-{
-    let file = rows::needed_path(alloc, Key::File, keys, names)?;
-    let username = username_of(alloc, keys, names)?;
-    let password = password_in(alloc, keys, names)?;
-    Ok(whole_server(socket_of(file), username, password))
-}
-
-#[tactic(auto, unfolding(crate::specs::ServerSections::inet_server))]
-fn inet_server(
-    alloc: Global,
-    keys: &[(Text, Text)],
-    names: &Names,
-) -> Result<Judged<ServerSpec>, AllocError>
-    ensures { IfOk result (λ server. server ≡ inet_server keys.now names.now) }
-{
-    let place = rows::inet(alloc, Key::Port, keys, names)?;
-    let username = username_of(alloc, keys, names)?;
-    let password = password_in(alloc, keys, names)?;
-    Ok(whole_server(place, username, password))
-}
-
-fn whole_main(
-    file: Judged<Option<Text>>,
-    maxbytes: Judged<u64>,
-    backups: Judged<Backups>,
-) -> Judged<LogSpec>
-    ensures { result ≡ whole_main file maxbytes backups }
-{
-    Ok(LogSpec {
-        file: file?,
-        maxbytes: maxbytes?,
-        backups: backups?,
-        capture: CaptureBytes::least(),
-        events: false,
-    })
-}
-
-#[tactic(auto, unfolding(crate::specs::ServerSections::main_log))]
-fn main_log(
-    alloc: Global,
-    keys: &[(Text, Text)],
-    names: &Names,
-) -> Result<Judged<LogSpec>, AllocError>
-    ensures { IfOk result (λ log. log ≡ main_log keys.now names.now) }
-{
-    let file = Some(Text::fixed("supervisord.log"));
-    Ok(whole_main(
-        rows::main_file(alloc, Key::Logfile, file, keys, names)?,
-        rows::size(alloc, Key::LogfileMaxbytes, 52_428_800, keys, names)?,
-        rows::number(
-            alloc,
-            Key::LogfileBackups,
-            Backups::new(10).unwrap(),
-            keys,
-            names,
-        )?,
-    ))
-}
-
-fn whole_daemon(
-    main: Judged<LogSpec>,
-    level: Judged<Level>,
-    identifier: Judged<Text>,
-    environment: Judged<Items<(Text, Text)>>,
-    childlogdir: Judged<Text>,
-) -> Judged<Daemon>
-    ensures { result ≡ whole_daemon main level identifier environment childlogdir }
-{
-    Ok(Daemon {
-        main: main?,
-        level: level?,
-        identifier: identifier?,
-        environment: environment?,
-        childlogdir: childlogdir?,
-    })
-}
-
-#[tactic(auto, unfolding(crate::specs::ServerSections::daemon_of))]
-fn daemon_of(
-    alloc: Global,
-    keys: &[(Text, Text)],
-    names: &Names,
-) -> Result<Judged<Daemon>, AllocError>
-    ensures { IfOk result (λ daemon. daemon ≡ daemon_of keys.now names.now) }
-{
-    Ok(whole_daemon(
-        main_log(alloc, keys, names)?,
-        rows::level(alloc, Key::Loglevel, Level::Info, keys, names)?,
-        rows::text(
-            alloc,
-            Key::Identifier,
-            Text::fixed("supervisor"),
-            keys,
-            names,
-        )?,
-        rows::environment(alloc, Key::Environment, Items::new(alloc), keys, names)?,
-        rows::path(alloc, Key::Childlogdir, Text::fixed("/tmp"), keys, names)?,
-    ))
-}
-
-fn whole_client(
-    url: Judged<Text>,
-    username: Judged<Text>,
-    password: Judged<Text>,
-) -> Judged<ClientSpec>
-    ensures { result ≡ whole_client url username password }
-{
-    Ok(ClientSpec {
-        url: url?,
-        username: username?,
-        password: password?,
-    })
-}
-
-#[tactic(auto, unfolding(crate::specs::ServerSections::client_of))]
-fn client_of(
-    alloc: Global,
-    keys: &[(Text, Text)],
-    names: &Names,
-) -> Result<Judged<ClientSpec>, AllocError>
-    ensures { IfOk result (λ client. client ≡ client_of keys.now names.now) }
-{
-    Ok(whole_client(
-        rows::text(
-            alloc,
-            Key::Serverurl,
-            Text::fixed("http://localhost:9001"),
-            keys,
-            names,
-        )?,
-        rows::text(alloc, Key::Username, Text::fixed(""), keys, names)?,
-        rows::text(alloc, Key::Password, Text::fixed(""), keys, names)?,
-    ))
-}
-
-fn with_server(others: Others, server: Decided<ServerSpec>) -> Result<Decided<Others>, AllocError>
-    ensures { IfOk result (λ next. next ≡ and_then server (λ one. Ok (with_server others one))) }
-{
-    match server {
-        Ok(server) => {
-            let mut servers = others.servers;
-            servers.push(server)?;
-            Ok(Ok(Others {
-                daemon: others.daemon,
-                client: others.client,
-                servers,
-            }))
-        }
-        Err(fault) => Ok(Err(fault)),
+    match inet_server(alloc, keys, names) {
+        Ok(value) => Ok(value),
+        Err(Unread::Faulty(fault)) => Err(section_fault(alloc, title, fault)?),
+        Err(Unread::OutOfMemory) => Err(ConfFault::OutOfMemory),
     }
 }
 
-fn with_daemon(others: Others, daemon: Decided<Daemon>) -> Decided<Others>
-    ensures { result ≡ and_then daemon (λ one. Ok (record others { daemon = one })) }
+/// What a `supervisord` section tells.
+fn daemon_in(
+    alloc: Global,
+    title: &str,
+    keys: &[(Text, Text)],
+    names: &Names,
+) -> Result<Daemon, ConfFault>
+    ensures value { IfOk result (λ value.
+        or_section_fault title.now (daemon_of keys.now names.now) ≡ Ok value) }
+    ensures fault { IfErr result (λ fault.
+        IsFault fault (or_section_fault title.now (daemon_of keys.now names.now))) }
 {
-    match daemon {
-        Ok(daemon) => Ok(Others {
-            daemon,
-            client: others.client,
-            servers: others.servers,
-        }),
-        Err(fault) => Err(fault),
+    match daemon_of(alloc, keys, names) {
+        Ok(value) => Ok(value),
+        Err(Unread::Faulty(fault)) => Err(section_fault(alloc, title, fault)?),
+        Err(Unread::OutOfMemory) => Err(ConfFault::OutOfMemory),
     }
 }
 
-fn with_client(others: Others, client: Decided<ClientSpec>) -> Decided<Others>
-    ensures { result ≡ and_then client (λ one. Ok (record others { client = one })) }
+/// What a `supervisorctl` section tells.
+fn client_in(
+    alloc: Global,
+    title: &str,
+    keys: &[(Text, Text)],
+    names: &Names,
+) -> Result<ClientSpec, ConfFault>
+    ensures value { IfOk result (λ value.
+        or_section_fault title.now (client_of keys.now names.now) ≡ Ok value) }
+    ensures fault { IfErr result (λ fault.
+        IsFault fault (or_section_fault title.now (client_of keys.now names.now))) }
 {
-    match client {
-        Ok(client) => Ok(Others {
-            daemon: others.daemon,
-            client,
-            servers: others.servers,
-        }),
-        Err(fault) => Err(fault),
+    match client_of(alloc, keys, names) {
+        Ok(value) => Ok(value),
+        Err(Unread::Faulty(fault)) => Err(section_fault(alloc, title, fault)?),
+        Err(Unread::OutOfMemory) => Err(ConfFault::OutOfMemory),
     }
 }
 
@@ -340,16 +138,16 @@ fn after_unix(
     names: &Names,
     others: Others,
     section: &Section,
-) -> Result<Decided<Others>, AllocError>
-    ensures { IfOk result (λ next. next ≡ after_unix names.now others section.now) }
+) -> Result<Others, ConfFault>
+    ensures value { IfOk result (λ value. after_unix names.now others section.now ≡ Ok value) }
+    ensures fault { IfErr result (λ fault.
+        IsFault fault (after_unix names.now others section.now)) }
 {
     let name = section.name.as_str();
     let keys = section.keys.as_slice();
-    if !is_set(Key::File, keys) {
-        return Ok(Err(missing(alloc, name, Key::File)?));
-    }
-    let server = unix_server(alloc, keys, names)?;
-    with_server(others, or_section_fault(alloc, name, server)?)
+    must_have(alloc, name, Key::File, keys)?;
+    let server = unix_in(alloc, name, keys, names)?;
+    Ok(with_server(others, server)?)
 }
 
 #[tactic(auto, unfolding(crate::specs::ServerSections::after_inet))]
@@ -358,16 +156,16 @@ fn after_inet(
     names: &Names,
     others: Others,
     section: &Section,
-) -> Result<Decided<Others>, AllocError>
-    ensures { IfOk result (λ next. next ≡ after_inet names.now others section.now) }
+) -> Result<Others, ConfFault>
+    ensures value { IfOk result (λ value. after_inet names.now others section.now ≡ Ok value) }
+    ensures fault { IfErr result (λ fault.
+        IsFault fault (after_inet names.now others section.now)) }
 {
     let name = section.name.as_str();
     let keys = section.keys.as_slice();
-    if !is_set(Key::Port, keys) {
-        return Ok(Err(missing(alloc, name, Key::Port)?));
-    }
-    let server = inet_server(alloc, keys, names)?;
-    with_server(others, or_section_fault(alloc, name, server)?)
+    must_have(alloc, name, Key::Port, keys)?;
+    let server = inet_in(alloc, name, keys, names)?;
+    Ok(with_server(others, server)?)
 }
 
 #[tactic(auto, unfolding(crate::specs::ServerSections::after_daemon))]
@@ -376,12 +174,17 @@ fn after_daemon(
     names: &Names,
     others: Others,
     section: &Section,
-) -> Result<Decided<Others>, AllocError>
-    ensures { IfOk result (λ next. next ≡ after_daemon names.now others section.now) }
+) -> Result<Others, ConfFault>
+    ensures value { IfOk result (λ value. after_daemon names.now others section.now ≡ Ok value) }
+    ensures fault { IfErr result (λ fault.
+        IsFault fault (after_daemon names.now others section.now)) }
 {
     let name = section.name.as_str();
-    let daemon = daemon_of(alloc, section.keys.as_slice(), names)?;
-    Ok(with_daemon(others, or_section_fault(alloc, name, daemon)?))
+    Ok(Others {
+        daemon: daemon_in(alloc, name, section.keys.as_slice(), names)?,
+        client: others.client,
+        servers: others.servers,
+    })
 }
 
 #[tactic(auto, unfolding(crate::specs::ServerSections::after_client))]
@@ -390,12 +193,17 @@ fn after_client(
     names: &Names,
     others: Others,
     section: &Section,
-) -> Result<Decided<Others>, AllocError>
-    ensures { IfOk result (λ next. next ≡ after_client names.now others section.now) }
+) -> Result<Others, ConfFault>
+    ensures value { IfOk result (λ value. after_client names.now others section.now ≡ Ok value) }
+    ensures fault { IfErr result (λ fault.
+        IsFault fault (after_client names.now others section.now)) }
 {
     let name = section.name.as_str();
-    let client = client_of(alloc, section.keys.as_slice(), names)?;
-    Ok(with_client(others, or_section_fault(alloc, name, client)?))
+    Ok(Others {
+        daemon: others.daemon,
+        client: client_in(alloc, name, section.keys.as_slice(), names)?,
+        servers: others.servers,
+    })
 }
 
 #[tactic(auto, unfolding(crate::specs::ServerSections::after_section))]
@@ -404,8 +212,10 @@ fn after_section(
     names: &Names,
     others: Others,
     section: &Section,
-) -> Result<Decided<Others>, AllocError>
-    ensures { IfOk result (λ next. next ≡ after_section names.now others section.now) }
+) -> Result<Others, ConfFault>
+    ensures value { IfOk result (λ value. after_section names.now others section.now ≡ Ok value) }
+    ensures fault { IfErr result (λ fault.
+        IsFault fault (after_section names.now others section.now)) }
 {
     let name = section.name.as_str();
     if name == "unix_http_server" {
@@ -417,30 +227,39 @@ fn after_section(
     } else if name == "supervisorctl" {
         after_client(alloc, names, others, section)
     } else {
-        Ok(Ok(others))
+        Ok(others)
     }
 }
 
-/// What the sections of the daemon, its servers and its client tell, or the first fault in them.
+/// What the sections of the daemon, its servers and its client tell.
 #[tactic(auto, unfolding(crate::specs::ServerSections::others_of))]
-pub fn others_of(
-    alloc: Global,
-    host: &Host,
-    sections: &[Section],
-) -> Result<Decided<Others>, AllocError>
-    ensures { IfOk result (λ others. others ≡ others_of host.now sections.now) }
+fn read_others(alloc: Global, host: &Host, sections: &[Section]) -> Result<Others, ConfFault>
+    ensures value { IfOk result (λ value. others_of host.now sections.now ≡ Ok value) }
+    ensures fault { IfErr result (λ fault. IsFault fault (others_of host.now sections.now)) }
 {
     let names = names::host_names(alloc, host)?;
     let mut others = first_others(alloc);
     let mut left = sections;
     while let [section, rest @ ..] = left {
-        match after_section(alloc, &names, others, section)? {
-            Ok(next) => others = next,
-            Err(fault) => return Ok(Err(fault)),
-        }
+        others = after_section(alloc, &names, others, section)?;
         left = rest;
     }
-    Ok(Ok(others))
+    Ok(others)
+}
+
+/// What the sections of the daemon, its servers and its client tell, or the first fault in them.
+pub fn others_of(
+    alloc: Global,
+    host: &Host,
+    sections: &[Section],
+) -> Result<Result<Others, ConfFault>, AllocError>
+    ensures { IfOk result (λ others. others ≡ others_of host.now sections.now) }
+{
+    match read_others(alloc, host, sections) {
+        Ok(others) => Ok(Ok(others)),
+        Err(ConfFault::OutOfMemory) => Err(AllocError),
+        Err(fault) => Ok(Err(fault)),
+    }
 }
 
 fn unix_url(alloc: Global, place: &Place) -> Result<Option<Text>, AllocError>
@@ -514,7 +333,7 @@ fn url_of(alloc: Global, servers: &[ServerSpec]) -> Result<Option<Text>, AllocEr
 
 /// What all processes share; a fault in the sections that tell it leaves it empty.
 #[tactic(auto, unfolding(crate::specs::ServerSections::common_of))]
-pub fn common_of(alloc: Global, others: &Decided<Others>) -> Result<Common, AllocError>
+pub fn common_of(alloc: Global, others: &Result<Others, ConfFault>) -> Result<Common, AllocError>
     ensures { IfOk result (λ common. common ≡ common_of others.now) }
 {
     match others {

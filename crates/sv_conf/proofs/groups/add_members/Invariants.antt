@@ -1,4 +1,4 @@
-use Rattle.std.proofs.Common.{◌≡◌, ◌++◌, ◌≤◌, ◌+◌, [], length, map, Ok}
+use Rattle.std.proofs.Common.{◌≡◌, ◌++◌}
 use Rattle.sv_conf.proofs.groups.add_members.Given as goal
 
 abbrev pub invariant-loop-member : goal.invariant-loop-member

@@ -1,7 +1,7 @@
 use Rattle.std.proofs.Common.{◌≡◌, length}
 use Rattle.std.specs.Vec.Iter.{into_iter_items}
 use Rattle.sv_conf.specs.Configuration.{groups_from}
-use Rattle.sv_conf.specs.KnownNames.{host_names}
+use Rattle.sv_keys.specs.KnownNames.{host_names}
 use Rattle.sv_conf.proofs.groups.all_groups.Given as goal
 
 abbrev pub invariant-loop-left : goal.invariant-loop-left

@@ -1,4 +1,4 @@
-use Rattle.std.proofs.Common.{◌≡◌, ◌++◌, ◌≤◌, ◌+◌, [], length, map, Ok}
+use Rattle.std.proofs.Common.{◌≡◌, ◌+◌, [], length}
 use Rattle.std.proofs.Common.{take, drop}
 use Rattle.sv_conf.specs.Configuration.{each_once}
 use Rattle.sv_conf.proofs.groups.each_once.Given as goal

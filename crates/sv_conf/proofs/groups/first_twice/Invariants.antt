@@ -1,4 +1,4 @@
-use Rattle.std.proofs.Common.{◌≡◌, ◌++◌, ◌≤◌, ◌+◌, [], length, map, Ok}
+use Rattle.std.proofs.Common.{◌≡◌, ◌+◌, [], length}
 use Rattle.std.proofs.Common.{take, drop}
 use Rattle.sv_conf.specs.Configuration.{first_twice}
 use Rattle.sv_conf.proofs.groups.first_twice.Given as goal

@@ -1,4 +1,4 @@
-use Rattle.std.proofs.Common.{◌≡◌, ◌++◌, ◌≤◌, ◌+◌, [], length, map, Ok}
+use Rattle.std.proofs.Common.{◌≡◌}
 use Rattle.sv_conf.specs.Configuration.{members_of}
 use Rattle.sv_conf.proofs.groups.members_of.Given as goal
 

@@ -1,4 +1,4 @@
-use Rattle.std.proofs.Common.{◌≡◌, ◌++◌, ◌≤◌, ◌+◌, [], length, map, Ok}
+use Rattle.std.proofs.Common.{◌≡◌, length}
 use Rattle.std.specs.List.{find}
 use Rattle.sv_conf.specs.Configuration.{missing_in, is_missing}
 use Rattle.sv_conf.proofs.groups.missing_in.Given as goal

@@ -1,4 +1,4 @@
-use Rattle.std.proofs.Common.{◌≡◌, ◌++◌, ◌≤◌, ◌+◌, [], length, map, Ok}
+use Rattle.std.proofs.Common.{◌≡◌, map}
 use Rattle.sv_conf.specs.Configuration.{with_sorted}
 use Rattle.sv_conf.proofs.groups.sorted_groups.Given as goal
 

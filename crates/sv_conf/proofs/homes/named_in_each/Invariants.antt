@@ -1,6 +1,6 @@
-use Rattle.std.proofs.Common.{◌≡◌, ◌++◌, ◌≤◌, ◌+◌, [], length, map, Ok}
+use Rattle.std.proofs.Common.{◌≡◌, ◌++◌, length, map}
 use Rattle.sv_conf.specs.Homes.{named_in}
-use Rattle.sv_conf.specs.KnownNames.{host_names}
+use Rattle.sv_keys.specs.KnownNames.{host_names}
 use Rattle.sv_conf.proofs.homes.named_in_each.Given as goal
 
 abbrev pub invariant-loop-left : goal.invariant-loop-left

@@ -1,4 +1,4 @@
-use Rattle.std.proofs.Common.{◌≡◌, ◌++◌, ◌≤◌, ◌+◌, [], length, map, Ok}
+use Rattle.std.proofs.Common.{◌≡◌}
 use Rattle.sv_conf.specs.Homes.{with_parts}
 use Rattle.sv_conf.proofs.homes.put_parts.Given as goal
 

@@ -1,4 +1,4 @@
-use Rattle.std.proofs.Common.{◌≡◌, ◌++◌, ◌≤◌, ◌+◌, [], length, map, Ok}
+use Rattle.std.proofs.Common.{◌≡◌, ◌≤◌, ◌+◌}
 use Rattle.sv_conf.specs.Processes.{drafts_from}
 use Rattle.sv_conf.proofs.processes.all_drafts.Given as goal
 

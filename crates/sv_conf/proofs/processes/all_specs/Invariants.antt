@@ -1,4 +1,4 @@
-use Rattle.std.proofs.Common.{◌≡◌, ◌++◌, ◌≤◌, ◌+◌, [], length, map, Ok}
+use Rattle.std.proofs.Common.{◌≡◌, map}
 use Rattle.sv_conf.specs.Processes.{spec_of}
 use Rattle.sv_conf.proofs.processes.all_specs.Given as goal
 

@@ -1,4 +1,4 @@
-use Rattle.std.proofs.Common.{◌≡◌, ◌++◌, ◌≤◌, ◌+◌, [], length, map, Ok}
+use Rattle.std.proofs.Common.{◌≡◌, ◌≤◌, ◌+◌, length}
 use Rattle.sv_conf.specs.Configuration.{after_programs, all_parts}
 use Rattle.sv_conf.specs.Homes.{all_named}
 use Rattle.sv_conf.proofs.programs.all_parts.Given as goal

@@ -1,4 +1,4 @@
-use Rattle.std.proofs.Common.{◌≡◌, ◌++◌, ◌≤◌, ◌+◌, [], length, map, Ok}
+use Rattle.std.proofs.Common.{◌≡◌, ◌++◌, length, map}
 use Rattle.sv_conf.specs.Configuration.{no_parts}
 use Rattle.sv_conf.proofs.programs.no_parts.Given as goal
 

@@ -1,4 +1,4 @@
-use Rattle.std.proofs.Common.{◌≡◌, ◌++◌, ◌≤◌, ◌+◌, [], length, map, Ok}
+use Rattle.std.proofs.Common.{◌≡◌, [], length, Ok}
 use Rattle.sv_conf.specs.Configuration.{parts_from}
 use Rattle.sv_conf.proofs.programs.parts_from.Given as goal
 

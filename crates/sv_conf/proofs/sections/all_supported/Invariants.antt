@@ -1,4 +1,4 @@
-use Rattle.std.proofs.Common.{◌≡◌, ◌++◌, ◌≤◌, ◌+◌, [], length, map, Ok}
+use Rattle.std.proofs.Common.{◌≡◌, length}
 use Rattle.sv_conf.specs.Configuration.{all_supported}
 use Rattle.sv_conf.proofs.sections.all_supported.Given as goal
 

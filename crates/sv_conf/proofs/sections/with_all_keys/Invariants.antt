@@ -1,4 +1,4 @@
-use Rattle.std.proofs.Common.{◌≡◌, ◌++◌, ◌≤◌, ◌+◌, [], length, map, Ok}
+use Rattle.std.proofs.Common.{◌≡◌}
 use Rattle.sv_conf.specs.Configuration.{with_all_keys}
 use Rattle.sv_conf.proofs.sections.with_all_keys.Given as goal
 

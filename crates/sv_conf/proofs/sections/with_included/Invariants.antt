@@ -1,4 +1,4 @@
-use Rattle.std.proofs.Common.{◌≡◌, ◌++◌, ◌≤◌, ◌+◌, [], length, map, Ok}
+use Rattle.std.proofs.Common.{◌≡◌, length}
 use Rattle.sv_conf.specs.Configuration.{with_included}
 use Rattle.sv_conf.proofs.sections.with_included.Given as goal
 

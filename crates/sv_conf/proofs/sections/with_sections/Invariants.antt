@@ -1,4 +1,4 @@
-use Rattle.std.proofs.Common.{◌≡◌, ◌++◌, ◌≤◌, ◌+◌, [], length, map, Ok}
+use Rattle.std.proofs.Common.{◌≡◌}
 use Rattle.sv_conf.specs.Configuration.{with_sections}
 use Rattle.sv_conf.proofs.sections.with_sections.Given as goal
 

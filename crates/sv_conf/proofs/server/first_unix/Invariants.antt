@@ -1,4 +1,4 @@
-use Rattle.std.proofs.Common.{◌≡◌, ◌++◌, ◌≤◌, ◌+◌, [], length, map, Ok}
+use Rattle.std.proofs.Common.{◌≡◌, length}
 use Rattle.sv_conf.specs.ServerSections.{first_url, unix_url}
 use Rattle.sv_conf.proofs.server.first_unix.Given as goal
 

@@ -1,0 +1,40 @@
+//! A key's fault with the name of its section.
+
+ghost use Rattle.std.specs.Prelude.{◌≡◌, Ok, IfOk, IfErr};
+ghost use Rattle.sv_conf.specs.FaultTexts.{IsFault};
+ghost use Rattle.sv_conf.specs.SectionFaults.{section_fault, or_missing};
+
+use crate::fault::ConfFault;
+use std::alloc::{AllocError, Global};
+use sv_base::text::Text;
+use sv_keys::judged::{Cause, KeyFault};
+use sv_keys::key::Key;
+use sv_keys::server_keys::is_set;
+
+/// The fault of a key as that of a whole configuration.
+pub fn section_fault(alloc: Global, section: &str, fault: KeyFault) -> Result<ConfFault, AllocError>
+    ensures { IfOk result (λ told. told ≡ section_fault section.now fault) }
+{
+    let section = Text::from_str(alloc, section)?;
+    let key = Text::fixed(fault.key.name());
+    match fault.cause {
+        Cause::Expand => Ok(ConfFault::Expand(section, key)),
+        Cause::BadValue => Ok(ConfFault::BadValue(section, key)),
+    }
+}
+
+/// Nothing where a key stands in its section, else the fault that it is missing.
+pub fn must_have(
+    alloc: Global,
+    section: &str,
+    key: Key,
+    keys: &[(Text, Text)],
+) -> Result<(), ConfFault>
+    ensures there { IfOk result (λ _. or_missing section.now key keys.now ≡ Ok keys.now) }
+    ensures fault { IfErr result (λ fault. IsFault fault (or_missing section.now key keys.now)) }
+{
+    if is_set(key, keys) {
+        return Ok(());
+    }
+    Err(ConfFault::Missing(Text::from_str(alloc, section)?, Text::fixed(key.name())))
+}

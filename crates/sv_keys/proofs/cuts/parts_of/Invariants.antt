@@ -1,0 +1,10 @@
+use Rattle.std.proofs.Common.{◌≡◌, ◌++◌, length}
+use Rattle.std.specs.Str.{IsUtf8}
+use Rattle.sv_keys.specs.Cuts.{parts_of}
+use Rattle.sv_keys.proofs.cuts.parts_of.Given as goal
+
+abbrev pub invariant-loop-cut : goal.invariant-loop-cut
+invariant-loop-cut l = record { same : l.parts ++ parts_of l.left ≡ parts_of l.text; valid : IsUtf8 l.left }
+
+abbrev pub decreases-loop-cut : goal.decreases-loop-cut
+decreases-loop-cut l = length l.left

@@ -1,0 +1,10 @@
+pub mod Cuts
+pub mod Environments
+pub mod Judged
+pub mod KeyNames
+pub mod KeyTable
+pub mod KnownNames
+pub mod ProgramNames
+pub mod Rows
+pub mod ServerKeys
+pub mod Values

@@ -1,0 +1,27 @@
+-- What may be the name of a program, a group or a process, and the titles of their sections.
+use Rattle.std.specs.Prelude.{◌==◌, ℕ, List, Bool, ◌&&◌, not, nat_lt, nat_le, Option, Some, None, if◌then◌else◌}
+use Rattle.std.specs.List.{list_all}
+use Rattle.std.specs.Str.{bytes_eq, chars}
+use Rattle.sv_keys.specs.Cuts.{cut_at, is_colon, is_empty}
+
+-- no space, control character, colon, slash or asterisk
+abbrev pub is_name_letter : ℕ → Bool
+is_name_letter c =
+    nat_lt 32 c && not (nat_le 127 c && nat_le c 159) && not (c == 58) && not (c == 47) && not (c == 42)
+
+-- what may be a name: one such character or more
+abbrev pub is_name : List ℕ → Bool
+is_name text = not (is_empty text) && list_all is_name_letter (chars text)
+
+-- the name of a process
+abbrev pub name_of : List ℕ → Option (List ℕ)
+name_of text = if is_name text then Some text else None
+
+-- what stands behind this word, where the text is cut behind it
+abbrev pub behind : List ℕ → Option (List ℕ × List ℕ) → Option (List ℕ)
+behind word None = None
+behind word (Some parts) = if bytes_eq parts.0 word then Some parts.1 else None
+
+-- what stands behind this word and a colon in a title
+abbrev pub titled : List ℕ → List ℕ → Option (List ℕ)
+titled word title = behind word (cut_at is_colon title)
