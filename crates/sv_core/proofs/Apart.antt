@@ -1,5 +1,5 @@
 -- In a configuration no two children have one group and one name.
-use Rattle.std.proofs.Common.{◌≡◌, ℕ, zero, suc, List, [], ◌∷◌, ◌++◌, true, false, Some, refl, sym, ap, ◌∙◌}
+use Rattle.std.proofs.Common.{◌≡◌, ℕ, zero, suc, List, [], ◌∷◌, ◌++◌, map, Bool, true, false, Some, refl, sym, ap, ◌∙◌}
 use Rattle.std.specs.Prelude.{slice_get}
 use Rattle.std.specs.List.{flat_map, list_all, list_any}
 use Rattle.std.specs.Str.{bytes_eq}
@@ -10,10 +10,11 @@ use Rattle.sv_base.specs.Order.{are_distinct, is_rising}
 use Rattle.sv_base.specs.Roster.{are_memberships, is_membership, is_roster}
 use Rattle.sv_base.specs.declared.spec.GroupSpec.{GroupSpec}
 use Rattle.sv_base.specs.declared.spec.Spec.{Spec}
-use Rattle.sv_core.specs.Path.{IsOnlyOne, are_in_own_groups, is_in_own_group}
+use Rattle.sv_core.specs.MachineState.{of_group, own_members}
+use Rattle.sv_core.specs.Path.{IsOnlyOne}
 
 abbrev pub members_of : List GroupSpec → List Spec
-members_of groups = flat_map (λ (g : GroupSpec). g.members) groups
+members_of groups = flat_map own_members groups
 
 -- none of these has this one's group and name
 abbrev pub Unlike : Spec → List Spec → Type 0
@@ -79,40 +80,53 @@ unlike_group s name (t ∷ ts) own other =
     let parts = and_parts (bytes_eq t.group name) (list_all (λ (y : Spec). bytes_eq y.group name) ts) own in
     (λ group named. other (sym ((bytes_eq-Decides t.group name).0 parts.0) ∙ group), unlike_group s name ts parts.1 other)
 
-unlike_groups : (s : Spec) (gs : List GroupSpec) → are_in_own_groups gs ≡ true
+-- ---- a group's children have the group's name, and keep their own
+
+own_name : (name : List ℕ) (ms : List Spec) → list_all (λ (t : Spec). bytes_eq t.group name) (map (of_group name) ms) ≡ true
+own_name name [] = refl
+own_name name (m ∷ ms) = rw ((bytes_eq-Decides name name).1 refl, own_name name ms) refl
+
+named_as_before : (group name : List ℕ) (ms : List Spec)
+    → list_any (λ (t : Spec). bytes_eq t.name name) (map (of_group group) ms) ≡ list_any (λ (t : Spec). bytes_eq t.name name) ms
+named_as_before group name [] = refl
+named_as_before group name (m ∷ ms) = rw (named_as_before group name ms) refl
+
+distinct_as_before : (group : List ℕ) (ms : List Spec)
+    → are_distinct (λ (t : Spec). t.name) (map (of_group group) ms) ≡ are_distinct (λ (t : Spec). t.name) ms
+distinct_as_before group [] = refl
+distinct_as_before group (m ∷ ms) = rw (named_as_before group m.name ms, distinct_as_before group ms) refl
+
+unlike_groups : (s : Spec) (gs : List GroupSpec)
     → list_any (λ (g : GroupSpec). bytes_eq g.name s.group) gs ≡ false → Unlike s (members_of gs)
-unlike_groups s [] own other = tt
-unlike_groups s (g ∷ gs) own other =
-    let owns = and_parts (is_in_own_group g) (are_in_own_groups gs) own in
+unlike_groups s [] other = tt
+unlike_groups s (g ∷ gs) other =
     let others = or_parts (bytes_eq g.name s.group) (list_any (λ (h : GroupSpec). bytes_eq h.name s.group) gs) other in
-    unlike_append s g.members (members_of gs)
-    (unlike_group s g.name g.members owns.0 (λ same. both_ways (bytes_eq g.name s.group) others.0 ((bytes_eq-Decides g.name s.group).1 same)))
-    (unlike_groups s gs owns.1 others.1)
+    unlike_append s (own_members g) (members_of gs)
+    (unlike_group s g.name (own_members g) (own_name g.name g.members) (λ same. both_ways (bytes_eq g.name s.group) others.0 ((bytes_eq-Decides g.name s.group).1 same)))
+    (unlike_groups s gs others.1)
 
 all_unlike : (ss : List Spec) (name : List ℕ) (gs : List GroupSpec) → list_all (λ (s : Spec). bytes_eq s.group name) ss ≡ true
-    → are_in_own_groups gs ≡ true → list_any (λ (g : GroupSpec). bytes_eq g.name name) gs ≡ false → AllUnlike ss (members_of gs)
-all_unlike [] name gs mine own other = tt
-all_unlike (s ∷ ss) name gs mine own other =
+    → list_any (λ (g : GroupSpec). bytes_eq g.name name) gs ≡ false → AllUnlike ss (members_of gs)
+all_unlike [] name gs mine other = tt
+all_unlike (s ∷ ss) name gs mine other =
     let parts = and_parts (bytes_eq s.group name) (list_all (λ (y : Spec). bytes_eq y.group name) ss) mine in
     let same : s.group ≡ name = (bytes_eq-Decides s.group name).0 parts.0 in
-    (unlike_groups s gs own (ap (λ n. list_any (λ (g : GroupSpec). bytes_eq g.name n) gs) same ∙ other), all_unlike ss name gs parts.1 own other)
+    (unlike_groups s gs (ap (λ n. list_any (λ (g : GroupSpec). bytes_eq g.name n) gs) same ∙ other), all_unlike ss name gs parts.1 other)
 
-apart_groups : (gs : List GroupSpec) → are_distinct (λ (g : GroupSpec). g.name) gs ≡ true → are_memberships gs ≡ true
-    → are_in_own_groups gs ≡ true → Apart (members_of gs)
-apart_groups [] distinct members own = tt
-apart_groups (g ∷ gs) distinct members own =
+apart_groups : (gs : List GroupSpec) → are_distinct (λ (g : GroupSpec). g.name) gs ≡ true → are_memberships gs ≡ true → Apart (members_of gs)
+apart_groups [] distinct members = tt
+apart_groups (g ∷ gs) distinct members =
     let distincts = and_parts _ (are_distinct (λ (h : GroupSpec). h.name) gs) distinct in
     let each = and_parts (is_membership g.members) (are_memberships gs) members in
-    let owns = and_parts (is_in_own_group g) (are_in_own_groups gs) own in
     let names = and_parts (is_rising (λ (m : Spec). m.priority) (λ (m : Spec). m.name) g.members) (are_distinct (λ (m : Spec). m.name) g.members) each.0 in
-    apart_append g.members (members_of gs) (apart_names g.members names.1)
-    (apart_groups gs distincts.1 each.1 owns.1)
-    (all_unlike g.members g.name gs owns.0 owns.1 (not-true (list_any (λ (h : GroupSpec). bytes_eq h.name g.name) gs) distincts.0))
+    apart_append (own_members g) (members_of gs) (apart_names (own_members g) (distinct_as_before g.name g.members ∙ names.1))
+    (apart_groups gs distincts.1 each.1)
+    (all_unlike (own_members g) g.name gs (own_name g.name g.members) (not-true (list_any (λ (h : GroupSpec). bytes_eq h.name g.name) gs) distincts.0))
 
-pub only_in_roster : (groups : List GroupSpec) (place : ℕ) (spec : Spec) → is_roster groups ≡ true → are_in_own_groups groups ≡ true
+pub only_in_roster : (groups : List GroupSpec) (place : ℕ) (spec : Spec) → is_roster groups ≡ true
     → slice_get (members_of groups) place ≡ Some spec → IsOnlyOne (members_of groups) place spec
-only_in_roster groups place spec roster own is =
+only_in_roster groups place spec roster is =
     let members = and_parts _ (are_memberships groups) roster in
     let distinct = and_parts _ (are_distinct (λ (g : GroupSpec). g.name) groups) members.0 in
-    let apart = apart_groups groups distinct.1 members.1 own in
+    let apart = apart_groups groups distinct.1 members.1 in
     λ other_place other it group name. only_one (members_of groups) apart place other_place spec other is it group name

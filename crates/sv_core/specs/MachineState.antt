@@ -50,9 +50,17 @@ hand m = came (turn_of m.begun m.base) m.answers
 abbrev pub now : Model → World
 now m = world_of (hand m)
 
+-- a process as a child of the group of this name, whatever it says of its group itself
+abbrev pub of_group : List ℕ → Spec → Spec
+of_group name spec = record spec { group = name }
+
+-- the children of a group
+abbrev pub own_members : GroupSpec → List Spec
+own_members group = map (of_group group.name) group.members
+
 -- the children of a configuration, in start order
 abbrev pub specs_of : Config → List Spec
-specs_of config = flat_map (λ (g : GroupSpec). g.members) config.groups
+specs_of config = flat_map own_members config.groups
 
 abbrev pub new_member : Spec → Member
 new_member spec = record { spec = spec; child = new_child }

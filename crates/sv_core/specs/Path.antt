@@ -1,8 +1,6 @@
 -- What the orders report of one child, told by its group and name, and which state it is in.
 use Rattle.std.specs.Prelude.{◌≡◌, ℕ, List, Bool, Option, Some, None, ◌&&◌, if◌then◌else◌, map, slice_get}
-use Rattle.std.specs.List.{list_all}
 use Rattle.std.specs.Str.{bytes_eq}
-use Rattle.sv_base.specs.declared.spec.GroupSpec.{GroupSpec}
 use Rattle.sv_base.specs.declared.spec.Spec.{Spec}
 use Rattle.sv_base.specs.declared.state.State.{State}
 use Rattle.sv_base.specs.declared.state.State.TheVariants.{Stopped}
@@ -27,13 +25,6 @@ abbrev pub IsOnlyOne : List Spec → ℕ → Spec → Type 0
 IsOnlyOne specs place spec =
     (other_place : ℕ) (other : Spec) → slice_get specs other_place ≡ Some other
     → other.group ≡ spec.group → other.name ≡ spec.name → other_place ≡ place
-
--- each member of this group says that it is of this group
-abbrev pub is_in_own_group : GroupSpec → Bool
-is_in_own_group group = list_all (λ (spec : Spec). bytes_eq spec.group group.name) group.members
-
-abbrev pub are_in_own_groups : List GroupSpec → Bool
-are_in_own_groups groups = list_all is_in_own_group groups
 
 -- the state of a child; what isn't there is stopped
 abbrev pub state_of : Option Member → State

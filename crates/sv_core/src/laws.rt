@@ -7,21 +7,20 @@ ghost use Rattle.sv_base.specs.declared.state.State.TheVariants.{Stopped};
 ghost use Rattle.sv_child.specs.Diagram.{IsWalk};
 ghost use Rattle.sv_core.specs.Deeds.{after, deeds};
 ghost use Rattle.sv_core.specs.MachineState.{now, opening, specs_of};
-ghost use Rattle.sv_core.specs.Path.{IsOnlyOne, are_in_own_groups, edges_told, state_at};
+ghost use Rattle.sv_core.specs.Path.{IsOnlyOne, edges_told, state_at};
 ghost use Rattle.sv_core.specs.WorkedJournals.{ClockGoesBack, GroupsStopOneByOne, KillAtEachDeadline, Rest, SpawnThatFails, StartsStaysUpAndExits, ThreeRetriesThenFatal, UpAtOnce};
 ghost use Rattle.sv_out.specs.declared.input.Input.{Input};
 
 /// Whatever the machine is told, what it reports of a child is a path through the diagram of states: the first edge
 /// leads from STOPPED, each further one from where the one before ended, the last to where the child is. A report
-/// names its child by group and name, so this is said of a child that no other child of the configuration shares both
-/// with. In a configuration as its type keeps it, where each child also says the name of its own group, that is each
-/// child.
+/// names its child by the names of its group and of itself, so this is said of a child that no other child of the
+/// configuration shares both with. In a configuration as its type keeps it that is each child.
 pub fn reports_are_a_path()
     ensures only_one { (config : Config) (sizes : List (List ℕ × ℕ)) (host : Host) (inputs : List Input) (place : ℕ) (spec : Spec) →
         slice_get (specs_of config) place ≡ Some spec → IsOnlyOne (specs_of config) place spec →
         IsWalk Stopped (edges_told spec.group spec.name (deeds (opening config sizes host) inputs)) (state_at (now (after (opening config sizes host) inputs)) place) }
     ensures roster { (config : Config) (sizes : List (List ℕ × ℕ)) (host : Host) (inputs : List Input) (place : ℕ) (spec : Spec) →
-        IsTrue (is_roster config.groups) → IsTrue (are_in_own_groups config.groups) → slice_get (specs_of config) place ≡ Some spec →
+        IsTrue (is_roster config.groups) → slice_get (specs_of config) place ≡ Some spec →
         IsWalk Stopped (edges_told spec.group spec.name (deeds (opening config sizes host) inputs)) (state_at (now (after (opening config sizes host) inputs)) place) }
 {}
 

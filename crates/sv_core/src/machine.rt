@@ -1,6 +1,6 @@
 ghost use Rattle.std.specs.Prelude.{◌≡◌, ◌++◌, List, [], ℕ, IsTrue, false, ◌&&◌, nat_lt, IfOk, OnOk, OnErr, map};
 ghost use Rattle.std.specs.List.{flat_map};
-ghost use Rattle.sv_core.specs.MachineState.{new_member, whole_group};
+ghost use Rattle.sv_core.specs.MachineState.{new_member, of_group, own_members, whole_group};
 ghost use Rattle.sv_out.specs.declared.order.Order.{Order};
 
 use crate::course::Course;
@@ -204,13 +204,14 @@ impl Machine {
 
 /// The children of these groups in start order, each as it is before its first start, and the groups.
 fn roster_of(alloc: Global, groups: Groups) -> Result<(Vec<Member>, Vec<Target>), AllocError>
-    ensures members { IfOk result (λ roster. roster.0.items ≡ map new_member (flat_map (λ g. g.members) groups)) }
+    ensures members { IfOk result (λ roster. roster.0.items ≡ map new_member (flat_map own_members groups)) }
     ensures groups { IfOk result (λ roster. roster.1.items ≡ map whole_group groups) }
 {
     let mut members = Vec::new(alloc);
     let mut targets = Vec::new(alloc);
     for group in groups.into_vec() {
-        add_members(&mut members, group.members.into_vec())?;
+        let specs = group.members.into_vec();
+        add_members(&mut members, &group.name, specs)?;
         targets.push(Target {
             group: group.name,
             member: None,
@@ -219,14 +220,24 @@ fn roster_of(alloc: Global, groups: Groups) -> Result<(Vec<Member>, Vec<Target>)
     Ok((members, targets))
 }
 
-fn add_members(members: &mut Vec<Member>, specs: Vec<Spec>) -> Result<(), AllocError>
-    ensures { OnOk result (members.new.items ≡ members.old.items ++ map new_member specs.items) }
+fn add_members(members: &mut Vec<Member>, group: &Text, specs: Vec<Spec>) -> Result<(), AllocError>
+    ensures { OnOk result (members.new.items ≡
+        members.old.items ++ map new_member (map (of_group group.now) specs.items)) }
 {
     for spec in specs {
         members.push(Member {
-            spec,
+            spec: of_group(group, spec)?,
             child: Child::new(),
         })?;
     }
     Ok(())
+}
+
+/// A process as a child of this group, whatever it says of its group itself.
+fn of_group(group: &Text, spec: Spec) -> Result<Spec, AllocError>
+    ensures { IfOk result (λ child. child ≡ of_group group.now spec) }
+{
+    let mut child = spec;
+    child.group = group.clone()?;
+    Ok(child)
 }

@@ -1,8 +1,5 @@
 mod Judged
 mod OneReading
-mod OwnGroups
-mod OwnParts
-mod OwnPrograms
 mod Quiet
 mod ReadAll
 mod Refusals

@@ -22,5 +22,6 @@ pub fn each_child_goes_a_path()
         configuration_of text included host ≡ Ok config →
         ChildrenWalk config (after (opening config sizes host) inputs) (deeds (opening config sizes host) inputs) }
 {
+    sv_conf::laws::accepted_groups_are_a_roster();
     sv_core::laws::reports_are_a_path();
 }

@@ -6,5 +6,5 @@ pub returns-clause-only_one : goal.returns-clause-only_one
 returns-clause-only_one c = path
 
 pub returns-clause-roster : goal.returns-clause-roster
-returns-clause-roster c = λ config sizes host inputs place spec roster own is.
-    path config sizes host inputs place spec is (only_in_roster config.groups place spec roster own is)
+returns-clause-roster c = λ config sizes host inputs place spec roster is.
+    path config sizes host inputs place spec is (only_in_roster config.groups place spec roster is)
