@@ -1,0 +1,5 @@
+pub mod Fronts
+pub mod NewReaders
+pub mod Passes
+pub mod Places
+pub mod RuleKept

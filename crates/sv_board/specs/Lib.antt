@@ -1,0 +1,4 @@
+pub mod Board
+pub mod BoardRule
+pub mod Ends
+pub mod Roles
