@@ -53,3 +53,10 @@ found_by_name text kind e =
 
 pub finds_the_named : (text : List ℕ) (kind : Kind) → text ≡ kind_name kind → first_named text ≡ Some kind
 finds_the_named text kind e = ap first_named e ∙ finds_itself kind
+
+-- kinds of one name are one kind: the name finds both
+pub names_differ : (one other : Kind) → kind_name one ≡ kind_name other → one ≡ other
+names_differ one other e = some_is_one one other (sym (finds_itself one) ∙ ap first_named e ∙ finds_itself other)
+  where
+    some_is_one : (x y : Kind) → Some x ≡ Some y → x ≡ y
+    some_is_one x y h = cc

@@ -11,3 +11,11 @@ deadline_limit = 253001000001000
 -- the most bytes of one piece of a pipe or a link
 abbrev pub piece_limit : ℕ
 piece_limit = 65536
+
+-- the most groups of a configuration
+abbrev pub group_limit : ℕ
+group_limit = 256
+
+-- the most processes of a configuration
+abbrev pub process_limit : ℕ
+process_limit = 1024

@@ -1,7 +1,9 @@
 -- The words for signals and states (the manual's chapters on subprocesses and on its XML-RPC interface).
-use Rattle.std.specs.Prelude.{ℕ, List, codes}
+use Rattle.std.specs.Prelude.{ℕ, ℤ, pos, negsuc, List, codes}
 use Rattle.sv_base.specs.declared.signal.Signal.{Signal}
 use Rattle.sv_base.specs.declared.signal.Signal.TheVariants.{Term, Hup, Int, Quit, Kill, Usr1, Usr2}
+use Rattle.sv_base.specs.declared.state.Mood.{Mood}
+use Rattle.sv_base.specs.declared.state.Mood.TheVariants.{Running as Mood_running, Restarting, Shutdown}
 use Rattle.sv_base.specs.declared.state.State.{State}
 use Rattle.sv_base.specs.declared.state.State.TheVariants.{Stopped, Starting, Running, Backoff, Stopping, Exited, Fatal, Unknown}
 
@@ -36,3 +38,15 @@ state_number Stopping = 40
 state_number Exited = 100
 state_number Fatal = 200
 state_number Unknown = 1000
+
+-- the name of a mood
+abbrev pub mood_name : Mood → List ℕ
+mood_name Mood_running = codes "RUNNING"
+mood_name Restarting = codes "RESTARTING"
+mood_name Shutdown = codes "SHUTDOWN"
+
+-- the number of a mood
+abbrev pub mood_number : Mood → ℤ
+mood_number Mood_running = pos 1
+mood_number Restarting = pos 0
+mood_number Shutdown = negsuc 0

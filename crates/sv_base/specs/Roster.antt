@@ -1,6 +1,7 @@
 -- What each configuration keeps by its type: few enough groups and processes, each in its place, no name twice.
 use Rattle.std.specs.Prelude.{ℕ, List, [], ◌∷◌, Bool, true, ◌&&◌, nat_le, length, ◌-◌}
 use Rattle.std.specs.List.{list_all}
+use Rattle.sv_base.specs.Limits.{group_limit, process_limit}
 use Rattle.sv_base.specs.Order.{is_rising, are_distinct}
 use Rattle.sv_base.specs.declared.spec.Spec.{Spec}
 use Rattle.sv_base.specs.declared.spec.GroupSpec.{GroupSpec}
@@ -10,6 +11,7 @@ abbrev pub is_membership : List Spec → Bool
 is_membership members =
     is_rising (λ (m : Spec). m.priority) (λ (m : Spec). m.name) members && are_distinct (λ (m : Spec). m.name) members
 
+-- so in each of these groups
 abbrev pub are_memberships : List GroupSpec → Bool
 are_memberships groups = list_all (λ (g : GroupSpec). is_membership g.members) groups
 
@@ -21,8 +23,8 @@ fit_within room (g ∷ gs) = nat_le (length g.members) room && fit_within (room 
 -- at most 256 groups of at most 1,024 processes, in start order, each name once
 abbrev pub is_roster : List GroupSpec → Bool
 is_roster groups =
-    nat_le (length groups) 256
-    && fit_within 1024 groups
+    nat_le (length groups) group_limit
+    && fit_within process_limit groups
     && is_rising (λ (g : GroupSpec). g.priority) (λ (g : GroupSpec). g.name) groups
     && are_distinct (λ (g : GroupSpec). g.name) groups
     && are_memberships groups

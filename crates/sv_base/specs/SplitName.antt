@@ -3,6 +3,7 @@ use Rattle.std.specs.Prelude.{List, [], ◌∷◌, ℕ, Bool, nat_eq, nat_lt, le
 use Rattle.std.specs.List.{before_first, after_first, position_or_len}
 use Rattle.std.specs.Str.{bytes_eq}
 
+-- a colon
 abbrev pub is_colon : ℕ → Bool
 is_colon byte = nat_eq byte 58
 

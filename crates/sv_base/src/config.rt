@@ -1,3 +1,6 @@
+//! A whole configuration, and the machine that it is for.
+ghost use Rattle.std.specs.Prelude.{◌≡◌};
+
 use crate::bytes::Bytes;
 use crate::groups::Groups;
 use crate::items::Items;
@@ -5,6 +8,7 @@ use crate::moment::Moment;
 use crate::spec::LogSpec;
 use crate::state::Level;
 use crate::text::Text;
+use std::alloc::AllocError;
 
 /// Where a server listens: a host, empty for all interfaces, with a port from 1 on; or the path of a socket.
 #[derive(Debug, Drop)]
@@ -78,4 +82,63 @@ pub enum FileOrder {
     Append(Text, Bytes),
     Shift(Text, Text),
     Fresh(Text),
+}
+
+impl Clone for Place {
+    ghost is_clone = { λ place copy. copy ≡ place };
+
+    fn clone(&self) -> Result<Place, AllocError> {
+        match self {
+            Place::Inet(host, port) => Ok(Place::Inet(host.clone()?, *port)),
+            Place::Unix(path) => Ok(Place::Unix(path.clone()?)),
+        }
+    }
+}
+
+impl Clone for Password {
+    ghost is_clone = { λ password copy. copy ≡ password };
+
+    fn clone(&self) -> Result<Password, AllocError> {
+        match self {
+            Password::None => Ok(Password::None),
+            Password::Plain(text) => Ok(Password::Plain(text.clone()?)),
+            Password::Sha(digest) => Ok(Password::Sha(*digest)),
+        }
+    }
+}
+
+impl Clone for ServerSpec {
+    ghost is_clone = { λ server copy. copy ≡ server };
+
+    fn clone(&self) -> Result<ServerSpec, AllocError> {
+        Ok(ServerSpec {
+            place: self.place.clone()?,
+            username: self.username.clone()?,
+            password: self.password.clone()?,
+        })
+    }
+}
+
+impl Clone for ClientSpec {
+    ghost is_clone = { λ client copy. copy ≡ client };
+
+    fn clone(&self) -> Result<ClientSpec, AllocError> {
+        Ok(ClientSpec {
+            url: self.url.clone()?,
+            username: self.username.clone()?,
+            password: self.password.clone()?,
+        })
+    }
+}
+
+impl Clone for FileOrder {
+    ghost is_clone = { λ order copy. copy ≡ order };
+
+    fn clone(&self) -> Result<FileOrder, AllocError> {
+        match self {
+            FileOrder::Append(file, bytes) => Ok(FileOrder::Append(file.clone()?, bytes.clone()?)),
+            FileOrder::Shift(from, to) => Ok(FileOrder::Shift(from.clone()?, to.clone()?)),
+            FileOrder::Fresh(file) => Ok(FileOrder::Fresh(file.clone()?)),
+        }
+    }
 }

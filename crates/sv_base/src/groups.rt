@@ -1,3 +1,4 @@
+//! The groups of a configuration: few enough, in start order, each name once.
 ghost use Rattle.std.specs.Prelude.{◌≡◌, ◌↔◌, [], IsTrue, IsSome, IfSome};
 ghost use Rattle.sv_base.specs.Roster.{is_membership, are_memberships, fit_within, is_roster};
 

@@ -1,3 +1,4 @@
+//! The numbers of children, links and runs.
 /// A child's place in the start order, counted from 0.
 #[derive(Clone, Copy, Debug, PartialEq, Eq, PartialOrd, Ord)]
 pub struct ChildId(pub u32);

@@ -1,3 +1,4 @@
+//! A list in a field.
 ghost use Rattle.std.specs.Prelude.{◌≡◌, ◌++◌, ◌∷◌, [], OnOk, OnErr};
 
 use std::alloc::{AllocError, Global};

@@ -1,3 +1,4 @@
+//! The types of events and their names.
 ghost use Rattle.std.specs.Prelude.{◌≡◌};
 ghost use Rattle.sv_base.specs.KindNames.{kind_name};
 

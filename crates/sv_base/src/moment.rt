@@ -1,3 +1,4 @@
+//! Moments and deadlines, in milliseconds since 1970.
 ghost use Rattle.std.specs.Prelude.{◌≡◌, ◌+◌, ◌*◌, ◌≤◌, ◌↔◌, IsSome, IsTrue, IfSome, min};
 ghost use Rattle.sv_base.specs.Limits.{moment_limit, deadline_limit};
 

@@ -1,3 +1,4 @@
+//! The group and the process that a name of a command means.
 ghost use Rattle.std.specs.Prelude.{◌≡◌, IfOk};
 ghost use Rattle.sv_base.specs.SplitName.{split_of, member_of};
 

@@ -1,3 +1,4 @@
+//! Whole numbers that keep their limits.
 ghost use Rattle.std.specs.Prelude.{◌≡◌, ◌+◌, ◌≤◌, ◌↔◌, IsSome, IfSome, min};
 
 use std::marker::Model;

@@ -1,3 +1,4 @@
+//! Start order: by priority, then by name.
 ghost use Rattle.std.specs.Prelude.{◌≡◌, List, ℕ, ℤ};
 ghost use Rattle.sv_base.specs.Order.{start_order, is_before, is_rising, is_named_again, are_distinct};
 

@@ -1,3 +1,4 @@
+//! The signals that a child and the daemon can be sent.
 ghost use Rattle.std.specs.Prelude.{◌≡◌, ◌≢◌, ◌↔◌, IsSome, IfSome};
 ghost use Rattle.sv_base.specs.declared.signal.Signal.{Signal};
 ghost use Rattle.sv_base.specs.Names.{signal_name};

@@ -1,3 +1,4 @@
+//! What a configuration says of a process, its logs, its group and its pool.
 ghost use Rattle.std.specs.Prelude.{◌≡◌};
 
 use crate::items::Items;

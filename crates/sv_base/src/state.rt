@@ -1,6 +1,8 @@
+//! States, moods, ends, streams and levels, and their names.
 ghost use Rattle.std.specs.Prelude.{◌≡◌};
 ghost use Rattle.sv_base.specs.declared.state.State.{State};
-ghost use Rattle.sv_base.specs.Names.{state_name, state_number};
+ghost use Rattle.sv_base.specs.declared.state.Mood.{Mood};
+ghost use Rattle.sv_base.specs.Names.{state_name, state_number, mood_name, mood_number};
 
 use crate::number::ExitSignal;
 
@@ -58,6 +60,30 @@ pub enum Mood {
     Running,
     Restarting,
     Shutdown,
+}
+
+impl Mood {
+    /// The name by which the manual's XML-RPC chapter knows it, in upper case.
+    pub fn name(self) -> &'static str
+        ensures { result.now ≡ mood_name self }
+    {
+        match self {
+            Mood::Running => "RUNNING",
+            Mood::Restarting => "RESTARTING",
+            Mood::Shutdown => "SHUTDOWN",
+        }
+    }
+
+    /// The number by which the manual's XML-RPC chapter knows it.
+    pub fn number(self) -> i64
+        ensures { result ≡ mood_number self }
+    {
+        match self {
+            Mood::Running => 1,
+            Mood::Restarting => 0,
+            Mood::Shutdown => -1,
+        }
+    }
 }
 
 /// How a process ended: with an exit code, or by a signal.

@@ -1,3 +1,4 @@
+//! The words of a configuration for signals, for yes and no, and for event types.
 ghost use Rattle.std.specs.Prelude.{◌≡◌, ◌↔◌, Bool, Some, codes};
 ghost use Rattle.std.specs.List.{find};
 ghost use Rattle.std.specs.Str.{bytes_eq, str_to_ascii_lowercase};

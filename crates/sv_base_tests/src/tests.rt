@@ -1,15 +1,12 @@
 //! The words of tables, sizes and names, with what each stands for; and that calls succeed with ample memory.
 
-use std::alloc::{AllocError, Global};
+use std::alloc::{AllocError, AllocFailed, Global};
+use std::collections::HashMap;
 use std::process::Abort;
-use sv_base::bytes::Bytes;
-use sv_base::items::Items;
-use sv_base::kind::Kind;
-use sv_base::names::split_name;
-use sv_base::signal::Signal;
-use sv_base::sizes::size_of_text;
-use sv_base::text::Text;
-use sv_base::words::{kind_of, signal_of, truth_of};
+use sv_base::{
+    Bytes, ClientSpec, FileOrder, Items, Kind, Mood, Password, Place, ServerSpec, Signal, Text,
+    kind_of, signal_of, size_of_text, split_name, truth_of,
+};
 
 const SIGNALS: [(&str, Option<Signal>); 16] = [
     ("TERM", Some(Signal::Term)),
@@ -127,10 +124,63 @@ fn check_name(rt: &impl Abort, alloc: Global, text: &str, group: &str, process: 
     }
 }
 
+const MOODS: [(Mood, &str, i64); 3] = [
+    (Mood::Running, "RUNNING", 1),
+    (Mood::Restarting, "RESTARTING", 0),
+    (Mood::Shutdown, "SHUTDOWN", -1),
+];
+
+#[test]
+fn moods_have_names_and_numbers(rt: HostRuntime) {
+    for (mood, name, number) in MOODS {
+        assert!(rt;
+            mood.name() == name && mood.number() == number,
+            "the mood {name}"
+        );
+    }
+}
+
 #[test]
 fn succeeds_with_ample_memory(rt: HostRuntime) {
     let made = copies(rt.alloc()).expect(&rt, "memory");
     assert!(rt; made == 3);
+    copies_of_a_server(rt.alloc()).expect(&rt, "memory");
+    copies_of_file_orders(rt.alloc()).expect(&rt, "memory");
+    let found = found_by_text(rt.alloc()).expect(&rt, "memory");
+    assert!(rt; found == Some(7));
+}
+
+fn copies_of_a_server(alloc: Global) -> Result<(), AllocError> {
+    let server = ServerSpec {
+        place: Place::Inet(Text::from_str(alloc, "localhost")?, 9_001),
+        username: Text::from_str(alloc, "admin")?,
+        password: Password::Plain(Text::from_str(alloc, "secret")?),
+    };
+    let _server = server.clone()?;
+    let _place = Place::Unix(Text::from_str(alloc, "/run/s.sock")?).clone()?;
+    let _password = Password::Sha([7; 20]).clone()?;
+    let client = ClientSpec {
+        url: Text::from_str(alloc, "http://localhost:9001")?,
+        username: server.username,
+        password: Text::fixed(""),
+    };
+    let _client = client.clone()?;
+    Ok(())
+}
+
+fn copies_of_file_orders(alloc: Global) -> Result<(), AllocError> {
+    let bytes = Bytes::from_slice(alloc, b"line\n")?;
+    let _append = FileOrder::Append(Text::fixed("a.log"), bytes).clone()?;
+    let _shift = FileOrder::Shift(Text::fixed("a.log"), Text::fixed("a.log.1")).clone()?;
+    let _fresh = FileOrder::Fresh(Text::fixed("a.log")).clone()?;
+    Ok(())
+}
+
+fn found_by_text(alloc: Global) -> Result<Option<u32>, AllocFailed<(Text, u32)>> {
+    let mut numbers = HashMap::new(alloc);
+    numbers.insert(Text::fixed("one"), 1)?;
+    numbers.insert(Text::fixed("seven"), 7)?;
+    Ok(numbers.get(&Text::fixed("seven")).copied())
 }
 
 fn copies(alloc: Global) -> Result<usize, AllocError> {
