@@ -1,3 +1,4 @@
+//! A child and what can happen to it: the rows of the child table.
 ghost use Rattle.std.specs.Prelude.{◌≡◌};
 ghost use Rattle.sv_base.specs.declared.state.Mood.{Mood};
 ghost use Rattle.sv_child.specs.ChildTable.{happens};

@@ -1,3 +1,4 @@
+//! Laws over all lives of a child.
 ghost use Rattle.std.specs.Prelude.{List};
 ghost use Rattle.sv_base.specs.declared.spec.Spec.{Spec};
 ghost use Rattle.sv_child.specs.Diagram.{IsWalk};

@@ -10,3 +10,7 @@ mod rewind;
 pub mod step;
 #[cfg(test)]
 mod tests;
+
+pub use crate::child::Child;
+pub use crate::laws::{each_life_is_a_walk, worked_lives};
+pub use crate::step::{ChildDeed, Edge, Step};

@@ -1,3 +1,4 @@
+//! What the rows of the child table do to a child.
 ghost use Rattle.std.specs.Prelude.{◌≡◌, not, pos};
 ghost use Rattle.std.specs.List.{list_any};
 ghost use Rattle.std.specs.Ordering.{int_eq};

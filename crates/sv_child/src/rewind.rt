@@ -1,3 +1,4 @@
+//! What a clock that goes back does to a child.
 ghost use Rattle.std.specs.Prelude.{◌≡◌, ◌≤◌, IfSome};
 ghost use Rattle.sv_child.specs.Rewind.{no_later, rewound, wait_of};
 

@@ -1,3 +1,4 @@
+//! What a call gives: the edges that the child went, and the deed that they ask for.
 ghost use Rattle.std.specs.Prelude.{◌≡◌, Some, None};
 ghost use Rattle.sv_child.specs.Moves.{stays, leads, leads_over};
 

@@ -1,3 +1,4 @@
+//! Lives of a child, worked out by hand.
 use crate::child::Child;
 use crate::step::{ChildDeed, Edge, Step};
 use std::alloc::Global;

@@ -15,3 +15,6 @@ mod programs;
 mod section_faults;
 mod sections;
 mod server;
+
+pub use crate::fault::ConfFault;
+pub use crate::laws::{accepted_groups_are_a_roster, too_many_exactly_past_the_limits};

@@ -1,3 +1,4 @@
+//! Which types of event cover which.
 ghost use Rattle.std.specs.Prelude.{◌≡◌, ◌↔◌, ◌⊎◌, IsTrue, Some};
 ghost use Rattle.sv_base.specs.declared.kind.Kind.{Kind};
 ghost use Rattle.sv_events.specs.Covers.{Covers, parent_of};

@@ -9,3 +9,8 @@ pub mod fact;
 mod tests;
 pub mod ticks;
 mod write;
+
+pub use crate::covers::parent_of;
+pub use crate::event::{Event, each_name_is_read_back, envelope, first_line_feed_ends_the_head};
+pub use crate::fact::{Fact, body};
+pub use crate::ticks::Ticks;

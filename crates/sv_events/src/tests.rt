@@ -1,3 +1,4 @@
+//! Events with their texts, and the ticks of clock moments, worked out by hand.
 use crate::covers::covers;
 use crate::event::{Event, envelope};
 use crate::fact::{Fact, body};

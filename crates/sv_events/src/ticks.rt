@@ -1,3 +1,4 @@
+//! The ticks that clock moments give.
 ghost use Rattle.std.specs.Prelude.{◌≡◌, ◌≤◌, ◌<◌, ◌*◌, ◌/◌};
 ghost use Rattle.sv_events.specs.TickSlice.{slice_of, tick, ticks};
 

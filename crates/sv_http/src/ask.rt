@@ -1,3 +1,4 @@
+//! What a stream asks.
 use crate::status::Refusal;
 use sv_base::bytes::Bytes;
 

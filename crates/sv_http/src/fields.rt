@@ -1,3 +1,4 @@
+//! What the fields of a head say.
 ghost use Rattle.std.specs.Prelude.{◌≡◌, ◌≤◌, ◌+◌, ◌∷◌, ◌&&◌, [], true, codes, map, min, ◌-◌, ◌*◌, IfOk, MatchOption, false};
 ghost use Rattle.std.specs.Char.{is_ascii_digit};
 ghost use Rattle.std.specs.List.{list_all};

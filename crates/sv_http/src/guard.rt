@@ -1,3 +1,4 @@
+//! Who may ask.
 ghost use Rattle.std.specs.Prelude.{◌≡◌, IfOk};
 ghost use Rattle.sv_http.specs.Authorization.{is_set, is_open, is_password, opens, lets_in};
 

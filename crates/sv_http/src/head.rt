@@ -1,3 +1,4 @@
+//! What a whole head asks for.
 ghost use Rattle.std.specs.Prelude.{◌≡◌, map, IfOk};
 ghost use Rattle.httparse.specs.Borrowed.{header_parts};
 ghost use Rattle.sv_http.specs.AskTable.{Judged, ruling, is_target};

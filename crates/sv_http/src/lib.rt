@@ -13,3 +13,8 @@ mod line;
 pub mod reader;
 pub mod reply;
 pub mod status;
+
+pub use crate::ask::Ask;
+pub use crate::guard::Guard;
+pub use crate::reader::HttpReader;
+pub use crate::status::{Refusal, Status};

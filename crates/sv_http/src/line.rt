@@ -1,3 +1,4 @@
+//! Where a head ends.
 ghost use Rattle.std.specs.Prelude.{◌≡◌, ◌≤◌, ◌<◌, ◌++◌, List, ℕ, length, take, MatchOption};
 ghost use Rattle.sv_http.specs.ReaderPlaces.{after, IsSearched, IsFound};
 

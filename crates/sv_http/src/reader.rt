@@ -1,3 +1,4 @@
+//! The reader of a stream, which comes in pieces cut anywhere.
 ghost use Rattle.std.specs.Prelude.{◌≡◌, true, ◌↔◌, ◌++◌, ◌<◌, ◌≤◌, ◌∷◌, [], List, ℕ, length, take, IfOk, OnOk, OnErr, IsErr, IsTrue};
 ghost use Rattle.std.specs.List.{prefix_len};
 ghost use Rattle.sv_http.specs.RequestStream.{ends_line, is_begun};

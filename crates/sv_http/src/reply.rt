@@ -1,3 +1,4 @@
+//! The text of a reply.
 ghost use Rattle.std.specs.Prelude.{◌≡◌, ◌++◌, IfOk, OnOk, decimal};
 ghost use Rattle.sv_http.specs.ReplyText.{reply_text, status_line, length_line, challenge, closing};
 

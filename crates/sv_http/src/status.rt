@@ -1,3 +1,4 @@
+//! The statuses of replies, and the refusals.
 ghost use Rattle.std.specs.Prelude.{◌≡◌};
 ghost use Rattle.sv_http.specs.ReplyText.{number_of, reason_of};
 

@@ -15,4 +15,5 @@ pub mod sections;
 mod value;
 
 pub use fault::IniFault;
+pub use section::Section;
 pub use sections::TEXT_LIMIT;

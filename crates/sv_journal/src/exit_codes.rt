@@ -1,3 +1,4 @@
+//! The list of exit codes of a program line.
 ghost use Rattle.std.specs.Prelude.{None};
 ghost use Rattle.sv_journal.specs.Reading.{Gives, codes_from};
 

@@ -1,3 +1,4 @@
+//! Why a line is refused.
 use thiserror::Error;
 
 /// Why a line is refused.

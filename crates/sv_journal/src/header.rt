@@ -1,3 +1,4 @@
+//! The lines of a header.
 use sv_base::bytes::Bytes;
 use sv_base::items::Items;
 use sv_base::moment::Moment;

@@ -1,3 +1,4 @@
+//! Reading a header line, part by part.
 ghost use Rattle.std.specs.Prelude.{◌≡◌, ◌≤◌};
 ghost use Rattle.sv_journal.specs.Reading.{Gives};
 ghost use Rattle.sv_journal.specs.ReadingLines.{codes_at, restart_at, start_at, program_at, env_at, size_at, include_at, header_of, header_at};

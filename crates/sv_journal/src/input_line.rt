@@ -1,3 +1,4 @@
+//! Reading an input line, part by part.
 ghost use Rattle.std.specs.Prelude.{◌≡◌, ◌≤◌};
 ghost use Rattle.sv_base.specs.Limits.{moment_limit};
 ghost use Rattle.sv_journal.specs.Reading.{Gives};

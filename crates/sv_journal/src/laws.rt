@@ -1,3 +1,4 @@
+//! Laws over the lines: each has one meaning.
 ghost use Rattle.std.specs.Prelude.{◌≡◌, ◌==◌, false};
 ghost use Rattle.std.specs.List.{list_any};
 ghost use Rattle.sv_out.specs.declared.input.Input.{Input};

@@ -16,3 +16,8 @@ mod token;
 mod word;
 mod words;
 pub mod write;
+
+pub use crate::fault::LineFault;
+pub use crate::header::{Header, Program};
+pub use crate::read::{LINE_LIMIT, read_header, read_input};
+pub use crate::write::{write_input, write_order};

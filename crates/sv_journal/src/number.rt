@@ -1,3 +1,4 @@
+//! Decimal numbers without leading zeros.
 ghost use Rattle.std.specs.Prelude.{◌<◌, ◌≤◌, ◌^◌, IfOk, length};
 ghost use Rattle.sv_journal.specs.Reading.{Gives, number_at};
 

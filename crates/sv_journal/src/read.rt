@@ -1,3 +1,4 @@
+//! Reading a whole line.
 ghost use Rattle.std.specs.Prelude.{◌≡◌, ◌≤◌, ◌-◌, length, min, IfOk, IfErr};
 ghost use Rattle.sv_out.specs.declared.input.Input.{Input};
 ghost use Rattle.sv_journal.specs.declared.header.Header.{Header};

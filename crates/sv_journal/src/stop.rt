@@ -1,3 +1,4 @@
+//! Why reading stopped.
 ghost use Rattle.std.specs.Prelude.{◌≡◌};
 ghost use Rattle.sv_journal.specs.declared.stop.Stop.{Stop};
 

@@ -1,3 +1,4 @@
+//! Texts and bytes with their escapes.
 ghost use Rattle.std.specs.Prelude.{◌≡◌, ◌≢◌, ◌+◌, ◌*◌, ◌<◌, ◌≤◌, nat_lt, IfOk, IsTrue, IsUtf8, IfSome, length};
 ghost use Rattle.std.specs.Option.{SomeIff, option_map};
 ghost use Rattle.sv_journal.specs.declared.token.Letters.{Letters};

@@ -1,3 +1,4 @@
+//! The words of a line and its end.
 ghost use Rattle.std.specs.Prelude.{◌≡◌, List, ℕ};
 ghost use Rattle.sv_journal.specs.Reading.{Gives, word_at, keyword_at, end_at};
 

@@ -1,3 +1,4 @@
+//! The tables of words.
 ghost use Rattle.std.specs.Prelude.{◌≡◌};
 ghost use Rattle.sv_base.specs.Names.{signal_name};
 ghost use Rattle.sv_journal.specs.JournalLine.{autorestart_word};

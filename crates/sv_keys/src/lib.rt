@@ -12,3 +12,7 @@ pub mod server_keys;
 pub mod table;
 pub mod titles;
 pub mod values;
+
+pub use crate::judged::{Cause, Judged, KeyFault, Unread};
+pub use crate::key::Key;
+pub use crate::rows::{Reading, needed, row, value_at};

@@ -11,3 +11,7 @@ pub mod plan;
 pub mod spans;
 #[cfg(test)]
 mod tests;
+
+pub use crate::line::main_line;
+pub use crate::plan::LogPlan;
+pub use crate::spans::{BadArguments, SPAN_LIMIT, Span, read_span, tail_span};

@@ -1,3 +1,4 @@
+//! A line of the main log.
 ghost use Rattle.std.specs.Prelude.{◌≡◌, ◌<◌, ◌≤◌, ◌+◌, ◌++◌, ◌∷◌, [], IfOk, OnOk, length, pos, ◌/◌, ◌%◌};
 ghost use Rattle.jiff_core.specs.Date.{epoch_day};
 ghost use Rattle.sv_base.specs.Limits.{moment_limit};

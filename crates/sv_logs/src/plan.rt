@@ -1,3 +1,4 @@
+//! A log that grows and is rotated.
 ghost use Rattle.std.specs.Prelude.{◌≡◌, ◌≤◌, ◌++◌, ◌∷◌, [], IfOk, OnOk, OnErr};
 ghost use Rattle.sv_logs.specs.Rotation.{Files, all_carried, kept, moves, is_over, grown_size, orders_of, after_append, IsAppended, IsKnown};
 

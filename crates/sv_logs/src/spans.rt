@@ -1,3 +1,4 @@
+//! Which bytes of a log a reader asks for.
 ghost use Rattle.std.specs.Prelude.{◌≡◌, ◌↔◌, ◌≤◌, ◌+◌, ◌⊎◌, ℤ, pos, ◌<ℤ◌, ◌≢◌, IsErr, IfOk, Some};
 ghost use Rattle.sv_logs.specs.Spans.{span_limit, first_of, last_of, read_part, from_zero, has_missed, tail_part};
 

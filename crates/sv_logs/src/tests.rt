@@ -1,3 +1,4 @@
+//! Logs, spans and lines, worked out by hand.
 use crate::line::main_line;
 use crate::plan::LogPlan;
 use crate::spans::{BadArguments, Span, read_span, tail_span};

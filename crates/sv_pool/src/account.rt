@@ -1,3 +1,4 @@
+//! Laws over the lists of a pool: no event is lost or doubled.
 ghost use Rattle.std.specs.Prelude.{◌≡◌, ◌≤◌, ◌<◌, ◌^◌, ℕ, List, IsSome, slice_get};
 ghost use Rattle.sv_pool.specs.Account.{Step, IsAccount, after_all};
 ghost use Rattle.sv_pool.specs.PoolLists.{Lists, opened, holding, rejected};

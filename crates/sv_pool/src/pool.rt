@@ -1,3 +1,4 @@
+//! An event pool: the events that wait, and those that listeners hold.
 ghost use Rattle.std.specs.Prelude.{◌≡◌, ◌+◌, ◌<◌, ◌≤◌, [], ◌∷◌, ◌++◌, None, IfOk, OnOk, IsOk, IsSome, IsTrue, ◌↔◌, MatchOption, Some, length, replicate, slice_get, map, nat_lt, drop, if◌then◌else◌};
 ghost use Rattle.std.specs.Option.{option_map};
 ghost use Rattle.sv_events.specs.declared.event.Event.{Event};

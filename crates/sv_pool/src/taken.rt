@@ -1,3 +1,4 @@
+//! An event in a pool with its number, and what is said of one that was dropped.
 use sv_events::event::Event;
 
 /// An event that a pool took, with its number in the pool, from 0 on and modulo 2^64.

@@ -1,3 +1,4 @@
+//! Calls of a pool with what it holds after them, worked out by hand.
 use crate::pool::Pool;
 use crate::taken::Dropped;
 use std::alloc::Global;

@@ -1,3 +1,4 @@
+//! White space and tags.
 ghost use Rattle.std.specs.Prelude.{◌≡◌, ◌<◌, ◌≤◌, ◌∷◌, [], IfOk, length};
 ghost use Rattle.sv_xmlcall.specs.Atoms.{skip_white, close_at, tag_behind, closing_at};
 ghost use Rattle.sv_xmlcall.specs.Reading.{shut_at};

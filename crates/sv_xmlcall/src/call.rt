@@ -1,3 +1,4 @@
+//! Calls and replies, and why a text is refused.
 use crate::value::Value;
 use sv_base::text::Text;
 use thiserror::Error;

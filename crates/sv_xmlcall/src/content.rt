@@ -1,3 +1,4 @@
+//! The text between two tags.
 ghost use Rattle.std.specs.Prelude.{◌≡◌, ◌++◌, ◌<◌, ◌≤◌, [], length, true, false, Bool, IfOk, IfSome, OnOk, IsUtf8, IsTrue};
 ghost use Rattle.sv_xmlcall.specs.Characters.{is_allowed, are_letters};
 ghost use Rattle.std.specs.Char.{encode_utf8};

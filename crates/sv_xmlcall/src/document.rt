@@ -1,3 +1,4 @@
+//! The outer parts of a call and of a reply.
 ghost use Rattle.std.specs.Prelude.{◌≡◌, ◌<◌, ◌≤◌, false, IfOk, length};
 ghost use Rattle.sv_xmlcall.specs.Outcome.{Gives};
 ghost use Rattle.sv_xmlcall.specs.Reading.{prolog_from};

@@ -1,3 +1,4 @@
+//! Integers and booleans.
 ghost use Rattle.std.specs.Prelude.{◌≡◌, ◌<◌, ◌≤◌, length, false, IfOk};
 ghost use Rattle.sv_xmlcall.specs.Machine.{most_of};
 ghost use Rattle.sv_xmlcall.specs.Spelled.{signed};

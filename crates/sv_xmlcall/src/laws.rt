@@ -1,3 +1,4 @@
+//! Laws over what texts spell.
 ghost use Rattle.std.specs.Prelude.{◌≡◌, ◌++◌, List, ℕ, Result, codes, length};
 ghost use Rattle.sv_xmlcall.specs.Spelled.{Spelled, ACall, AReply};
 ghost use Rattle.sv_xmlcall.specs.Given.{IsWithin, OnlyCall, OnlyReply, IsBackCall, IsBackReply};

@@ -1,3 +1,4 @@
+//! Which bytes may follow which in a text of UTF-8.
 ghost use Rattle.std.specs.Prelude.{◌≡◌, ◌<◌, ◌≤◌, length};
 ghost use Rattle.sv_xmlcall.specs.declared.letters.Letters.{Letters};
 ghost use Rattle.sv_xmlcall.specs.declared.letters.Awaits.{Awaits};

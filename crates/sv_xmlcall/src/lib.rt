@@ -20,3 +20,9 @@ mod stop;
 mod tag;
 pub mod value;
 pub mod write;
+
+pub use crate::call::{Answered, Call, CallFault};
+pub use crate::log::text_of_log;
+pub use crate::read::{read_call, read_reply};
+pub use crate::value::Value;
+pub use crate::write::{write_call, write_fault, write_reply};

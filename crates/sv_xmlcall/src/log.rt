@@ -1,3 +1,4 @@
+//! The bytes of a log as a text that XML allows.
 ghost use Rattle.std.specs.Prelude.{◌≡◌, ◌≤◌, IfOk, length};
 ghost use Rattle.sv_xmlcall.specs.Characters.{log_text, character_length};
 

@@ -1,3 +1,4 @@
+//! Values with the values inside them, read without recursion.
 ghost use Rattle.std.specs.Prelude.{◌≡◌, ◌++◌, ◌∷◌, [], ◌<◌, ◌≤◌, IfOk, OnOk, IsTrue, length, List, MatchOption};
 ghost use Rattle.sv_xmlcall.specs.Characters.{are_letters};
 ghost use Rattle.sv_xmlcall.specs.declared.letters.Letters.TheVariants.{OfXml};

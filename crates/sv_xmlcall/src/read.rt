@@ -1,3 +1,4 @@
+//! Reading a call or a reply.
 ghost use Rattle.std.specs.Prelude.{◌≡◌, ◌∷◌, [], ◌≤◌, ◌<◌, ◌&&◌, codes, IfOk, List, ℕ, length};
 ghost use Rattle.std.specs.Option.{option_map};
 ghost use Rattle.sv_xmlcall.specs.Trees.{view, trees_view, call_view, reply_view};

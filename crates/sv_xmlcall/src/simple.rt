@@ -1,3 +1,4 @@
+//! Values with nothing inside them.
 ghost use Rattle.std.specs.Prelude.{◌≡◌, ◌++◌, ◌≤◌, ◌<◌, IfOk, OnOk, length};
 ghost use Rattle.std.specs.List.{list_all};
 ghost use Rattle.sv_xmlcall.specs.Simple.{is_simple, begins_run, simple_run, behind_run};

@@ -1,3 +1,4 @@
+//! Why reading stopped.
 ghost use Rattle.std.specs.Prelude.{◌≡◌};
 ghost use Rattle.sv_xmlcall.specs.declared.stop.Stop.{Stop};
 

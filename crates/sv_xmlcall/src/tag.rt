@@ -1,3 +1,4 @@
+//! The tags, with their spelling.
 ghost use Rattle.std.specs.Prelude.{◌≡◌, ◌+◌, ◌<◌, IfOk, length};
 ghost use Rattle.sv_xmlcall.specs.Tags.{spelling, word_at, tag_at};
 ghost use Rattle.sv_xmlcall.specs.Outcome.{Gives};

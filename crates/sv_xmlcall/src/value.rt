@@ -1,3 +1,4 @@
+//! The values of XML-RPC.
 use sv_base::text::Text;
 
 /// A value of XML-RPC. The specification of XML-RPC has 32 bits for an integer; the wider range is ours.

@@ -1,3 +1,4 @@
+//! Writing a call, a reply or a fault.
 ghost use Rattle.std.specs.Prelude.{◌≡◌, ◌≤◌, ◌++◌, IfOk, OnOk, codes, length};
 ghost use Rattle.std.specs.Fmt.{signed_decimal};
 ghost use Rattle.sv_xmlcall.specs.Trees.{view, trees_view, members_view, call_view, Returns, Faults};
