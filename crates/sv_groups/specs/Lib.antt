@@ -1,3 +1,4 @@
 pub mod Changes
 pub mod Lookup
+pub mod Seats
 pub mod StartOrder

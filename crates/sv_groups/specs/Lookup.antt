@@ -5,8 +5,8 @@ use Rattle.std.specs.Str.{bytes_eq}
 use Rattle.sv_base.specs.SplitName.{split_of}
 use Rattle.sv_base.specs.declared.spec.GroupSpec.{GroupSpec}
 use Rattle.sv_base.specs.declared.spec.Spec.{Spec}
-use Rattle.sv_groups.specs.declared.found.Found.{Found}
-use Rattle.sv_groups.specs.declared.found.Found.TheVariants.{One, Group, Nothing}
+use Rattle.sv_groups.specs.declared.lookup.Found.{Found}
+use Rattle.sv_groups.specs.declared.lookup.Found.TheVariants.{One, Group, Nothing}
 
 -- the two names of each process of a group: the group's and its own
 abbrev pub names_in : GroupSpec → List (List ℕ × List ℕ)

@@ -1,5 +1,5 @@
 -- The order in which processes start and stop (the manual's chapter on configuration, `priority`).
-use Rattle.std.specs.Prelude.{ℕ, List, [], ◌∷◌, ◌+◌, length, take, drop, reverse}
+use Rattle.std.specs.Prelude.{ℕ, List, [], ◌∷◌, ◌+◌, length, map, take, drop, reverse}
 use Rattle.std.specs.List.{flat_map}
 use Rattle.sv_base.specs.declared.ids.ChildId.{ChildId}
 use Rattle.sv_base.specs.declared.spec.GroupSpec.{GroupSpec}
@@ -8,6 +8,14 @@ use Rattle.sv_base.specs.declared.spec.Spec.{Spec}
 -- all processes in start order: the list of groups joined
 abbrev pub processes : List GroupSpec → List Spec
 processes groups = flat_map (λ (g : GroupSpec). g.members) groups
+
+-- the processes of a group, each with the group
+abbrev pub pairs_in : GroupSpec → List (GroupSpec × Spec)
+pairs_in g = map (λ (m : Spec). (g, m)) g.members
+
+-- all processes in start order, each with its group
+abbrev pub pairs_of : List GroupSpec → List (GroupSpec × Spec)
+pairs_of groups = flat_map pairs_in groups
 
 -- the ids of these processes, which count up from the first one's
 abbrev pub ids_from : ℕ → List Spec → List ChildId

@@ -1,5 +1,6 @@
-ghost use Rattle.std.specs.Prelude.{◌≡◌, ◌+◌, ◌<◌, ◌≤◌, IfSome, IsTrue, length, not};
-ghost use Rattle.std.specs.List.{position_from, prefix_len};
+//! Groups that are added and removed.
+ghost use Rattle.std.specs.Prelude.{◌≡◌, ◌+◌, ◌<◌, ◌≤◌, IfSome, IsTrue, Some, length, not, slice_get};
+ghost use Rattle.std.specs.List.{position_from, prefix_len, remove};
 ghost use Rattle.sv_base.specs.Roster.{is_membership};
 ghost use Rattle.sv_child.specs.Moves.{is_at_rest};
 ghost use Rattle.sv_child.specs.declared.child.Child.{Child};
@@ -8,7 +9,8 @@ ghost use Rattle.sv_groups.specs.StartOrder.{first_of, members_at, processes};
 
 use crate::fault::GroupFault;
 use crate::lookup::place_of;
-use crate::roster::{Roster, count, first_members};
+use crate::order::{Roster, count, first_members};
+use crate::seat::{more_seats, refill};
 use sv_base::ids::ChildId;
 use sv_base::ranked::start_order;
 use sv_base::spec::GroupSpec;
@@ -28,7 +30,10 @@ impl Roster {
             return Err(GroupFault::Already);
         }
         let place = place_for(self.groups(), &group);
+        let mut seats = more_seats(&self.seats, group.members.as_slice().len())?;
         self.groups.insert(place, group)?;
+        refill(self.groups.as_slice(), &mut seats);
+        self.seats = seats;
         Ok(())
     }
 
@@ -36,7 +41,6 @@ impl Roster {
     /// of all processes, in start order. `Unknown` exactly where no group has the name, else `StillRunning` exactly
     /// where a child of the group isn't STOPPED, EXITED or FATAL, with the first such one in start order. A refusal
     /// leaves the roster as it was.
-    #[tactic(auto, using(crate::proofs::Kept::roster_without))]
     pub fn remove_group(&mut self, name: &str, children: &[Child]) -> Result<GroupSpec, GroupFault>
         requires { length children.now ≡ length (processes self.old) }
         ensures { Removes self.old name.now children.now self.new result }
@@ -47,7 +51,19 @@ impl Roster {
         if let Some(child) = still_running(self.groups(), place, children) {
             return Err(GroupFault::StillRunning(ChildId(child as u32)));
         }
-        Ok(self.groups.remove(place))
+        Ok(self.take_out(place))
+    }
+
+    /// Takes the group at this place out of the roster.
+    #[tactic(auto, using(crate::proofs::Kept::roster_without, std::proofs::lemmas::Option::slice_get_read))]
+    fn take_out(&mut self, place: usize) -> GroupSpec
+        requires { place < length self.old }
+        ensures group { slice_get self.old place ≡ Some result }
+        ensures others { self.new ≡ remove self.old place }
+    {
+        let group = self.groups.remove(place);
+        refill(self.groups.as_slice(), &mut self.seats);
+        group
     }
 }
 

@@ -1,8 +1,9 @@
+//! Why a group is not added or removed.
 ghost use Rattle.std.specs.Prelude.{◌≡◌, Some, None};
 ghost use Rattle.sv_groups.specs.declared.fault.GroupFault.TheVariants.{OutOfMemory};
 ghost use Rattle.sv_groups.specs.Changes.{fault_number};
 
-use std::alloc::AllocFailed;
+use std::alloc::{AllocError, AllocFailed};
 use sv_base::ids::ChildId;
 use thiserror::Error;
 
@@ -24,7 +25,7 @@ pub enum GroupFault {
 }
 
 impl GroupFault {
-    /// The fault's number; want of memory has none.
+    /// The fault's number; running out of memory has none.
     pub fn number(&self) -> Option<u8>
         ensures { result ≡ fault_number self.now }
     {
@@ -41,6 +42,14 @@ impl<T: Drop> From<AllocFailed<T>> for GroupFault {
     ghost from_gives = { λ _ e. e ≡ OutOfMemory };
 
     fn from(_e: AllocFailed<T>) -> GroupFault {
+        GroupFault::OutOfMemory
+    }
+}
+
+impl From<AllocError> for GroupFault {
+    ghost from_gives = { λ _ e. e ≡ OutOfMemory };
+
+    fn from(_e: AllocError) -> GroupFault {
         GroupFault::OutOfMemory
     }
 }

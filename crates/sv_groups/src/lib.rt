@@ -4,9 +4,13 @@
 #![tactic(auto)]
 
 mod changes;
-pub mod fault;
-pub mod found;
+mod fault;
 mod lookup;
-pub mod roster;
+mod order;
+mod seat;
 #[cfg(test)]
 mod tests;
+
+pub use fault::GroupFault;
+pub use lookup::Found;
+pub use order::Roster;

@@ -1,13 +1,23 @@
+//! What a name of a command finds: a process, a group, or nothing.
 ghost use Rattle.std.specs.Prelude.{◌≡◌, ◌+◌, ◌≤◌, ◌<◌, IfSome, Some, None, length};
 ghost use Rattle.std.specs.List.{position_from};
 ghost use Rattle.std.specs.Str.{bytes_eq};
 ghost use Rattle.sv_base.specs.declared.spec.Spec.{Spec};
 ghost use Rattle.sv_groups.specs.Lookup.{found, found_by, is_called, names_in, place_of};
 
-use crate::found::Found;
-use crate::roster::Roster;
+use crate::order::Roster;
 use sv_base::ids::ChildId;
 use sv_base::spec::{GroupSpec, Spec};
+
+/// What a name of a command finds.
+#[derive(Clone, Copy, Debug, PartialEq, Eq)]
+pub enum Found {
+    /// One process.
+    One(ChildId),
+    /// A whole group, by its place in the start order of groups, counted from 0.
+    Group(usize),
+    Nothing,
+}
 
 impl Roster {
     /// What a name finds: `group:process` one process, `group:*` and `group:` a group, and a bare name the process

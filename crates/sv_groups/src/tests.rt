@@ -1,6 +1,6 @@
 use crate::fault::GroupFault;
-use crate::found::Found;
-use crate::roster::{Roster, count};
+use crate::lookup::Found;
+use crate::order::{Roster, count};
 use std::alloc::Global;
 use std::process::Abort;
 use sv_base::config::{ClientSpec, Config};
@@ -147,6 +147,17 @@ fn check_names(rt: &impl Abort, alloc: Global, roster: &Roster, wanted: &str) {
     assert!(rt; names.as_str() == wanted, "{names}");
 }
 
+/// The process of this place has these names, of its group and its own.
+fn check_process(rt: &impl Abort, roster: &Roster, place: usize, group: &str, name: &str) {
+    match roster.process(place) {
+        Some((its_group, spec)) => {
+            assert!(rt; its_group.name.as_str() == group, "{place}");
+            assert!(rt; spec.name.as_str() == name, "{place}");
+        }
+        None => assert!(rt; false, "{place}"),
+    }
+}
+
 fn check_order(rt: &impl Abort, ids: Vec<ChildId>, wanted: &[u32]) {
     assert!(rt; ids.as_slice().len() == wanted.len());
     for (id, number) in ids.as_slice().iter().zip(wanted.iter()) {
@@ -200,6 +211,10 @@ fn lookup_and_order(rt: HostRuntime) {
     assert!(rt; roster.groups().len() == 4);
     let stops = roster.stop_order(alloc, 2).expect(&rt, "memory");
     check_order(&rt, stops, &[3, 2]);
+    check_process(&rt, &roster, 0, "mem", "mem");
+    check_process(&rt, &roster, 3, "front", "web_01");
+    check_process(&rt, &roster, 4, "tail", "tail");
+    assert!(rt; roster.process(5).is_none());
 }
 
 #[test]
@@ -217,6 +232,8 @@ fn refused_and_removed(rt: HostRuntime) {
     assert!(rt; front.is_ok());
     check_names(&rt, alloc, &roster, "mem cat tail ");
     assert!(rt; roster.find("tail") == Found::One(ChildId(2)));
+    check_process(&rt, &roster, 2, "tail", "tail");
+    assert!(rt; roster.process(3).is_none());
 }
 
 #[test]
@@ -247,4 +264,6 @@ fn added_groups(rt: HostRuntime) {
     }
     assert!(rt; roster.groups().len() == 256);
     assert!(rt; roster.find("g255:p") == Found::One(ChildId(259)));
+    check_process(&rt, &roster, 259, "g255", "p");
+    assert!(rt; roster.process(262).is_none());
 }

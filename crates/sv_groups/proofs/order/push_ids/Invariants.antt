@@ -1,6 +1,6 @@
 use Rattle.std.proofs.Common.{◌≡◌, ◌+◌, ◌++◌, length}
 use Rattle.sv_groups.specs.StartOrder.{ids_from}
-use Rattle.sv_groups.proofs.roster.push_ids.Given as goal
+use Rattle.sv_groups.proofs.order.push_ids.Given as goal
 
 abbrev pub invariant-loop-left : goal.invariant-loop-left
 invariant-loop-left l = record {

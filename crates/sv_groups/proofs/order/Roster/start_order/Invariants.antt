@@ -1,6 +1,6 @@
 use Rattle.std.proofs.Common.{◌≡◌, ◌+◌, ◌++◌, length}
 use Rattle.sv_groups.specs.StartOrder.{processes, ids_from}
-use Rattle.sv_groups.proofs.roster.Roster.start_order.Given as goal
+use Rattle.sv_groups.proofs.order.Roster.start_order.Given as goal
 
 abbrev pub invariant-loop-left : goal.invariant-loop-left
 invariant-loop-left l = record {

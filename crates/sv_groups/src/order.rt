@@ -1,7 +1,9 @@
-ghost use Rattle.std.specs.Prelude.{◌≡◌, ◌+◌, ◌≤◌, ◌<◌, ◌^◌, ◌++◌, IfOk, IsTrue, OnOk, length};
+//! The roster of a daemon: its groups and processes in start order.
+ghost use Rattle.std.specs.Prelude.{◌≡◌, ◌+◌, ◌≤◌, ◌<◌, ◌^◌, ◌++◌, IfOk, IsTrue, MatchOption, None, OnOk, Some, length, slice_get};
 ghost use Rattle.sv_base.specs.Roster.{is_roster};
-ghost use Rattle.sv_groups.specs.StartOrder.{first_members, ids_from, processes, start_order, stop_order};
+ghost use Rattle.sv_groups.specs.StartOrder.{first_members, ids_from, pairs_of, processes, start_order, stop_order};
 
+use crate::seat::{Seat, empty_seats, refill};
 use std::alloc::{AllocError, Global};
 use std::marker::Model;
 use sv_base::config::Config;
@@ -14,22 +16,27 @@ use sv_base::spec::{GroupSpec, Spec};
 #[derive(Debug, Drop)]
 pub struct Roster {
     pub(crate) groups: Vec<GroupSpec>,
+    /// Where each process is, in start order.
+    pub(crate) seats: Vec<Seat>,
 }
 
 impl Model for Roster {
-    ghost use Rattle.std.specs.Prelude.{List, IsTrue};
+    ghost use Rattle.std.specs.Prelude.{◌≡◌, List, IsTrue};
     ghost use Rattle.sv_base.specs.declared.spec.GroupSpec.{GroupSpec};
     ghost use Rattle.sv_base.specs.Roster.{is_roster};
+    ghost use Rattle.sv_groups.specs.Seats.{seats_from};
 
     ghost Value = { List GroupSpec };
 
     ghost view = { λ r. r.groups.items };
 
-    ghost invariant = { λ r. IsTrue (is_roster r.groups.items) };
+    ghost invariant = { λ r.
+        IsTrue (is_roster r.groups.items) × (r.seats.items ≡ seats_from 0 r.groups.items) };
 }
 
 impl Roster {
     /// The groups of a configuration.
+    #[tactic(auto, using(crate::proofs::Processes::roster_fits))]
     pub fn new(alloc: Global, config: &Config) -> Result<Roster, AllocError>
         ensures { IfOk result (λ r. r ≡ config.now.groups) }
     {
@@ -38,7 +45,9 @@ impl Roster {
         for group in source {
             groups.push(group.clone()?)?;
         }
-        Ok(Roster { groups })
+        let mut seats = empty_seats(alloc, count(source))?;
+        refill(groups.as_slice(), &mut seats);
+        Ok(Roster { groups, seats })
     }
 
     /// The groups in start order, each with its members in start order.
@@ -49,6 +58,21 @@ impl Roster {
         ensures most { length (processes result.now) ≤ 1024 }
     {
         self.groups.as_slice()
+    }
+
+    /// The group and the process of a place in the start order, counted from 0; `None` where there are not so many
+    /// processes. Takes constant time.
+    pub fn process(&self, place: usize) -> Option<(&GroupSpec, &Spec)>
+        ensures { MatchOption result (slice_get (pairs_of self.now) place ≡ None)
+            (λ pair. slice_get (pairs_of self.now) place ≡ Some (pair.0.now, pair.1.now)) }
+    {
+        if place >= self.seats.len() {
+            return None;
+        }
+        let seat = self.seats[place];
+        let group = &self.groups[seat.group];
+        let process = &group.members.as_slice()[seat.member];
+        Some((group, process))
     }
 
     /// All processes in start order.

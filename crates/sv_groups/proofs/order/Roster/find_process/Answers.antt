@@ -1,6 +1,6 @@
 use Rattle.sv_groups.proofs.Places.{place_loop}
 use Rattle.sv_groups.proofs.Processes.{whole_loop}
-use Rattle.sv_groups.proofs.roster.Roster.find_process.Goals as goal
+use Rattle.sv_groups.proofs.order.Roster.find_process.Goals as goal
 
 pub loop-left-preserved : goal.loop-left-preserved
 loop-left-preserved c = record {

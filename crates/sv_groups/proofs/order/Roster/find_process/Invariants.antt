@@ -2,7 +2,7 @@ use Rattle.std.proofs.Common.{◌≡◌, ◌+◌, length}
 use Rattle.std.specs.List.{position_from}
 use Rattle.sv_groups.specs.Lookup.{is_called, names_of}
 use Rattle.sv_groups.specs.StartOrder.{processes}
-use Rattle.sv_groups.proofs.roster.Roster.find_process.Given as goal
+use Rattle.sv_groups.proofs.order.Roster.find_process.Given as goal
 
 abbrev pub invariant-loop-left : goal.invariant-loop-left
 invariant-loop-left l = record {

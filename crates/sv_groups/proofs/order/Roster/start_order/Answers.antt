@@ -1,6 +1,6 @@
 use Rattle.std.proofs.Common.{rules}
 use Rattle.sv_groups.proofs.Processes.{ids_loop, whole_loop}
-use Rattle.sv_groups.proofs.roster.Roster.start_order.Goals as goal
+use Rattle.sv_groups.proofs.order.Roster.start_order.Goals as goal
 
 pub loop-left-preserved : goal.loop-left-preserved
 loop-left-preserved c = record {
