@@ -1,2 +1,6 @@
 mod ListReads
 mod Wrote
+mod Scripts
+mod Runs
+mod Sent
+mod Maps

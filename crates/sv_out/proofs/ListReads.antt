@@ -1,5 +1,5 @@
 -- What a source in memory gives is what it loses.
-use Rattle.std.proofs.Common.{◌≡◌, ℕ, ◌+◌, ◌-◌, ◌≤◌, ◌<◌, List, [], ◌++◌, length, take, drop, sym, min, arith, drop_of_length-le, length-drop}
+use Rattle.std.proofs.Common.{◌≡◌, ℕ, ◌+◌, ◌≤◌, ◌<◌, List, [], ◌++◌, length, take, drop, sym, min, arith, drop_of_length-le, length-drop}
 use Rattle.std.proofs.lemmas.List.{take_at, drop-drop, length-take-le, take-append-drop}
 
 pub given_is_lost : (at n : ℕ) (bytes new : List ℕ) → take n new ≡ take n (drop at bytes)

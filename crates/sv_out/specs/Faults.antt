@@ -9,3 +9,8 @@ Rose before now = min (before + 1) (2 ^ 64 - 1) ≤ now
 pub record HasCause {A E : Type 0} (before now : ℕ) (result : Result A E) : Type 0 where
   pub later : before ≤ now
   pub failed : OnErr result (Rose before now)
+
+-- the count never falls, and the answer is this one only where it rose
+pub record RisesWhere (before now : ℕ) (answer : Type 0) : Type 0 where
+  pub later : before ≤ now
+  pub rose : answer → Rose before now

@@ -1,2 +1,7 @@
 pub mod Faults
+pub mod Rises
 pub mod Written
+pub mod Patterns
+pub mod Files
+pub mod MapFiles
+pub mod Exchanges

@@ -3,8 +3,22 @@
 //! has left or what was written to it.
 #![tactic(auto)]
 
+pub use connection::{Exchange, Link, send_all};
+pub use dialing::{Dial, DialFault};
+pub use files::{Shelf, ShelfFault};
+pub use map_files::MapShelf;
+pub use pattern::matches;
+pub use script::{Script, ScriptDial, ScriptLink};
+
+mod calls;
+pub mod connection;
+pub mod dialing;
 pub mod failed;
+pub mod files;
 pub mod input;
+pub mod map_files;
 pub mod order;
+pub mod pattern;
+pub mod script;
 pub mod sink;
 pub mod source;

@@ -79,7 +79,7 @@ impl Source for ListSource {
 
 /// Copies the front of `bytes`, as far as both slices go and `most` allows, and answers its length.
 #[tactic(auto, using(crate::proofs::ListReads::copied_front))]
-fn copy_front(bytes: &[u8], most: usize, into: &mut [u8]) -> usize
+pub(crate) fn copy_front(bytes: &[u8], most: usize, into: &mut [u8]) -> usize
     ensures count { result ≡ min (min (length bytes.now) most) (length into.old) }
     ensures copied { take result into.new ≡ take result bytes.now }
 {

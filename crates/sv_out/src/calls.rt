@@ -1,0 +1,58 @@
+//! Which calls of an object in memory are to fail, and how many did.
+ghost use Rattle.std.specs.Prelude.{◌≡◌, ◌≤◌, ◌==◌};
+ghost use Rattle.std.specs.List.{list_any};
+ghost use Rattle.std.specs.Bool.{OnTrue, OnFalse};
+ghost use Rattle.sv_out.specs.Faults.{Rose};
+
+/// The numbers of the calls that are to fail, the first call being 1; the calls so far; the faults among them.
+#[derive(Debug, Drop)]
+pub(crate) struct Calls {
+    failing: Vec<u64>,
+    calls: u64,
+    faults: u64,
+}
+
+impl Calls {
+    /// No call yet.
+    pub(crate) fn new(failing: Vec<u64>) -> Calls
+        ensures none { result.faults ≡ 0 }
+        ensures kept { result.failing ≡ failing }
+    {
+        Calls {
+            failing,
+            calls: 0,
+            faults: 0,
+        }
+    }
+
+    /// Begins a call: whether it is to fail, and then it counts as a fault.
+    pub(crate) fn next_fails(&mut self) -> bool
+        ensures told { result ≡ list_any (λ call. call == self.new.calls) self.old.failing.items }
+        ensures later { self.old.faults ≤ self.new.faults }
+        ensures rose { OnTrue result (Rose self.old.faults self.new.faults) }
+        ensures same { OnFalse result (self.new.faults ≡ self.old.faults) }
+    {
+        self.calls = self.calls.saturating_add(1);
+        if !self.failing.as_slice().contains(&self.calls) {
+            return false;
+        }
+        self.count_fault();
+        true
+    }
+
+    /// Counts a fault.
+    pub(crate) fn count_fault(&mut self)
+        ensures kept { self.new ≡ record self.old { faults = self.new.faults } }
+        ensures rose { Rose self.old.faults self.new.faults }
+        ensures later { self.old.faults ≤ self.new.faults }
+    {
+        self.faults = self.faults.saturating_add(1);
+    }
+
+    /// How many calls failed.
+    pub(crate) fn faults(&self) -> u64
+        ensures { result ≡ self.now.faults }
+    {
+        self.faults
+    }
+}
