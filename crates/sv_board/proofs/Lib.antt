@@ -1,3 +1,4 @@
+pub mod Crossing
 pub mod Fronts
 pub mod NewReaders
 pub mod Passes

@@ -3,7 +3,9 @@
 use std::alloc::AllocError;
 use sv_base::state::State;
 use sv_base::text::Text;
-use sv_board::{Report, Row, board};
+use std::sync::Wait;
+use std::thread;
+use sv_board::{BoardReader, Report, Row, board};
 
 /// A report of a process of its own group.
 fn report(name: &'static str, to: State) -> Report {
@@ -63,6 +65,31 @@ fn rows_in_the_order_of_first_reports(rt: HostRuntime) -> Result<(), AllocError>
         ];
         assert_eq!(rt; told, [true; 3]);
         assert_eq!(rt; rows.len(), 3);
+    }
+    Ok(())
+}
+
+/// Reads until the process has this state, and says how many rows there are.
+fn read_until_running<R: Wait>(rt: &R, reader: BoardReader) -> usize {
+    let mut reader = reader;
+    for _ in rt.forever() {
+        match reader.read(rt) {
+            Ok(rows) if rows.iter().any(|row| row.state == State::Running) => return rows.len(),
+            Ok(_) => thread::yield_now(),
+            Err(_) => return 0,
+        }
+    }
+    unreachable!()
+}
+
+#[test]
+fn a_reader_in_a_thread_of_its_own(rt: HostRuntime) -> Result<(), AllocError> {
+    let (mut writer, mut readers) = board(rt.alloc(), &rt, 1)?;
+    if let Some(reader) = readers.pop() {
+        let thread = thread::spawn(&rt, move || read_until_running(&rt, reader))?;
+        writer.report(&report("x", State::Starting))?;
+        writer.report(&report("x", State::Running))?;
+        assert_eq!(rt; thread.join(&rt), 1);
     }
     Ok(())
 }
