@@ -8,9 +8,7 @@ use std::io::Read;
 use std::rt::Clock;
 use std::time::Instant;
 use std::{env, io};
-use sv_pipes::capture::Capture;
-use sv_pipes::talk::ListenerTalk;
-use sv_pipes::token::TalkState;
+use sv_pipes::{Capture, ListenerTalk, TalkState};
 
 /// The sizes of pieces that are measured.
 const SIZES: [usize; 3] = [4_096, 65_536, 1];

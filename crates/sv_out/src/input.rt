@@ -1,3 +1,5 @@
+//! What the machine is told.
+
 use sv_base::ids::Run;
 use sv_base::moment::Moment;
 use sv_base::number::Pid;

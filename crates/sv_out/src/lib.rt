@@ -22,3 +22,5 @@ pub mod pattern;
 pub mod script;
 pub mod sink;
 pub mod source;
+#[cfg(test)]
+mod tests;

@@ -1,3 +1,5 @@
+//! What the machine tells the world.
+
 use sv_base::ids::Run;
 use sv_base::items::Items;
 use sv_base::signal::Signal;

@@ -1,4 +1,6 @@
-ghost use Rattle.std.specs.Prelude.{◌≡◌, ◌≤◌, ◌<◌, List, [], ℕ, Option, Some, IfOk, OnOk, OnErr, length};
+//! Where bytes go.
+
+ghost use Rattle.std.specs.Prelude.{◌≡◌, ◌≤◌, ◌<◌, List, [], ℕ, Option, Some, IfOk, IsErr, IsTrue, OnOk, OnErr, false, is_err, length, min};
 ghost use Rattle.std.specs.Io.{WritesAtMost};
 ghost use Rattle.std.specs.Io.KnownBytes.{WriteAppends, Appends};
 ghost use Rattle.sv_out.specs.Faults.{HasCause};
@@ -50,9 +52,13 @@ pub struct ListSink {
 }
 
 impl ListSink {
+    ghost use Rattle.sv_out.specs.Plans.{sink_plan};
+
     /// An empty sink that takes at most `most` bytes in each call.
     pub fn new(alloc: Global, most: usize, failing: Vec<u64>) -> ListSink
         requires { 1 ≤ most }
+        ensures plan { sink_plan result
+            ≡ record { failing = failing.items; most = most; calls = 0; faults = 0 } }
         ensures written { ⟦<ListSink as Sink>⟧.written result ≡ Some [] }
         ensures faults { ⟦<ListSink as Sink>⟧.faults result ≡ 0 }
     {
@@ -74,26 +80,41 @@ impl ListSink {
 
     /// How many calls failed.
     pub fn faults(&self) -> u64
-        ensures { result ≡ ⟦<ListSink as Sink>⟧.faults self.now }
+        ensures count { result ≡ (sink_plan self.now).faults }
+        ensures faults { result ≡ ⟦<ListSink as Sink>⟧.faults self.now }
     {
         self.faults
     }
 }
 
 impl Sink for ListSink {
+    ghost use Rattle.sv_out.specs.Plans.{sink_plan, sink_faults, after_call, fails_next, known_written, spare_room};
+
     ghost written = { λ s. Some s.written.items };
 
     ghost faults = { λ s. s.faults };
 
-    fn write(&mut self, piece: &[u8]) -> Result<usize, Failed> {
+    fn write(&mut self, piece: &[u8]) -> Result<usize, Failed>
+        ensures bound { WritesAtMost result piece.now }
+        ensures progress { IfOk result (λ n. 0 < length piece.now → 0 < n) }
+        ensures bytes { WriteAppends (known_written self.old) (known_written self.new) result piece.now }
+        ensures cause { HasCause (sink_faults self.old) (sink_faults self.new) result }
+
+        // It fails at its calls, and else only where it needs memory; each call is counted.
+        ensures fails { IsTrue (fails_next (sink_plan self.old)) → IsErr result }
+        ensures only { IsErr result → fails_next (sink_plan self.old) ≡ false
+            → spare_room self.old < min (length piece.now) (sink_plan self.old).most }
+        ensures plan { sink_plan self.new ≡ after_call (sink_plan self.old) (is_err result) }
+        ensures count { IfOk result (λ n. n ≡ min (length piece.now) (sink_plan self.old).most) }
+    {
         self.calls = self.calls.saturating_add(1);
         let count = piece.len().min(self.most);
-        if self.failing.as_slice().contains(&self.calls)
-            || self.written.extend_from_slice(&piece[..count]).is_err()
-        {
-            self.faults = self.faults.saturating_add(1);
-            return Err(Failed);
+        if self.failing.as_slice().contains(&self.calls) {
+            return Err(Failed::counted(&mut self.faults));
         }
-        Ok(count)
+        match self.written.extend_from_slice(&piece[..count]) {
+            Ok(()) => Ok(count),
+            Err(_) => Err(Failed::counted(&mut self.faults)),
+        }
     }
 }

@@ -1,4 +1,6 @@
-ghost use Rattle.std.specs.Prelude.{◌≡◌, ◌≤◌, List, ℕ, Option, Some, drop, length, min, take};
+//! Where bytes come from.
+
+ghost use Rattle.std.specs.Prelude.{◌≡◌, ◌≤◌, List, ℕ, Option, Some, IfOk, drop, is_err, length, min, take};
 ghost use Rattle.std.specs.Io.{ReadsAtMost};
 ghost use Rattle.std.specs.Io.KnownBytes.{ReadConsumes};
 ghost use Rattle.sv_out.specs.Faults.{HasCause};
@@ -34,9 +36,13 @@ pub struct ListSource {
 }
 
 impl ListSource {
+    ghost use Rattle.sv_out.specs.Plans.{source_plan};
+
     /// A source of these bytes, at most `most` in each call.
     pub fn new(bytes: Vec<u8>, most: usize, failing: Vec<u64>) -> ListSource
         requires { 1 ≤ most }
+        ensures plan { source_plan result
+            ≡ record { failing = failing.items; most = most; calls = 0; faults = 0 } }
         ensures left { ⟦<ListSource as Source>⟧.left result ≡ Some bytes.items }
         ensures faults { ⟦<ListSource as Source>⟧.faults result ≡ 0 }
     {
@@ -52,23 +58,36 @@ impl ListSource {
 
     /// How many calls failed.
     pub fn faults(&self) -> u64
-        ensures { result ≡ ⟦<ListSource as Source>⟧.faults self.now }
+        ensures count { result ≡ (source_plan self.now).faults }
+        ensures faults { result ≡ ⟦<ListSource as Source>⟧.faults self.now }
     {
         self.faults
     }
 }
 
 impl Source for ListSource {
+    ghost use Rattle.sv_out.specs.Plans.{source_plan, source_faults, after_call, fails_next, bytes_left, known_left};
+
     ghost left = { λ s. Some (drop s.at s.bytes.items) };
 
     ghost faults = { λ s. s.faults };
 
     #[tactic(auto, using(crate::proofs::ListReads::given_is_lost, crate::proofs::ListReads::none_left))]
-    fn read(&mut self, into: &mut [u8]) -> Result<usize, Failed> {
+    fn read(&mut self, into: &mut [u8]) -> Result<usize, Failed>
+        ensures bound { ReadsAtMost result into.new }
+        ensures bytes { ReadConsumes (known_left self.old) (known_left self.new) result into.new }
+        ensures cause { HasCause (source_faults self.old) (source_faults self.new) result }
+
+        // It fails exactly at its calls, and each call is counted.
+        ensures fails { is_err result ≡ fails_next (source_plan self.old) }
+        ensures plan { source_plan self.new
+            ≡ after_call (source_plan self.old) (fails_next (source_plan self.old)) }
+        ensures count { IfOk result (λ n. n ≡ min (min (length (bytes_left self.old))
+            (source_plan self.old).most) (length into.old)) }
+    {
         self.calls = self.calls.saturating_add(1);
         if self.failing.as_slice().contains(&self.calls) {
-            self.faults = self.faults.saturating_add(1);
-            return Err(Failed);
+            return Err(Failed::counted(&mut self.faults));
         }
         let (_, rest) = self.bytes.as_slice().split_at(self.at);
         let count = copy_front(rest, self.most, into);

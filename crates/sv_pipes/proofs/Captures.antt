@@ -5,16 +5,17 @@ use Rattle.std.proofs.lemmas.Grind.{flat_map-append}
 use Rattle.std.proofs.lemmas.List.{map-append, take-append-drop, drop-append-le, drop-drop}
 use Rattle.std.specs.List.{flat_map}
 use Rattle.sv_pipes.proofs.Fronts.{cond_by, eq_true, eq_false, next_is, next_not, word_left}
-use Rattle.sv_pipes.proofs.Tokens.{At, IsToken, drop_all, more_bytes, at_start, at_more, at_end, at_again, at_none}
+use Rattle.sv_pipes.proofs.Awaited.{At, IsToken, drop_all, more_bytes, at_start, at_more, at_end, at_again, at_none}
 use Rattle.sv_pipes.specs.CaptureCut.{Decided, Stretch, IsCut, IsClosed, Lead, Leads, awaited, begin_token, end_token, last_of, spelled, decided_by, decided_open, with_byte, grouped}
 use Rattle.sv_pipes.specs.CaptureCut.Decided.{Byte, Message}
 use Rattle.sv_pipes.specs.CaptureCut.Stretch.{Plain, Captured}
-use Rattle.sv_pipes.specs.CapturePlaces.{Stands, Reading, reads, kept, all_kept, logged_part, held_outside, step_outside, step_inside, step, steps}
+use Rattle.sv_pipes.specs.CapturePlaces.{Stands, Reading, reads, held_outside, step_outside, step_inside, step, steps}
+use Rattle.sv_pipes.specs.Kept.{kept, all_kept, logged_part}
 use Rattle.sv_pipes.specs.TalkPlaces.{is_next}
-use Rattle.sv_pipes.specs.declared.part.Part.{Part}
-use Rattle.sv_pipes.specs.declared.part.Part.TheVariants as part
-use Rattle.sv_pipes.specs.declared.part.Side.{Side}
-use Rattle.sv_pipes.specs.declared.part.Side.TheVariants.{Outside, Inside}
+use Rattle.sv_pipes.specs.declared.parts.Part.{Part}
+use Rattle.sv_pipes.specs.declared.parts.Part.TheVariants as part
+use Rattle.sv_pipes.specs.declared.parts.Side.{Side}
+use Rattle.sv_pipes.specs.declared.parts.Side.TheVariants.{Outside, Inside}
 
 begin_is : IsToken begin_token
 begin_is = record { body = codes "!--XSUPERVISOR:BEGIN-->"; is = refl; once = refl }

@@ -1,8 +1,10 @@
+pub mod Awaited
 pub mod Captures
 pub mod Digits
 pub mod Fronts
 pub mod OneStream
 pub mod OneTalk
 pub mod Steps
+pub mod StreamReading
+pub mod TalkReading
 pub mod Talks
-pub mod Tokens

@@ -3,12 +3,12 @@ use Rattle.std.proofs.Common.{◌≡◌, ◌≢◌, ◌≤◌, ◌⊎◌, ℕ, L
 use Rattle.std.proofs.lemmas.List.{append_cancel_left, append_cancel_right}
 use Rattle.std.specs.List.{flat_map}
 use Rattle.sv_pipes.proofs.Fronts.{no_bytes}
-use Rattle.sv_pipes.proofs.Tokens.{length_take}
+use Rattle.sv_pipes.proofs.Awaited.{length_take}
 use Rattle.sv_pipes.specs.CaptureCut.{Decided, Stretch, IsCut, IsClosed, IsFirst, IsLongest, Lacks, Lead, Leads, awaited, begin_token, end_token, spelled, decided_by, decided_open}
 use Rattle.sv_pipes.specs.CapturePlaces.{IsKept, Stands}
 use Rattle.sv_pipes.specs.CaptureCut.Stretch.{Plain, Captured}
-use Rattle.sv_pipes.specs.declared.part.Side.{Side}
-use Rattle.sv_pipes.specs.declared.part.Side.TheVariants.{Outside, Inside}
+use Rattle.sv_pipes.specs.declared.parts.Side.{Side}
+use Rattle.sv_pipes.specs.declared.parts.Side.TheVariants.{Outside, Inside}
 
 -- of two fronts of one list, one goes on where the other ends
 compare : (one other after more : List ℕ) → one ++ after ≡ other ++ more

@@ -9,10 +9,10 @@ use Rattle.sv_pipes.specs.Talk.Phrase.{Ready, Event, Result}
 use Rattle.sv_pipes.specs.TalkPlaces.{Stands, state_of}
 use Rattle.sv_pipes.specs.declared.talk.Place.{Place}
 use Rattle.sv_pipes.specs.declared.talk.Place.TheVariants as place
-use Rattle.sv_pipes.specs.declared.token.TalkState.{TalkState}
-use Rattle.sv_pipes.specs.declared.token.TalkState.TheVariants as state
-use Rattle.sv_pipes.specs.declared.token.Token.{Token}
-use Rattle.sv_pipes.specs.declared.token.Token.TheVariants as token
+use Rattle.sv_pipes.specs.declared.tokens.TalkState.{TalkState}
+use Rattle.sv_pipes.specs.declared.tokens.TalkState.TheVariants as state
+use Rattle.sv_pipes.specs.declared.tokens.Token.{Token}
+use Rattle.sv_pipes.specs.declared.tokens.Token.TheVariants as token
 
 -- of two words said at one place, one goes on where the other ends
 compare : (one other : List ℕ) (after more : List Mark) → said one ++ after ≡ said other ++ more
@@ -293,6 +293,6 @@ stands_cut (place.Greeting count) held talk tokens stands = (stands.0, stands.1)
 stands_cut place.Idle held talk tokens stands = (stands.0, stands.1)
 stands_cut (place.Word count) held talk tokens stands = (stands.0, stands.1)
 stands_cut (place.Length count number) held talk tokens stands = (stands.0, stands.1)
-stands_cut (place.Body number) held talk tokens stands = (stands.0, stands.1)
+stands_cut (place.Body count number) held talk tokens stands = (stands.0, stands.1)
 stands_cut place.Lost held talk tokens stands = stands
 stands_cut place.Broken held talk tokens stands = absurd stands.2

@@ -13,9 +13,9 @@ use Rattle.sv_pipes.specs.Talk.Phrase.{Ready, Event, Result}
 use Rattle.sv_pipes.specs.TalkPlaces.{Stands, Told, ready_line, result_word, is_next, state_of, goes, lost, step, steps, after_greeting, after_word, after_digit, after_length, after_body}
 use Rattle.sv_pipes.specs.declared.talk.Place.{Place}
 use Rattle.sv_pipes.specs.declared.talk.Place.TheVariants as place
-use Rattle.sv_pipes.specs.declared.token.TalkState.TheVariants as state
-use Rattle.sv_pipes.specs.declared.token.Token.{Token}
-use Rattle.sv_pipes.specs.declared.token.Token.TheVariants as token
+use Rattle.sv_pipes.specs.declared.tokens.TalkState.TheVariants as state
+use Rattle.sv_pipes.specs.declared.tokens.Token.{Token}
+use Rattle.sv_pipes.specs.declared.tokens.Token.TheVariants as token
 
 abbrev StandsTold : List Mark → List Token → Told → Type 0
 StandsTold talk earlier told = Stands told.place told.held talk (earlier ++ told.tokens)
@@ -196,7 +196,7 @@ length_steps count number byte held tokens earlier talk rest digits was is all s
     } in
     let now : rest ++ byte ∷ [] ≡ result_word ++ digits ++ 10 ∷ [] = ap (λ front. front ++ byte ∷ []) is ∙ ap (λ b. result_word ++ digits ++ b ∷ []) feed in
     cond_by (StandsTold (talk ++ Byte byte ∷ []) earlier) (number == 0)
-    (goes (place.Greeting 0) held (tokens ++ token.Result [] ∷ [])) (goes (place.Body number) held tokens)
+    (goes (place.Greeting 0) held (tokens ++ token.Result [] ∷ [])) (goes (place.Body count number) held tokens)
     (λ none. let zero_is = eq_true number 0 none in (
       [],
       part_ends talk earlier tokens state.Busy state.Acknowledged rest (Byte byte) (Result digits []) was
@@ -210,25 +210,26 @@ length_steps count number byte held tokens earlier talk rest digits was is all s
       rest ++ byte ∷ [],
       byte_goes_on talk (earlier ++ tokens) state.Busy rest byte was
           (subst (λ (bytes : List ℕ). IsBegun state.Busy bytes) (sym kept) (body_begun digits held number is_length inside)),
-      (digits, kept, is_length, inside),
+      (digits, kept, is_length, inside, size),
     )))
     (λ none. byte_loses talk earlier tokens state.Busy rest byte was
     (stop_outside digits rest byte is all not_digit (λ _ least. grind (arith, nat_tests))))
 
-body_steps : (number byte : ℕ) (held : List ℕ) (tokens earlier : List Token) (talk : List Mark) (rest digits : List ℕ)
+body_steps : (count number byte : ℕ) (held : List ℕ) (tokens earlier : List Token) (talk : List Mark) (rest digits : List ℕ)
     → GoesOn talk (earlier ++ tokens) state.Busy rest → rest ≡ result_word ++ digits ++ 10 ∷ held → IsLength digits number
-    → length held < number → StandsTold (talk ++ Byte byte ∷ []) earlier (after_body number (held ++ byte ∷ []) tokens)
-body_steps number byte held tokens earlier talk rest digits was is is_length within =
+    → length held < number → length digits ≡ count
+    → StandsTold (talk ++ Byte byte ∷ []) earlier (after_body count number (held ++ byte ∷ []) tokens)
+body_steps count number byte held tokens earlier talk rest digits was is is_length within digit_count =
     let now : rest ++ byte ∷ [] ≡ result_word ++ digits ++ 10 ∷ (held ++ byte ∷ [])
     = ap (λ front. front ++ byte ∷ []) is ∙ append_assoc (result_word ++ digits) (10 ∷ held) (byte ∷ []) in
     let longer : length (held ++ byte ∷ []) ≡ length held + 1 = length-append held (byte ∷ []) in
     cond_by (StandsTold (talk ++ Byte byte ∷ []) earlier) (nat_lt (length (held ++ byte ∷ [])) number)
-    (goes (place.Body number) (held ++ byte ∷ []) tokens) (goes (place.Greeting 0) [] (tokens ++ token.Result (held ++ byte ∷ []) ∷ []))
+    (goes (place.Body count number) (held ++ byte ∷ []) tokens) (goes (place.Greeting 0) [] (tokens ++ token.Result (held ++ byte ∷ []) ∷ []))
     (λ more. let inside : length (held ++ byte ∷ []) < number = lt_true (length (held ++ byte ∷ [])) number more in (
       rest ++ byte ∷ [],
       byte_goes_on talk (earlier ++ tokens) state.Busy rest byte was
           (subst (λ (bytes : List ℕ). IsBegun state.Busy bytes) (sym now) (body_begun digits (held ++ byte ∷ []) number is_length inside)),
-      (digits, now, is_length, inside),
+      (digits, now, is_length, inside, digit_count),
     ))
     (λ last. let full : number ≡ length (held ++ byte ∷ []) = grind (arith, nat_tests) in (
       [],
@@ -255,8 +256,8 @@ step_stands (place.Length count number) byte held tokens earlier talk stands =
     not_digit (eq_true byte 10 feed))
     (λ other. byte_loses talk earlier tokens state.Busy stands.0 byte stands.1
     (stop_outside kept.0 stands.0 byte kept.1 kept.2 not_digit (λ feed _. eq_false byte 10 other feed))))
-step_stands (place.Body number) byte held tokens earlier talk stands =
-    body_steps number byte held tokens earlier talk stands.0 stands.2.0 stands.1 stands.2.1 stands.2.2 stands.2.3
+step_stands (place.Body count number) byte held tokens earlier talk stands =
+    body_steps count number byte held tokens earlier talk stands.0 stands.2.0 stands.1 stands.2.1 stands.2.2 stands.2.3 stands.2.4
 step_stands place.Lost byte held tokens earlier talk stands = stays_lost talk (earlier ++ tokens) (Byte byte) stands
 step_stands place.Broken byte held tokens earlier talk stands = absurd stands.2
 
@@ -279,6 +280,6 @@ sent_stands place.Idle held talk tokens is stands =
     ([], subst (λ (all : List Token). GoesOn (talk ++ Sent ∷ []) all state.Busy []) plain now, (refl, omega arith, stands.2.1))
 sent_stands (place.Word count) held talk tokens is stands = absurd (cc)
 sent_stands (place.Length count number) held talk tokens is stands = absurd (cc)
-sent_stands (place.Body number) held talk tokens is stands = absurd (cc)
+sent_stands (place.Body count number) held talk tokens is stands = absurd (cc)
 sent_stands place.Lost held talk tokens is stands = absurd (cc)
 sent_stands place.Broken held talk tokens is stands = absurd (cc)

@@ -4,10 +4,10 @@ use Rattle.std.proofs.lemmas.List.{map-append}
 use Rattle.std.proofs.lemmas.Grind.{flat_map-append}
 use Rattle.sv_pipes.specs.Talk.{Mark, Phrase, said, spelled, talk_of, told_by, tokens_of, Leads, IsRound, IsBegun, IsOutside, GoesOn, IsLost}
 use Rattle.sv_pipes.specs.Talk.Mark.{Byte}
-use Rattle.sv_pipes.specs.declared.token.TalkState.{TalkState}
-use Rattle.sv_pipes.specs.declared.token.TalkState.TheVariants as state
-use Rattle.sv_pipes.specs.declared.token.Token.{Token}
-use Rattle.sv_pipes.specs.declared.token.Token.TheVariants as token
+use Rattle.sv_pipes.specs.declared.tokens.TalkState.{TalkState}
+use Rattle.sv_pipes.specs.declared.tokens.TalkState.TheVariants as state
+use Rattle.sv_pipes.specs.declared.tokens.Token.{Token}
+use Rattle.sv_pipes.specs.declared.tokens.Token.TheVariants as token
 
 pub round_more : (from : TalkState) (phrases : List Phrase) (at : TalkState) (phrase : Phrase) (to : TalkState)
     → IsRound from phrases at → Leads at phrase to → IsRound from (phrases ++ phrase ∷ []) to

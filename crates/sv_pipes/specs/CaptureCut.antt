@@ -2,10 +2,10 @@
 -- each END inside. Bytes outside are for the log, and bytes inside make a message.
 use Rattle.std.specs.Prelude.{◌≡◌, ◌≢◌, ◌≤◌, ◌-◌, ℕ, List, [], ◌∷◌, ◌++◌, length, drop, map, codes}
 use Rattle.std.specs.List.{flat_map}
-use Rattle.sv_pipes.specs.declared.part.Part.{Part}
-use Rattle.sv_pipes.specs.declared.part.Part.TheVariants as part
-use Rattle.sv_pipes.specs.declared.part.Side.{Side}
-use Rattle.sv_pipes.specs.declared.part.Side.TheVariants.{Outside, Inside}
+use Rattle.sv_pipes.specs.declared.parts.Part.{Part}
+use Rattle.sv_pipes.specs.declared.parts.Part.TheVariants as part
+use Rattle.sv_pipes.specs.declared.parts.Side.{Side}
+use Rattle.sv_pipes.specs.declared.parts.Side.TheVariants.{Outside, Inside}
 
 abbrev pub begin_token : List ℕ
 begin_token = codes "<!--XSUPERVISOR:BEGIN-->"
@@ -61,7 +61,9 @@ Lead from (stretch ∷ stretches) to = (next : Side) × Leads from stretch next 
 
 -- no longer tail of these bytes is a proper front of the token
 abbrev pub IsLongest : List ℕ → List ℕ → List ℕ → Type 0
-IsLongest token bytes held = (front tail rest : List ℕ) → bytes ≡ front ++ tail → token ≡ tail ++ rest → rest ≢ [] → length tail ≤ length held
+IsLongest token bytes held =
+    (front tail rest : List ℕ) → bytes ≡ front ++ tail → token ≡ tail ++ rest → rest ≢ []
+    → length tail ≤ length held
 
 -- the bytes shown of the last stretch are decided outside alone
 abbrev pub decided_open : Side → List ℕ → List Decided
@@ -70,7 +72,8 @@ decided_open Inside shown = []
 
 -- a stream and what is decided of it: whole stretches, then what is shown of the last one, which has no token, and
 -- behind that its longest tail that may begin one
-pub record IsCut (limit : ℕ) (stream : List ℕ) (decided : List Decided) (side : Side) (shown held : List ℕ) : Type 0 where
+pub record IsCut (limit : ℕ) (stream : List ℕ) (decided : List Decided) (side : Side)
+    (shown held : List ℕ) : Type 0 where
   pub stretches : List Stretch
   pub cut : stream ≡ flat_map spelled stretches ++ (shown ++ held)
   pub lead : Lead Outside stretches side

@@ -1,12 +1,13 @@
 -- How far a capture has come: what is kept of its undecided bytes, and what one more byte makes of it.
-use Rattle.std.specs.Prelude.{◌≡◌, ◌<◌, ◌+◌, ◌==◌, ℕ, List, [], ◌∷◌, ◌++◌, length, take, drop, false, nat_lt, if◌then◌else◌}
+use Rattle.std.specs.Prelude.{◌≡◌, ◌<◌, ◌+◌, ◌==◌, ℕ, List, [], ◌∷◌, ◌++◌, length, take, true, false, if◌then◌else◌}
 use Rattle.sv_pipes.specs.CaptureCut.{Decided, IsCut, awaited, begin_token, end_token, last_of}
+use Rattle.sv_pipes.specs.Kept.{kept, all_kept, logged_part}
 use Rattle.sv_pipes.specs.TalkPlaces.{is_next}
-use Rattle.sv_pipes.specs.declared.capture.Capture.{Capture}
-use Rattle.sv_pipes.specs.declared.part.Part.{Part}
-use Rattle.sv_pipes.specs.declared.part.Part.TheVariants.{Logged, Message}
-use Rattle.sv_pipes.specs.declared.part.Side.{Side}
-use Rattle.sv_pipes.specs.declared.part.Side.TheVariants.{Outside, Inside}
+use Rattle.sv_pipes.specs.declared.captured.Capture.{Capture}
+use Rattle.sv_pipes.specs.declared.parts.Part.{Part}
+use Rattle.sv_pipes.specs.declared.parts.Part.TheVariants.{Message}
+use Rattle.sv_pipes.specs.declared.parts.Side.{Side}
+use Rattle.sv_pipes.specs.declared.parts.Side.TheVariants.{Outside, Inside}
 
 -- inside, the last bytes shown are kept
 abbrev pub IsKept : ℕ → Side → List ℕ → List ℕ → Type 0
@@ -15,12 +16,24 @@ IsKept limit Inside shown body = body ≡ last_of limit shown
 
 abbrev pub Stands : ℕ → Side → ℕ → List ℕ → List ℕ → List Decided → Type 0
 Stands limit side matched body stream decided =
-    (shown : List ℕ) × IsCut limit stream decided side shown (take matched (awaited side)) × (matched < length (awaited side))
-    × IsKept limit side shown body
+    (shown : List ℕ) × IsCut limit stream decided side shown (take matched (awaited side))
+    × (matched < length (awaited side)) × IsKept limit side shown body
 
--- the value stands for a stream of which this is decided
-abbrev pub StandsFor : Capture → List ℕ → List Decided → Type 0
-StandsFor value stream decided = (value.broken ≡ false) × Stands value.limit value.side value.matched value.body.items stream decided
+-- the value stands for a stream whose messages have at most so many bytes, and of which this is decided
+abbrev pub StandsFor : Capture → ℕ → List ℕ → List Decided → Type 0
+StandsFor value limit stream decided =
+    (value.broken ≡ false) × (value.limit ≡ limit)
+    × Stands limit value.side value.matched value.body.items stream decided
+
+-- memory was refused, so the value stands for no stream
+abbrev pub IsBroken : Capture → Type 0
+IsBroken value = value.broken ≡ true
+
+-- two values keep the same bytes
+pub record KeepsSame (one other : Capture) : Type 0 where
+  pub side : one.side ≡ other.side
+  pub matched : one.matched ≡ other.matched
+  pub body : one.body.items ≡ other.body.items
 
 -- what a capture keeps, and the parts of the piece in hand, with the outside bytes that make its next part
 pub record Reading : Type 0 where
@@ -32,35 +45,31 @@ pub record Reading : Type 0 where
 
 abbrev pub shown : Capture → List Part → List ℕ → Reading
 shown value parts logged =
-    record { side = value.side; matched = value.matched; body = value.body.items; parts = parts; logged = logged }
+    record {
+      side = value.side;
+      matched = value.matched;
+      body = value.body.items;
+      parts = parts;
+      logged = logged;
+    }
 
 abbrev pub reads : Side → ℕ → List ℕ → List Part → List ℕ → Reading
-reads side matched body parts logged = record { side = side; matched = matched; body = body; parts = parts; logged = logged }
-
--- a further byte of a message
-abbrev pub kept : ℕ → List ℕ → ℕ → List ℕ
-kept limit body byte =
-    if nat_lt limit (length (body ++ byte ∷ [])) then drop 1 (body ++ byte ∷ []) else body ++ byte ∷ []
-
-abbrev pub all_kept : ℕ → List ℕ → List ℕ → List ℕ
-all_kept limit body [] = body
-all_kept limit body (byte ∷ bytes) = all_kept limit (kept limit body byte) bytes
-
-abbrev pub logged_part : List ℕ → List Part
-logged_part [] = []
-logged_part (byte ∷ bytes) = Logged (byte ∷ bytes) ∷ []
+reads side matched body parts logged =
+    record { side = side; matched = matched; body = body; parts = parts; logged = logged }
 
 abbrev pub step_outside : ℕ → ℕ → List ℕ → List Part → List ℕ → Reading
 step_outside matched byte body parts logged =
     if is_next begin_token matched byte
-    then (if matched == 23 then reads Inside 0 body (parts ++ logged_part logged) [] else reads Outside (matched + 1) body parts logged)
+    then (if matched == 23 then reads Inside 0 body (parts ++ logged_part logged) []
+    else reads Outside (matched + 1) body parts logged)
     else (if byte == 60 then reads Outside 1 body parts (logged ++ take matched begin_token)
     else reads Outside 0 body parts (logged ++ take matched begin_token ++ byte ∷ []))
 
 abbrev pub step_inside : ℕ → ℕ → ℕ → List ℕ → List Part → List ℕ → Reading
 step_inside limit matched byte body parts logged =
     if is_next end_token matched byte
-    then (if matched == 21 then reads Outside 0 [] (parts ++ Message body ∷ []) logged else reads Inside (matched + 1) body parts logged)
+    then (if matched == 21 then reads Outside 0 [] (parts ++ Message body ∷ []) logged
+    else reads Inside (matched + 1) body parts logged)
     else (if byte == 60 then reads Inside 1 (all_kept limit body (take matched end_token)) parts logged
     else reads Inside 0 (kept limit (all_kept limit body (take matched end_token)) byte) parts logged)
 

@@ -1,4 +1,10 @@
+pub mod CaptureCalls
 pub mod CaptureCut
 pub mod CapturePlaces
+pub mod Kept
+pub mod PlaceBounds
+pub mod StreamCut
 pub mod Talk
+pub mod TalkCalls
+pub mod TalkCut
 pub mod TalkPlaces

@@ -3,10 +3,10 @@
 use Rattle.std.specs.Prelude.{◌≡◌, ◌≢◌, ◌≤◌, ◌+◌, ◌-◌, ◌*◌, ◌⊎◌, ⊤, ℕ, List, [], ◌∷◌, ◌++◌, length, map, codes, true}
 use Rattle.std.specs.List.{flat_map, list_all}
 use Rattle.std.specs.Char.{is_ascii_digit}
-use Rattle.sv_pipes.specs.declared.token.TalkState.{TalkState}
-use Rattle.sv_pipes.specs.declared.token.TalkState.TheVariants as state
-use Rattle.sv_pipes.specs.declared.token.Token.{Token}
-use Rattle.sv_pipes.specs.declared.token.Token.TheVariants as token
+use Rattle.sv_pipes.specs.declared.tokens.TalkState.{TalkState}
+use Rattle.sv_pipes.specs.declared.tokens.TalkState.TheVariants as state
+use Rattle.sv_pipes.specs.declared.tokens.Token.{Token}
+use Rattle.sv_pipes.specs.declared.tokens.Token.TheVariants as token
 
 -- one place of a talk: a byte that the listener says, or the mark of an event
 pub data Mark : Type 0 where
@@ -68,7 +68,9 @@ IsRound from (phrase ∷ phrases) to = (next : TalkState) × Leads from phrase n
 -- the bytes that a listener may say next, as a whole
 abbrev pub IsSaid : TalkState → List ℕ → Type 0
 IsSaid state.Acknowledged bytes = bytes ≡ codes "READY\n"
-IsSaid state.Busy bytes = (digits : List ℕ) × (body : List ℕ) × IsLength digits (length body) × (bytes ≡ result_text digits body)
+IsSaid state.Busy bytes =
+    (digits : List ℕ) × (body : List ℕ) × IsLength digits (length body)
+    × (bytes ≡ result_text digits body)
 IsSaid other bytes = ⊥
 
 -- nothing, or some bytes of what may be said next, but not all of them
@@ -89,7 +91,8 @@ abbrev pub tokens_of : List Phrase → List Token
 tokens_of phrases = flat_map told_by phrases
 
 -- a talk that is cut up to a rest, which goes on
-pub record GoesOn (talk : List Mark) (tokens : List Token) (to : TalkState) (rest : List ℕ) : Type 0 where
+pub record GoesOn (talk : List Mark) (tokens : List Token) (to : TalkState)
+    (rest : List ℕ) : Type 0 where
   pub phrases : List Phrase
   pub cut : talk ≡ talk_of phrases ++ said rest
   pub round : IsRound state.Acknowledged phrases to

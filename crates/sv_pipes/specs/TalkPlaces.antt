@@ -6,10 +6,10 @@ use Rattle.sv_pipes.specs.Talk.{Mark, GoesOn, IsLost, IsLength, number_of, resul
 use Rattle.sv_pipes.specs.declared.talk.Place.{Place}
 use Rattle.sv_pipes.specs.declared.talk.Place.TheVariants as place
 use Rattle.sv_pipes.specs.declared.talk.ListenerTalk.{ListenerTalk}
-use Rattle.sv_pipes.specs.declared.token.TalkState.{TalkState}
-use Rattle.sv_pipes.specs.declared.token.TalkState.TheVariants as state
-use Rattle.sv_pipes.specs.declared.token.Token.{Token}
-use Rattle.sv_pipes.specs.declared.token.Token.TheVariants as token
+use Rattle.sv_pipes.specs.declared.tokens.TalkState.{TalkState}
+use Rattle.sv_pipes.specs.declared.tokens.TalkState.TheVariants as state
+use Rattle.sv_pipes.specs.declared.tokens.Token.{Token}
+use Rattle.sv_pipes.specs.declared.tokens.Token.TheVariants as token
 
 abbrev pub ready_line : List ℕ
 ready_line = codes "READY\n"
@@ -22,7 +22,7 @@ state_of (place.Greeting count) = state.Acknowledged
 state_of place.Idle = state.Ready
 state_of (place.Word count) = state.Busy
 state_of (place.Length count number) = state.Busy
-state_of (place.Body number) = state.Busy
+state_of (place.Body count number) = state.Busy
 state_of place.Lost = state.Unknown
 state_of place.Broken = state.Unknown
 
@@ -34,8 +34,9 @@ IsKept (place.Word count) held rest = (rest ≡ take count result_word) × (coun
 IsKept (place.Length count number) held rest =
     (digits : List ℕ) × (rest ≡ result_word ++ digits) × (list_all is_ascii_digit digits ≡ true)
     × (length digits ≡ count) × (number_of 0 digits ≡ number) × (count ≤ 7) × (number ≤ result_limit) × (held ≡ [])
-IsKept (place.Body number) held rest =
-    (digits : List ℕ) × (rest ≡ result_word ++ digits ++ 10 ∷ held) × IsLength digits number × (length held < number)
+IsKept (place.Body count number) held rest =
+    (digits : List ℕ) × (rest ≡ result_word ++ digits ++ 10 ∷ held) × IsLength digits number
+    × (length held < number) × (length digits ≡ count)
 IsKept at held rest = ⊥
 
 -- the place and the bytes held stand for a talk whose cut gave these tokens
@@ -45,6 +46,14 @@ Stands at held talk tokens = (rest : List ℕ) × GoesOn talk tokens (state_of a
 
 abbrev pub StandsFor : ListenerTalk → List Mark → List Token → Type 0
 StandsFor value talk tokens = Stands value.place value.held.items talk tokens
+
+-- memory was refused, so the value stands for no talk
+abbrev pub IsBroken : ListenerTalk → Type 0
+IsBroken value = value.place ≡ place.Broken
+
+-- the state that a value gives
+abbrev pub state_in : ListenerTalk → TalkState
+state_in value = state_of value.place
 
 -- a place, the bytes held, and the tokens told so far
 pub record Told : Type 0 where
@@ -68,13 +77,15 @@ lost held tokens = goes place.Lost held (tokens ++ token.Wrong ∷ [])
 abbrev pub after_greeting : ℕ → ℕ → List ℕ → List Token → Told
 after_greeting count byte held tokens =
     if is_next ready_line count byte
-    then (if count == 5 then goes place.Idle held (tokens ++ token.Ready ∷ []) else goes (place.Greeting (count + 1)) held tokens)
+    then (if count == 5 then goes place.Idle held (tokens ++ token.Ready ∷ [])
+    else goes (place.Greeting (count + 1)) held tokens)
     else lost held tokens
 
 abbrev pub after_word : ℕ → ℕ → List ℕ → List Token → Told
 after_word count byte held tokens =
     if is_next result_word count byte
-    then (if count == 6 then goes (place.Length 0 0) held tokens else goes (place.Word (count + 1)) held tokens)
+    then (if count == 6 then goes (place.Length 0 0) held tokens
+    else goes (place.Word (count + 1)) held tokens)
     else lost held tokens
 
 abbrev pub after_digit : ℕ → ℕ → List ℕ → List Token → Told
@@ -86,13 +97,14 @@ after_digit count number held tokens =
 abbrev pub after_length : ℕ → ℕ → List ℕ → List Token → Told
 after_length count number held tokens =
     if nat_lt 0 count
-    then (if number == 0 then goes (place.Greeting 0) held (tokens ++ token.Result [] ∷ []) else goes (place.Body number) held tokens)
+    then (if number == 0 then goes (place.Greeting 0) held (tokens ++ token.Result [] ∷ [])
+    else goes (place.Body count number) held tokens)
     else lost held tokens
 
-abbrev pub after_body : ℕ → List ℕ → List Token → Told
-after_body number body tokens =
+abbrev pub after_body : ℕ → ℕ → List ℕ → List Token → Told
+after_body count number body tokens =
     if nat_lt (length body) number
-    then goes (place.Body number) body tokens
+    then goes (place.Body count number) body tokens
     else goes (place.Greeting 0) [] (tokens ++ token.Result body ∷ [])
 
 -- what one more byte makes of it
@@ -103,7 +115,7 @@ step (place.Word count) byte held tokens = after_word count byte held tokens
 step (place.Length count number) byte held tokens =
     if is_ascii_digit byte then after_digit count (10 * number + (byte - 48)) held tokens
     else (if byte == 10 then after_length count number held tokens else lost held tokens)
-step (place.Body number) byte held tokens = after_body number (held ++ byte ∷ []) tokens
+step (place.Body count number) byte held tokens = after_body count number (held ++ byte ∷ []) tokens
 step at byte held tokens = goes at held tokens
 
 abbrev pub steps : Told → List ℕ → Told

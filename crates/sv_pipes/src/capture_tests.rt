@@ -1,5 +1,7 @@
-use crate::capture::Capture;
-use crate::part::Part;
+//! Captured streams, worked by hand.
+
+use crate::captured::Capture;
+use crate::parts::Part;
 use std::alloc::{AllocError, Global};
 use std::process::Abort;
 

@@ -1,16 +1,21 @@
 //! Pipes: what a listener says on its standard output, and what a captured stream holds.
 //!
-//! Both readers take a stream in pieces, cut anywhere, and keep only bytes that are not decided yet. A value stands
+//! Both readers take a stream in pieces, cut anywhere, and keep only bytes that aren't decided yet. A value stands
 //! for the whole stream so far: what it answers is what is new in the one cut of that stream.
 #![tactic(auto)]
 
-pub mod capture;
 #[cfg(test)]
 mod capture_tests;
+pub mod captured;
 pub mod laws;
-pub mod part;
+pub mod parts;
 pub mod talk;
 #[cfg(test)]
 mod tests;
-pub mod token;
+pub mod tokens;
 mod word;
+
+pub use captured::Capture;
+pub use parts::{Part, Side};
+pub use talk::ListenerTalk;
+pub use tokens::{TalkState, Token};

@@ -1,6 +1,9 @@
-ghost use Rattle.std.specs.Prelude.{◌≡◌, ◌↔◌, ◌<◌, ◌++◌, ◌∷◌, [], List, length, IfOk, OnOk, OnErr, IsTrue, IsErr};
+//! The talk of an event listener: what it says on its standard output, and the events that were sent to it.
 
-use crate::token::{TalkState, Token};
+ghost use Rattle.std.specs.Prelude.{◌≡◌, ◌↔◌, ◌<◌, ◌≤◌, ◌++◌, ◌∷◌, [], List, length, IfOk, OnOk, OnErr, IsTrue, IsErr};
+ghost use Rattle.sv_pipes.specs.PlaceBounds.{digits_in, length_in, room_in};
+
+use crate::tokens::{TalkState, Token};
 use crate::word::is_next;
 use std::alloc::{AllocError, Global};
 use std::mem;
@@ -23,8 +26,8 @@ enum Place {
     Word { count: usize },
     /// In a result's length: how many digits were said, and their number.
     Length { count: u8, number: u32 },
-    /// In a result of so many bytes, which isn't empty.
-    Body { number: u32 },
+    /// In a result of so many bytes, which isn't empty, after so many digits.
+    Body { count: u8, number: u32 },
     /// A byte was outside the talk.
     Lost,
     /// Memory was refused.
@@ -37,15 +40,17 @@ pub struct ListenerTalk {
     place: Place,
     /// The bytes of a result so far.
     held: Vec<u8>,
+    ghost few_digits: { digits_in place ≤ 7 },
+    ghost short_result: { length_in place ≤ 1048576 },
+    ghost open_result: { length held.items < room_in place },
 }
 
 impl ListenerTalk {
-    ghost use Rattle.sv_pipes.specs.TalkPlaces.{StandsFor, state_of, shown, goes, lost, step, steps, after_greeting, after_word, after_digit, after_length, after_body};
-    ghost use Rattle.sv_pipes.specs.Talk.{IsCut, Mark, said};
-    ghost use Rattle.sv_pipes.specs.Talk.Mark.{Sent};
+    ghost use Rattle.sv_pipes.specs.TalkPlaces.{StandsFor, IsBroken, state_in, shown, goes, lost, step, steps};
+    ghost use Rattle.sv_pipes.specs.TalkPlaces.{after_greeting, after_word, after_digit, after_length, after_body};
+    ghost use Rattle.sv_pipes.specs.TalkCalls.{Feeds, Tells, Sends, HasCut, IsRead, StandsForNone};
     ghost use Rattle.sv_pipes.specs.declared.talk.Place.{Place};
-    ghost use Rattle.sv_pipes.specs.declared.token.TalkState.{TalkState};
-    ghost use Rattle.sv_pipes.specs.declared.token.Token.{Token};
+    ghost use Rattle.sv_pipes.specs.declared.tokens.TalkState.{TalkState};
 
     /// The talk of a listener that said nothing yet. It takes no memory.
     pub fn new(alloc: Global) -> ListenerTalk
@@ -59,8 +64,9 @@ impl ListenerTalk {
 
     /// The state in which the talk leaves the listener.
     pub fn state(&self) -> TalkState
-        ensures state { result ≡ state_of self.now.place }
-        ensures cut { (talk : List Mark) (tokens : List Token) → StandsFor self.now talk tokens → IsCut talk tokens result }
+        ensures state { result ≡ state_in self.now }
+        ensures cut { HasCut self.now result }
+        ensures read { IsRead self.now result }
     {
         match self.place {
             Place::Greeting { count: _ } => TalkState::Acknowledged,
@@ -70,7 +76,10 @@ impl ListenerTalk {
                 count: _,
                 number: _,
             } => TalkState::Busy,
-            Place::Body { number: _ } => TalkState::Busy,
+            Place::Body {
+                count: _,
+                number: _,
+            } => TalkState::Busy,
             Place::Lost => TalkState::Unknown,
             Place::Broken => TalkState::Unknown,
         }
@@ -78,8 +87,8 @@ impl ListenerTalk {
 
     /// Puts the mark of an event that was sent.
     pub fn sent(&mut self)
-        requires { state_of self.old.place ≡ TalkState.Ready }
-        ensures { (talk : List Mark) (tokens : List Token) → StandsFor self.old talk tokens → StandsFor self.new (talk ++ Sent ∷ []) tokens }
+        requires { state_in self.old ≡ TalkState.Ready }
+        ensures { Sends self.old self.new }
     {
         self.place = Place::Word { count: 0 };
     }
@@ -88,10 +97,11 @@ impl ListenerTalk {
     ///
     /// Out of memory leaves a value that stands for no talk, and each later call gives the same answer.
     pub fn feed(&mut self, alloc: Global, piece: &[u8]) -> Result<Vec<Token>, AllocError>
-        ensures cut { IfOk result (λ told. (talk : List Mark) (tokens : List Token) → StandsFor self.old talk tokens → StandsFor self.new (talk ++ said piece.now) (tokens ++ told.items)) }
-        ensures refused { OnErr result (self.new.place ≡ Place.Broken) }
-        ensures none { OnErr result ((talk : List Mark) (tokens : List Token) → StandsFor self.new talk tokens → ⊥) }
-        ensures stays_refused { self.old.place ≡ Place.Broken → IsErr result }
+        ensures cut { IfOk result (λ told. Feeds self.old piece.now told.items self.new) }
+        ensures read { IfOk result (λ told. Tells self.old piece.now told.items) }
+        ensures refused { OnErr result (IsBroken self.new) }
+        ensures none { OnErr result (StandsForNone self.new) }
+        ensures stays_refused { IsBroken self.old → IsErr result }
     {
         if self.is_broken() {
             return Err(AllocError);
@@ -100,6 +110,7 @@ impl ListenerTalk {
         match self.take_all(alloc, piece, &mut tokens) {
             Ok(()) => Ok(tokens),
             Err(refusal) => {
+                self.held = Vec::new(alloc);
                 self.place = Place::Broken;
                 Err(refusal)
             }
@@ -107,7 +118,7 @@ impl ListenerTalk {
     }
 
     fn is_broken(&self) -> bool
-        ensures { IsTrue result ↔ (self.now.place ≡ Place.Broken) }
+        ensures { IsTrue result ↔ IsBroken self.now }
     {
         match self.place {
             Place::Broken => true,
@@ -121,7 +132,8 @@ impl ListenerTalk {
         piece: &[u8],
         tokens: &mut Vec<Token>,
     ) -> Result<(), AllocError>
-        ensures { OnOk result (shown self.new tokens.new.items ≡ steps (shown self.old tokens.old.items) piece.now) }
+        ensures { OnOk result (shown self.new tokens.new.items
+            ≡ steps (shown self.old tokens.old.items) piece.now) }
     {
         let mut rest = piece;
         while let [byte, more @ ..] = rest {
@@ -132,7 +144,8 @@ impl ListenerTalk {
     }
 
     fn take(&mut self, alloc: Global, byte: u8, tokens: &mut Vec<Token>) -> Result<(), AllocError>
-        ensures { OnOk result (shown self.new tokens.new.items ≡ step self.old.place byte self.old.held.items tokens.old.items) }
+        ensures { OnOk result (shown self.new tokens.new.items
+            ≡ step self.old.place byte self.old.held.items tokens.old.items) }
     {
         match self.place {
             Place::Greeting { count } => self.greeting(byte, count, tokens),
@@ -152,7 +165,7 @@ impl ListenerTalk {
                 count: _,
                 number: _,
             } => self.lose(tokens),
-            Place::Body { number } => self.body(alloc, byte, number, tokens),
+            Place::Body { count, number } => self.body(alloc, byte, count, number, tokens),
             Place::Lost | Place::Broken => Ok(()),
         }
     }
@@ -163,7 +176,9 @@ impl ListenerTalk {
         count: usize,
         tokens: &mut Vec<Token>,
     ) -> Result<(), AllocError>
-        ensures { OnOk result (shown self.new tokens.new.items ≡ after_greeting count byte self.old.held.items tokens.old.items) }
+        requires { room_in self.old.place ≡ 1 }
+        ensures { OnOk result (shown self.new tokens.new.items
+            ≡ after_greeting count byte self.old.held.items tokens.old.items) }
     {
         if !is_next(b"READY\n", count, byte) {
             return self.lose(tokens);
@@ -178,7 +193,9 @@ impl ListenerTalk {
     }
 
     fn word(&mut self, byte: u8, count: usize, tokens: &mut Vec<Token>) -> Result<(), AllocError>
-        ensures { OnOk result (shown self.new tokens.new.items ≡ after_word count byte self.old.held.items tokens.old.items) }
+        requires { room_in self.old.place ≡ 1 }
+        ensures { OnOk result (shown self.new tokens.new.items
+            ≡ after_word count byte self.old.held.items tokens.old.items) }
     {
         if !is_next(b"RESULT ", count, byte) {
             return self.lose(tokens);
@@ -195,7 +212,9 @@ impl ListenerTalk {
     }
 
     fn digit(&mut self, count: u8, number: u64, tokens: &mut Vec<Token>) -> Result<(), AllocError>
-        ensures { OnOk result (shown self.new tokens.new.items ≡ after_digit count number self.old.held.items tokens.old.items) }
+        requires { room_in self.old.place ≡ 1 }
+        ensures { OnOk result (shown self.new tokens.new.items
+            ≡ after_digit count number self.old.held.items tokens.old.items) }
     {
         if count < MOST_DIGITS && number <= RESULT_LIMIT {
             self.place = Place::Length {
@@ -215,7 +234,11 @@ impl ListenerTalk {
         number: u32,
         tokens: &mut Vec<Token>,
     ) -> Result<(), AllocError>
-        ensures { OnOk result (shown self.new tokens.new.items ≡ after_length count number self.old.held.items tokens.old.items) }
+        requires room { room_in self.old.place ≡ 1 }
+        requires count { count ≤ 7 }
+        requires number { number ≤ 1048576 }
+        ensures { OnOk result (shown self.new tokens.new.items
+            ≡ after_length count number self.old.held.items tokens.old.items) }
     {
         if count == 0 {
             return self.lose(tokens);
@@ -224,7 +247,7 @@ impl ListenerTalk {
             tokens.push(Token::Result(Bytes::from_vec(Vec::new(alloc))))?;
             self.place = Place::Greeting { count: 0 };
         } else {
-            self.place = Place::Body { number };
+            self.place = Place::Body { count, number };
         }
         Ok(())
     }
@@ -233,16 +256,19 @@ impl ListenerTalk {
         &mut self,
         alloc: Global,
         byte: u8,
+        count: u8,
         number: u32,
         tokens: &mut Vec<Token>,
     ) -> Result<(), AllocError>
-        ensures { OnOk result (shown self.new tokens.new.items ≡ after_body number (self.old.held.items ++ byte ∷ []) tokens.old.items) }
+        requires { self.old.place ≡ Place.Body count number }
+        ensures { OnOk result (shown self.new tokens.new.items
+            ≡ after_body count number (self.old.held.items ++ byte ∷ []) tokens.old.items) }
     {
-        self.held.push(byte)?;
-        if self.held.as_slice().len() < number as usize {
-            self.place = Place::Body { number };
+        if self.held.as_slice().len() + 1 < number as usize {
+            self.held.push(byte)?;
         } else {
-            let body = mem::replace(&mut self.held, Vec::new(alloc));
+            let mut body = mem::replace(&mut self.held, Vec::new(alloc));
+            body.push(byte)?;
             tokens.push(Token::Result(Bytes::from_vec(body)))?;
             self.place = Place::Greeting { count: 0 };
         }
@@ -250,7 +276,9 @@ impl ListenerTalk {
     }
 
     fn lose(&mut self, tokens: &mut Vec<Token>) -> Result<(), AllocError>
-        ensures { OnOk result (shown self.new tokens.new.items ≡ lost self.old.held.items tokens.old.items) }
+        requires { room_in self.old.place ≡ 1 }
+        ensures { OnOk result (shown self.new tokens.new.items
+            ≡ lost self.old.held.items tokens.old.items) }
     {
         tokens.push(Token::Wrong)?;
         self.place = Place::Lost;

@@ -1,5 +1,7 @@
+//! Talks, worked by hand from the manual's protocol.
+
 use crate::talk::ListenerTalk;
-use crate::token::{TalkState, Token};
+use crate::tokens::{TalkState, Token};
 use std::alloc::{AllocError, Global};
 use std::process::Abort;
 

@@ -1,3 +1,5 @@
+//! A word that comes byte by byte.
+
 ghost use Rattle.std.specs.Prelude.{◌≡◌, ◌<◌, length, IsTrue};
 ghost use Rattle.sv_pipes.specs.TalkPlaces.{is_next};
 

@@ -1,6 +1,6 @@
 use Rattle.std.proofs.Common.{◌≡◌, length}
 use Rattle.sv_pipes.specs.CapturePlaces.{shown, steps}
-use Rattle.sv_pipes.proofs.capture.Capture.take_all.Given as goal
+use Rattle.sv_pipes.proofs.captured.Capture.take_all.Given as goal
 
 abbrev pub invariant-loop-rest : goal.invariant-loop-rest
 invariant-loop-rest l = record {

@@ -1,7 +1,9 @@
-ghost use Rattle.std.specs.Prelude.{◌≡◌, ◌++◌, ◌∷◌, [], List, ℕ, true, take, IfOk, OnOk, OnErr, IsErr};
-ghost use Rattle.sv_pipes.specs.CapturePlaces.{kept, all_kept, logged_part};
+//! A captured stream: its bytes for the log, and the messages between its marks.
 
-use crate::part::{Part, Side};
+ghost use Rattle.std.specs.Prelude.{◌≡◌, ◌<◌, ◌≤◌, ◌++◌, ◌∷◌, [], List, ℕ, length, take, IfOk, IsOkAnd, OnOk, OnErr, IsErr};
+ghost use Rattle.sv_pipes.specs.Kept.{kept, all_kept, logged_part};
+
+use crate::parts::{Part, Side};
 use crate::word::is_next;
 use std::alloc::{AllocError, Global};
 use std::collections::VecDeque;
@@ -11,7 +13,7 @@ use sv_base::bytes::Bytes;
 /// The mark before a message.
 const BEGIN: &[u8] = b"<!--XSUPERVISOR:BEGIN-->";
 
-/// The mark behind a message.
+/// The mark after a message.
 const END: &[u8] = b"<!--XSUPERVISOR:END-->";
 
 /// A captured stream, of which only undecided bytes are kept: the last bytes of a message that is open, and how many
@@ -27,15 +29,18 @@ pub struct Capture {
     body: VecDeque<u8>,
     /// Whether memory was refused.
     broken: bool,
+    ghost part_of_mark: { matched < 24 },
+    ghost last_bytes: { length body.items ≤ limit },
 }
 
 impl Capture {
-    ghost use Rattle.sv_pipes.specs.CaptureCut.{Decided, IsClosed, grouped};
-    ghost use Rattle.sv_pipes.specs.CapturePlaces.{StandsFor, shown, step, steps, step_outside, step_inside, held_outside};
+    ghost use Rattle.sv_pipes.specs.CaptureCalls.{Feeds, Tells, Closes, TellsEnd, StandsForNone};
+    ghost use Rattle.sv_pipes.specs.CapturePlaces.{StandsFor, IsBroken, shown, step, steps, step_outside, step_inside, held_outside};
 
-    /// A capture of a stream that has no bytes yet, whose messages have at most so many bytes.
+    /// A capture of a stream that has no bytes yet, whose messages have at most so many bytes. It takes no memory, so
+    /// it always succeeds.
     pub fn new(alloc: Global, limit: u64) -> Result<Capture, AllocError>
-        ensures { IfOk result (λ value. (value.limit ≡ limit) × StandsFor value [] []) }
+        ensures { IsOkAnd result (λ value. StandsFor value limit [] []) }
     {
         Ok(Capture {
             limit,
@@ -50,10 +55,11 @@ impl Capture {
     ///
     /// Out of memory leaves a value that stands for no stream, and each later call gives the same answer.
     pub fn feed(&mut self, alloc: Global, piece: &[u8]) -> Result<Vec<Part>, AllocError>
-        ensures cut { IfOk result (λ parts. (stream : List ℕ) (decided : List Decided) → StandsFor self.old stream decided → (fresh : List Decided) × (parts.items ≡ grouped fresh) × StandsFor self.new (stream ++ piece.now) (decided ++ fresh)) }
-        ensures limit { self.new.limit ≡ self.old.limit }
-        ensures refused { OnErr result (self.new.broken ≡ true) }
-        ensures stays_refused { self.old.broken ≡ true → IsErr result }
+        ensures cut { IfOk result (λ parts. Feeds self.old piece.now parts.items self.new) }
+        ensures read { IfOk result (λ parts. Tells self.old piece.now parts.items) }
+        ensures refused { OnErr result (IsBroken self.new) }
+        ensures none { OnErr result (StandsForNone self.new) }
+        ensures stays_refused { IsBroken self.old → IsErr result }
     {
         if self.broken {
             return Err(AllocError);
@@ -72,11 +78,12 @@ impl Capture {
     ///
     /// Out of memory leaves a value that stands for no stream, and each later call gives the same answer.
     pub fn close(&mut self, alloc: Global) -> Result<Vec<Part>, AllocError>
-        ensures closed { IfOk result (λ parts. (stream : List ℕ) (decided : List Decided) → StandsFor self.old stream decided → (fresh : List Decided) × (parts.items ≡ grouped fresh) × IsClosed self.old.limit stream (decided ++ fresh)) }
+        ensures closed { IfOk result (λ parts. Closes self.old parts.items) }
+        ensures read { IfOk result (λ parts. TellsEnd self.old parts.items) }
         ensures stays { OnOk result (self.new ≡ self.old) }
-        ensures limit { self.new.limit ≡ self.old.limit }
-        ensures refused { OnErr result (self.new.broken ≡ true) }
-        ensures stays_refused { self.old.broken ≡ true → IsErr result }
+        ensures refused { OnErr result (IsBroken self.new) }
+        ensures none { OnErr result (StandsForNone self.new) }
+        ensures stays_refused { IsBroken self.old → IsErr result }
     {
         if self.broken {
             return Err(AllocError);
@@ -108,7 +115,8 @@ impl Capture {
         parts: &mut Vec<Part>,
         logged: &mut Vec<u8>,
     ) -> Result<(), AllocError>
-        ensures steps { OnOk result (shown self.new parts.new.items logged.new.items ≡ steps self.old.limit (shown self.old parts.old.items logged.old.items) piece.now) }
+        ensures steps { OnOk result (shown self.new parts.new.items logged.new.items
+            ≡ steps self.old.limit (shown self.old parts.old.items logged.old.items) piece.now) }
         ensures limit { self.new.limit ≡ self.old.limit }
         ensures broken { self.new.broken ≡ self.old.broken }
     {
@@ -127,7 +135,9 @@ impl Capture {
         parts: &mut Vec<Part>,
         logged: &mut Vec<u8>,
     ) -> Result<(), AllocError>
-        ensures step { OnOk result (shown self.new parts.new.items logged.new.items ≡ step self.old.limit self.old.side self.old.matched byte self.old.body.items parts.old.items logged.old.items) }
+        ensures step { OnOk result (shown self.new parts.new.items logged.new.items
+            ≡ step self.old.limit self.old.side self.old.matched byte self.old.body.items
+            parts.old.items logged.old.items) }
         ensures limit { self.new.limit ≡ self.old.limit }
         ensures broken { self.new.broken ≡ self.old.broken }
     {
@@ -145,7 +155,9 @@ impl Capture {
         logged: &mut Vec<u8>,
     ) -> Result<(), AllocError>
         requires { self.old.side ≡ Side.Outside }
-        ensures step { OnOk result (shown self.new parts.new.items logged.new.items ≡ step_outside self.old.matched byte self.old.body.items parts.old.items logged.old.items) }
+        ensures step { OnOk result (shown self.new parts.new.items logged.new.items
+            ≡ step_outside self.old.matched byte self.old.body.items parts.old.items
+            logged.old.items) }
         ensures limit { self.new.limit ≡ self.old.limit }
         ensures broken { self.new.broken ≡ self.old.broken }
     {
@@ -171,7 +183,9 @@ impl Capture {
 
     fn inside(&mut self, alloc: Global, byte: u8, parts: &mut Vec<Part>) -> Result<(), AllocError>
         requires { self.old.side ≡ Side.Inside }
-        ensures step { (logged : List ℕ) → OnOk result (shown self.new parts.new.items logged ≡ step_inside self.old.limit self.old.matched byte self.old.body.items parts.old.items logged) }
+        ensures step { (logged : List ℕ) → OnOk result (shown self.new parts.new.items logged
+            ≡ step_inside self.old.limit self.old.matched byte self.old.body.items
+            parts.old.items logged) }
         ensures limit { self.new.limit ≡ self.old.limit }
         ensures broken { self.new.broken ≡ self.old.broken }
     {
@@ -220,7 +234,9 @@ fn push_front(bytes: &mut Vec<u8>, word: &[u8], count: usize) -> Result<(), Allo
 
 /// Keeps a further byte of a message, of whose bytes only the last ones are kept.
 fn keep(body: &mut VecDeque<u8>, limit: u64, byte: u8) -> Result<(), AllocError>
-    ensures { OnOk result (body.new.items ≡ kept limit body.old.items byte) }
+    requires { length body.old.items ≤ limit }
+    ensures kept { OnOk result (body.new.items ≡ kept limit body.old.items byte) }
+    ensures within { length body.new.items ≤ limit }
 {
     body.push_back(byte)?;
     if body.len() as u64 > limit {
@@ -236,7 +252,9 @@ fn keep_front(
     word: &[u8],
     count: usize,
 ) -> Result<(), AllocError>
-    ensures { OnOk result (body.new.items ≡ all_kept limit body.old.items (take count word.now)) }
+    requires { length body.old.items ≤ limit }
+    ensures kept { OnOk result (body.new.items ≡ all_kept limit body.old.items (take count word.now)) }
+    ensures within { length body.new.items ≤ limit }
 {
     let count = count.min(word.len());
     let mut rest = &word[..count];

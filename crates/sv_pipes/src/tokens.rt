@@ -1,3 +1,5 @@
+//! What a listener says, and the states of a listener.
+
 use sv_base::bytes::Bytes;
 
 /// What a listener says (the manual's chapter on events, "Event Notification Protocol").

@@ -1,3 +1,5 @@
+//! What is decided of a captured stream.
+
 use sv_base::bytes::Bytes;
 
 /// What a piece of a captured stream decides.

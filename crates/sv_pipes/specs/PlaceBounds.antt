@@ -1,0 +1,21 @@
+-- What a place in a talk says of the bytes that are kept there.
+use Rattle.std.specs.Prelude.{ℕ}
+use Rattle.sv_pipes.specs.declared.talk.Place.{Place}
+use Rattle.sv_pipes.specs.declared.talk.Place.TheVariants as place
+
+-- how many digits of a result's length were said
+abbrev pub digits_in : Place → ℕ
+digits_in (place.Length count number) = count
+digits_in (place.Body count number) = count
+digits_in at = 0
+
+-- the number that these digits write
+abbrev pub length_in : Place → ℕ
+length_in (place.Length count number) = number
+length_in (place.Body count number) = number
+length_in at = 0
+
+-- fewer bytes than this are kept: a result that isn't whole, and nothing elsewhere
+abbrev pub room_in : Place → ℕ
+room_in (place.Body count number) = number
+room_in at = 1
