@@ -1,0 +1,11 @@
+//! Several calls in one: the calls that the value of `system.multicall` asks for, and the one value that their answers make.
+//! `specs/MultiCall.antt` is the definition. Nothing here carries a call out.
+#![tactic(auto)]
+
+mod copy;
+pub mod fault;
+pub mod gather;
+pub mod part;
+pub mod parts;
+#[cfg(test)]
+mod tests;
