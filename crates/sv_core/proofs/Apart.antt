@@ -4,14 +4,22 @@ use Rattle.std.specs.Prelude.{slice_get}
 use Rattle.std.specs.List.{flat_map, list_all, list_any}
 use Rattle.std.specs.Str.{bytes_eq}
 use Rattle.std.proofs.lemmas.Bool.{and_parts, both_ways, not-true, or_parts}
-use Rattle.std.proofs.lemmas.Option.{same_Some}
+use Rattle.std.proofs.lemmas.List.{map-append}
+use Rattle.std.proofs.lemmas.Option.{same_Some, slice_get-map}
+use Rattle.std.specs.Option.{option_map}
 use Rattle.std.proofs.lemmas.Slice.Eq.{bytes_eq-Decides}
 use Rattle.sv_base.specs.Order.{are_distinct, is_rising}
 use Rattle.sv_base.specs.Roster.{are_memberships, is_membership, is_roster}
 use Rattle.sv_base.specs.declared.spec.GroupSpec.{GroupSpec}
 use Rattle.sv_base.specs.declared.spec.Spec.{Spec}
-use Rattle.sv_core.specs.MachineState.{of_group, own_members}
-use Rattle.sv_core.specs.Path.{IsOnlyOne}
+use Rattle.sv_groups.specs.StartOrder.{pairs_in, pairs_of}
+
+-- a process by the name of its group, whatever it says of its group itself
+abbrev pub of_group : List ℕ → Spec → Spec
+of_group name spec = record spec { group = name }
+
+abbrev pub own_members : GroupSpec → List Spec
+own_members group = map (of_group group.name) group.members
 
 abbrev pub members_of : List GroupSpec → List Spec
 members_of groups = flat_map own_members groups
@@ -123,10 +131,32 @@ apart_groups (g ∷ gs) distinct members =
     (apart_groups gs distincts.1 each.1)
     (all_unlike (own_members g) g.name gs (own_name g.name g.members) (not-true (list_any (λ (h : GroupSpec). bytes_eq h.name g.name) gs) distincts.0))
 
-pub only_in_roster : (groups : List GroupSpec) (place : ℕ) (spec : Spec) → is_roster groups ≡ true
-    → slice_get (members_of groups) place ≡ Some spec → IsOnlyOne (members_of groups) place spec
-only_in_roster groups place spec roster is =
+-- ---- the pairs of a roster
+
+abbrev pub named : (GroupSpec × Spec) → Spec
+named p = of_group p.0.name p.1
+
+named_in : (g : GroupSpec) (ms : List Spec) → map named (map {B = GroupSpec × Spec} (λ (m : Spec). (g, m)) ms) ≡ map (of_group g.name) ms
+named_in g [] = refl
+named_in g (m ∷ ms) = ap (λ (ss : List Spec). of_group g.name m ∷ ss) (named_in g ms)
+
+named_of : (gs : List GroupSpec) → map named (pairs_of gs) ≡ members_of gs
+named_of [] = refl
+named_of (g ∷ gs) =
+    map-append named (pairs_in g) (pairs_of gs)
+    ∙ ap (λ (ss : List Spec). ss ++ map named (pairs_of gs)) (named_in g g.members)
+    ∙ ap (λ (ss : List Spec). own_members g ++ ss) (named_of gs)
+
+named_at : (gs : List GroupSpec) (i : ℕ) (p : GroupSpec × Spec) → slice_get (pairs_of gs) i ≡ Some p → slice_get (members_of gs) i ≡ Some (named p)
+named_at gs i p is =
+    ap (λ (ss : List Spec). slice_get ss i) (sym (named_of gs)) ∙ slice_get-map named (pairs_of gs) i ∙ ap (option_map named) is
+
+-- two processes of a roster with the same names of their groups and of themselves are one
+pub only_in_roster : (groups : List GroupSpec) (i j : ℕ) (p q : GroupSpec × Spec) → is_roster groups ≡ true
+    → slice_get (pairs_of groups) i ≡ Some p → slice_get (pairs_of groups) j ≡ Some q
+    → q.0.name ≡ p.0.name → q.1.name ≡ p.1.name → j ≡ i
+only_in_roster groups i j p q roster is it group name =
     let members = and_parts _ (are_memberships groups) roster in
     let distinct = and_parts _ (are_distinct (λ (g : GroupSpec). g.name) groups) members.0 in
     let apart = apart_groups groups distinct.1 members.1 in
-    λ other_place other it group name. only_one (members_of groups) apart place other_place spec other is it group name
+    only_one (members_of groups) apart i j (named p) (named q) (named_at groups i p is) (named_at groups j q it) group name

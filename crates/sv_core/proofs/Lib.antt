@@ -1,5 +1,5 @@
 mod Apart
-mod MapOver
+mod Rewound
 mod Named
 mod OneChild
 mod Reported

@@ -1,49 +1,58 @@
 -- The machine and the state that it stands for go on together.
 use Rattle.std.proofs.Common.{◌≡◌, ℕ, List, [], ◌∷◌, ◌++◌, Option, Some, None, Bool, true, false, ◌&&◌, length, refl, sym, ap, ◌∙◌, append-nil, ◌-◌}
-use Rattle.std.specs.Prelude.{is_some, nat_lt, not}
+use Rattle.std.specs.Prelude.{codes, is_some, nat_lt, not}
 use Rattle.std.specs.List.{list_all}
 use Rattle.std.proofs.Math.Seq.{drop-append_seam}
 use Rattle.sv_core.proofs.Named.{names_fresh, names_failed}
-use Rattle.sv_core.specs.Failure.{can_fail, replies_of}
+use Rattle.sv_core.specs.Failure.{can_fail, failures_told}
 use Rattle.sv_core.specs.MachineState.{Model, can_be_named, failure_named, hand, is_accepted, now, accepts, next, next_part, orders, turn_of}
 use Rattle.sv_core.specs.Parts.{part_of}
-use Rattle.sv_core.specs.StandsFor.{StandsFor, Takes, Names, Notes, can_name, failure_kept, is_above, rest, swept, shown, turn_after, is_fitting}
+use Rattle.sv_core.specs.StandsFor.{StandsFor, Takes, Names, Notes, asked_by, can_name, failure_kept, has_halted, is_above, paused, question_of, rest, swept, shown, turn_after, is_fitting}
 use Rattle.sv_core.specs.Sweeps.{Turn, asks, sweeps}
-use Rattle.sv_core.specs.Turn.{applies, come, came, passes, turn, rewinds, after_sweep, world_of, is_asking}
+use Rattle.sv_core.specs.Turn.{applies, asked_of, come, came, after_pass, after_stimulus, turn, rewinds, world_of, is_asking}
 use Rattle.sv_core.specs.Moves.{answered}
 use Rattle.sv_core.specs.World.{World}
+use Rattle.sv_core.specs.declared.failure.Failure.TheVariants.{NeverFails, ChangesNothing, RefusesQuestion}
 use Rattle.sv_core.specs.declared.machine.Machine.{Machine}
 use Rattle.sv_core.specs.declared.numbers.Numbers.{Numbers}
 use Rattle.sv_core.specs.declared.part.Cause.{Cause}
 use Rattle.sv_core.specs.declared.part.Part.{Part}
 use Rattle.sv_core.specs.declared.part.Part.TheVariants.{Begins, Answers, Fails}
+use Rattle.sv_core.specs.declared.part.Followed.{Followed}
+use Rattle.sv_core.specs.declared.part.Followed.TheVariants as followed
+use Rattle.sv_core.specs.declared.part.Question.{Question}
 use Rattle.sv_core.specs.declared.part.Reply.{Reply}
+use Rattle.sv_core.specs.declared.part.Reply.TheVariants.{Refused}
+use Rattle.sv_core.specs.declared.place.Paused.{Paused}
 use Rattle.sv_core.specs.declared.place.Place.{Place}
+use Rattle.sv_core.specs.declared.place.Place.TheVariants.{Stimulus, Pass}
 use Rattle.sv_out.specs.declared.input.Input.{Input}
 use Rattle.sv_out.specs.declared.order.Order.{Order}
 
 pub world_of_rest : (place : Option Place) (w : World) → world_of (rest place w) ≡ w
-unfolding rest swept asks
+unfolding rest paused swept asks
 world_of_rest None w = refl
-world_of_rest (Some place) w = refl
+world_of_rest (Some (Stimulus p)) w = refl
+world_of_rest (Some (Pass p)) w = refl
 
-pub is_asking_rest : (place : Option Place) (w : World) → is_asking (rest place w) ≡ is_some place
-unfolding rest swept asks
-is_asking_rest None w = refl
-is_asking_rest (Some place) w = refl
+pub asked_of_rest : (place : Option Place) (w : World) → asked_of (rest place w) ≡ question_of place
+unfolding rest paused swept asks
+asked_of_rest None w = refl
+asked_of_rest (Some (Stimulus p)) w = refl
+asked_of_rest (Some (Pass p)) w = refl
 
-pub came_more : (t : Turn) (replies more : List Reply) → came t (replies ++ more) ≡ came (came t replies) more
+pub came_more : (t : Turn) (fs more : List Followed) → came t (fs ++ more) ≡ came (came t fs) more
 came_more t [] more = refl
-came_more t (r ∷ rs) more = came_more (come t r) rs more
+came_more t (f ∷ fs) more = came_more (come t f) fs more
 
 -- the turn in hand after an input is what becomes of the turn in hand
 pub hand_after_part : (x : Numbers) (m : Model) (part : Part) → ((number : ℕ) → failure_kept x number ≡ failure_named m number)
     → hand (next_part m part) ≡ turn_after x part (hand m)
 hand_after_part x m (Begins at cause) same = refl
-hand_after_part x m (Answers reply) same = came_more (turn_of m.begun m.base) m.answers (reply ∷ [])
+hand_after_part x m (Answers reply) same = came_more (turn_of m.begun m.base) m.followed (followed.Answered reply ∷ [])
 hand_after_part x m (Fails number) same =
-    came_more (turn_of m.begun m.base) m.answers (replies_of (failure_named m number))
-    ∙ ap (λ found. came (hand m) (replies_of found)) (sym (same number))
+    came_more (turn_of m.begun m.base) m.followed (failures_told (failure_named m number))
+    ∙ ap (λ found. came (hand m) (failures_told found)) (sym (same number))
 
 -- the world of the state is the one that the machine shows
 pub now_is : (x : Machine) (m : Model) (s : StandsFor x m) → now m ≡ shown x s.older
@@ -69,7 +78,7 @@ named_above x m number s can = sym (s.names.above number) ∙ both_true (can_fai
   both_true false b is = cc
 
 names_next : (x y : Machine) (m : Model) (part : Part) (given : List Order) (s : StandsFor x m)
-    → is_accepted part (is_asking (hand m)) (now m).next_run (can_be_named m) ≡ true
+    → is_accepted part (asked_of (hand m)) (now m).next_run (can_be_named m) ≡ true
     → Notes x.numbers y.numbers part given
     → Names y.numbers (next_part m part).since (next_part m part).named (s.older ++ given)
 names_next x y m (Begins at cause) given s accepted notes = names_fresh x.numbers y.numbers m.since m.named (length (now m).given) s.older given s.names (ap length (given_is x m s)) notes.first notes.failures notes.last
@@ -100,7 +109,7 @@ step_orders x y m input given s takes =
     rw (given_is x m s, behind) (sym (drop-append_seam s.older given))
 
 -- what is accepted of a part depends on the numbers that can be named only one by one
-accepted_same : (part : Part) (asking : Bool) (next_run : ℕ) (f g : ℕ → Bool) → ((number : ℕ) → f number ≡ g number)
+accepted_same : (part : Part) (asking : Option Question) (next_run : ℕ) (f g : ℕ → Bool) → ((number : ℕ) → f number ≡ g number)
     → is_accepted part asking next_run f ≡ is_accepted part asking next_run g
 accepted_same (Begins at cause) asking next_run f g same = refl
 accepted_same (Answers reply) asking next_run f g same = refl
@@ -111,29 +120,67 @@ can_name_is x m number s = rw (failure_is x m s number, s.names.above number) re
 
 pub accepts_is : (x : Machine) (m : Model) (input : Input) → StandsFor x m → is_fitting x input ≡ accepts m input
 accepts_is x m input s =
-    let asking : is_asking (hand m) ≡ is_some x.hand.place = ap is_asking s.hand_is ∙ is_asking_rest x.hand.place (shown x s.older) in
-    rw (s.whole, asking, now_is x m s)
+    let asked : asked_of (hand m) ≡ question_of x.hand.place =
+    ap asked_of s.hand_is ∙ asked_of_rest x.hand.place (shown x s.older) in
+    rw (s.whole, asked, now_is x m s)
     (ap (λ b. not x.course.halted && b)
-    (accepted_same (part_of input) (is_some x.hand.place) x.numbers.next_run (can_name x.numbers) (can_be_named m) (λ number. can_name_is x m number s)))
+    (accepted_same (part_of input) (question_of x.hand.place) x.numbers.next_run (can_name x.numbers) (can_be_named m) (λ number. can_name_is x m number s)))
+
+-- what the machine accepts is accepted
+pub fitting_accepted : (x : Machine) (m : Model) (input : Input) → StandsFor x m → is_fitting x input ≡ true → accepts m input ≡ true
+fitting_accepted x m input s fits = sym (accepts_is x m input s) ∙ fits
+
+pub awaits_is : (x : Machine) (m : Model) → StandsFor x m → is_some (asked_by x) ≡ is_asking (hand m)
+awaits_is x m s =
+    let asked : asked_of (hand m) ≡ question_of x.hand.place =
+    ap asked_of s.hand_is ∙ asked_of_rest x.hand.place (shown x s.older) in
+    rw (s.whole, asked) refl
+
+pub halted_is : (x : Machine) (m : Model) → StandsFor x m → has_halted x ≡ (now m).course.halted
+halted_is x m s = rw (s.whole, now_is x m s) refl
 
 -- a turn begins
 pub turn_begun : (cause : Cause) (at : ℕ) (place : Option Place) (w v : World) (t : Turn) → v ≡ rewinds at w
-    → applies cause v passes ≡ t → turn cause at (world_of (rest place w)) ≡ t
+    → applies cause v after_stimulus ≡ t → turn cause at (world_of (rest place w)) ≡ t
 turn_begun cause at place w v t is_v goes =
-    ap (turn cause at) (world_of_rest place w) ∙ ap (λ u. applies cause u passes) (sym is_v) ∙ goes
+    ap (turn cause at) (world_of_rest place w) ∙ ap (λ u. applies cause u after_stimulus) (sym is_v) ∙ goes
 
--- a turn goes on with the answer of its question
-pub turn_answered : (place : Place) (reply : Reply) (n : ℕ) (w v : World) (t : Turn)
-    → v ≡ answered place.stop.asked.child place.stop.asked.run reply w → n ≡ length w.members
-    → sweeps place.sweep (n - place.stop.next) place.stop.next v (after_sweep place.sweep) ≡ t
-    → come (rest (Some place) w) reply ≡ t
-unfolding rest swept asks
-turn_answered place reply n w v t is_v size goes =
-    ap (λ u. sweeps place.sweep (length w.members - place.stop.next) place.stop.next u (after_sweep place.sweep)) (sym is_v)
-    ∙ ap (λ count. sweeps place.sweep (count - place.stop.next) place.stop.next v (after_sweep place.sweep)) (sym size)
-    ∙ goes
+-- step 2 goes on with the answer of its question
+pub stimulus_answered : (p : Paused) (reply : Reply) (w : World)
+    → come (rest (Some (Stimulus p)) w) (followed.Answered reply)
+    ≡ sweeps p.sweep (p.to - p.stop.next) p.stop.next (answered p.stop.asked.child p.stop.asked.run reply w) after_stimulus
+unfolding rest paused swept asks
+stimulus_answered p reply w = refl
+
+-- and step 4
+pub pass_answered : (p : Paused) (reply : Reply) (w : World)
+    → come (rest (Some (Pass p)) w) (followed.Answered reply)
+    ≡ sweeps p.sweep (p.to - p.stop.next) p.stop.next (answered p.stop.asked.child p.stop.asked.run reply w) after_pass
+unfolding rest paused swept asks
+pass_answered p reply w = refl
 
 -- no question stands: nothing comes of an answer
-pub nothing_answered : (reply : Reply) (w : World) → come (rest None w) reply ≡ rest None w
+pub nothing_answered : (reply : Reply) (w : World) → come (rest None w) (followed.Answered reply) ≡ rest None w
 unfolding rest
 nothing_answered reply w = refl
+
+-- a question that is refused is answered by its refusal
+pub refused_is : (place : Option Place) (w : World)
+    → come (rest place w) (followed.Failed RefusesQuestion) ≡ come (rest place w) (followed.Answered (Refused (codes "failed")))
+unfolding rest paused swept asks
+refused_is None w = refl
+refused_is (Some (Stimulus p)) w = refl
+refused_is (Some (Pass p)) w = refl
+
+-- a failure that changes nothing
+pub nothing_failed : (place : Option Place) (w : World) → come (rest place w) (followed.Failed ChangesNothing) ≡ rest place w
+unfolding rest paused swept asks
+nothing_failed None w = refl
+nothing_failed (Some (Stimulus p)) w = refl
+nothing_failed (Some (Pass p)) w = refl
+
+pub never_failed : (place : Option Place) (w : World) → come (rest place w) (followed.Failed NeverFails) ≡ rest place w
+unfolding rest paused swept asks
+never_failed None w = refl
+never_failed (Some (Stimulus p)) w = refl
+never_failed (Some (Pass p)) w = refl

@@ -1,9 +1,8 @@
 -- One walk through the turn, for a relation between two worlds that each of its small steps keeps.
 use Rattle.std.proofs.Common.{◌≡◌, ℕ, zero, suc, ◌+◌, ◌++◌, List, [], ◌∷◌, Bool, true, false, ◌&&◌, ◌||◌, Option, Some, None, refl, subst, sym, if◌then◌else◌}
-use Rattle.std.specs.Prelude.{length, nat_le, codes, slice_get}
+use Rattle.std.specs.Prelude.{◌-◌, length, nat_le, codes, slice_set}
 use Rattle.sv_base.specs.declared.ids.Run.{Run}
 use Rattle.sv_base.specs.declared.signal.Signal.{Signal}
-use Rattle.sv_base.specs.declared.spec.Spec.{Spec}
 use Rattle.sv_base.specs.declared.state.Mood.TheVariants as mood_is
 use Rattle.sv_child.specs.ChildTable.{Stimulus}
 use Rattle.sv_child.specs.ChildTable.Stimulus.{Stop as Is_to_stop}
@@ -12,35 +11,41 @@ use Rattle.sv_child.specs.declared.step.ChildDeed.{ChildDeed}
 use Rattle.sv_child.specs.declared.step.ChildDeed.TheVariants.{Spawn, Kill}
 use Rattle.sv_core.proofs.Standing.{came_more}
 use Rattle.sv_core.specs.Deeds.{after}
-use Rattle.sv_core.specs.Failure.{replies_of}
+use Rattle.sv_core.specs.Failure.{failures_told, refusal}
 use Rattle.sv_core.specs.MachineState.{Model, hand, failure_named, now, next, next_part, turn_of, accepts}
+use Rattle.sv_core.specs.Members.{Member, member_at}
 use Rattle.sv_core.specs.Moves.{answered, fails, heard, kills, moves, orders_spawn, said, tells}
 use Rattle.sv_core.specs.Parts.{part_of}
-use Rattle.sv_core.specs.Shutdown.{drops_group, follows_plan, halts, halts_behind, has_come_to_rest, heeds, in_mood, is_at_rest, is_ending, moves_on, tells_group}
-use Rattle.sv_core.specs.Stimuli.{is_meant, stimulus_of}
-use Rattle.sv_core.specs.Stops.{signals, stops, stops_member, stops_first, stops_all}
-use Rattle.sv_core.specs.Sweeps.{Turn, asks, brings, does, meets, spawns, sweeps, sweeps_all}
+use Rattle.sv_core.specs.Shutdown.{drops_group, follows_plan, halts, halts_after, has_come_to_rest, heeds, in_mood, is_ending, moves_on, tells_group}
+use Rattle.sv_core.specs.Stimuli.{span_meant, stimulus_of}
+use Rattle.sv_core.specs.Stops.{signals, stops, stops_from, stops_all}
+use Rattle.sv_core.specs.Sweeps.{Turn, asks, brings, does, meets, spawns, sweeps, sweeps_all, sweeps_over}
 use Rattle.sv_core.specs.Sweeps.Turn.{Done, Ask}
-use Rattle.sv_core.specs.Turn.{applies, came, come, ends, passes, rewinds, turn, world_of}
+use Rattle.sv_core.specs.Turn.{after_pass, after_stimulus, applies, came, come, failed_at, rewinds, turn, world_of}
 use Rattle.sv_core.specs.World.{World}
 use Rattle.sv_core.specs.declared.course.Course.{Course}
-use Rattle.sv_core.specs.declared.member.Member.{Member}
+use Rattle.sv_core.specs.declared.failure.Failure.{Failure}
+use Rattle.sv_core.specs.declared.failure.Failure.TheVariants.{NeverFails, ChangesNothing, RefusesQuestion}
 use Rattle.sv_core.specs.declared.part.Cause.{Cause}
 use Rattle.sv_core.specs.declared.part.Cause.TheVariants as cause_is
+use Rattle.sv_core.specs.declared.part.Followed.{Followed}
+use Rattle.sv_core.specs.declared.part.Followed.TheVariants as followed
 use Rattle.sv_core.specs.declared.part.Part.{Part}
 use Rattle.sv_core.specs.declared.part.Part.TheVariants.{Begins, Answers, Fails}
+use Rattle.sv_core.specs.declared.part.Question.{Question}
 use Rattle.sv_core.specs.declared.part.Reply.{Reply}
-use Rattle.sv_core.specs.declared.part.Reply.TheVariants.{NotStarted}
+use Rattle.sv_core.specs.declared.part.Reply.TheVariants.{Refused}
 use Rattle.sv_core.specs.declared.sweep.Sweep.{Sweep}
 use Rattle.sv_core.specs.declared.sweep.Sweep.TheVariants as sweep_is
-use Rattle.sv_core.specs.declared.target.Target.{Target}
+use Rattle.sv_groups.specs.StartOrder.{span_of}
+use Rattle.sv_groups.specs.declared.order.Span.{Span}
 use Rattle.sv_out.specs.declared.input.Input.{Input}
 use Rattle.sv_out.specs.declared.order.Order.TheVariants as order
 
 -- each answer leads to a stop that is related to the world in which it came
 abbrev pub Onward : (World → World → Type 0) → Turn → Type 0
 Onward R (Done w) = Unit {0}
-Onward R (Ask w k) = (v : World) (reply : Reply) → R v (world_of (k v reply)) × Onward R (k v reply)
+Onward R (Ask w q k) = (v : World) (reply : Reply) → R v (world_of (k v reply)) × Onward R (k v reply)
 
 -- the stop is related to this world, and so on with each answer
 abbrev pub From : (World → World → Type 0) → World → Turn → Type 0
@@ -51,9 +56,9 @@ pub record Steps (R : World → World → Type 0) : Type 0 where
   pub same : (w : World) → R w w
   pub follow : (u v w : World) → R u v → R v w → R u w
   pub rewound : (at : ℕ) (w : World) → R w (rewinds at w)
-  pub moved : (c : ℕ) (m : Member) (stimulus : Stimulus) (w : World) → slice_get w.members c ≡ Some m → R w (moves c m (said m stimulus w) w)
+  pub moved : (c : ℕ) (m : Member) (stimulus : Stimulus) (w : World) → member_at w c ≡ Some m → R w (moves c m (said m stimulus w) w)
   pub killed : (m : Member) (signal : Signal) (group : Bool) (w : World) → R w (kills (Some m) signal group w)
-  pub ordered : (spec : Spec) (w : World) → R w (orders_spawn spec w)
+  pub ordered : (m : Member) (w : World) → R w (orders_spawn m w)
   pub steered : (course : Course) (w : World) → R w (record w { course = course })
   pub ended : (w : World) → R w (record w { given = w.given ++ order.Halt ∷ [] })
 
@@ -61,12 +66,12 @@ module _ (R : World → World → Type 0) (s : Steps R) where
   pub leads : (w v : World) (t : Turn) → R w v → From R v t → From R w t
   leads w v t r f = (s.follow w v (world_of t) r f.0, f.1)
 
-  pub kept_tells : (found : Option Member) (c : ℕ) (stimulus : Stimulus) (w : World) → slice_get w.members c ≡ found → R w (tells found c stimulus w)
+  pub kept_tells : (found : Option Member) (c : ℕ) (stimulus : Stimulus) (w : World) → member_at w c ≡ found → R w (tells found c stimulus w)
   kept_tells None c stimulus w is = s.same w
   kept_tells (Some m) c stimulus w is = s.moved c m stimulus w is
 
   pub kept_answered : (c : ℕ) (run : Run) (reply : Reply) (w : World) → R w (answered c run reply w)
-  kept_answered c run reply w = kept_tells (slice_get w.members c) c (heard run reply) w refl
+  kept_answered c run reply w = kept_tells (member_at w c) c (heard run reply) w refl
 
   pub kept_asks : (c : ℕ) (run : Run) (w : World) (k : World → Turn) → ((v : World) → From R v (k v)) → From R w (asks c run w k)
   unfolding asks
@@ -75,9 +80,9 @@ module _ (R : World → World → Type 0) (s : Steps R) where
   pub kept_spawns : (found : Option Member) (c : ℕ) (w : World) (k : World → Turn) → ((v : World) → From R v (k v)) → From R w (spawns found c w k)
   kept_spawns None c w k goes = goes w
   kept_spawns (Some m) c w k goes = by_number (nat_le w.next_run 4294967295) where
-    by_number : (b : Bool) → From R w (if b then asks c (record { 0 = w.next_run }) (orders_spawn m.spec w) k else k (fails c w))
-    by_number true = leads w (orders_spawn m.spec w) (asks c (record { 0 = w.next_run }) (orders_spawn m.spec w) k) (s.ordered m.spec w) (kept_asks c (record { 0 = w.next_run }) (orders_spawn m.spec w) k goes)
-    by_number false = leads w (fails c w) (k (fails c w)) (kept_answered c (record { 0 = 0 }) (NotStarted (codes "failed")) w) (goes (fails c w))
+    by_number : (b : Bool) → From R w (if b then asks c (record { 0 = w.next_run }) (orders_spawn m w) k else k (fails c w))
+    by_number true = leads w (orders_spawn m w) (asks c (record { 0 = w.next_run }) (orders_spawn m w) k) (s.ordered m w) (kept_asks c (record { 0 = w.next_run }) (orders_spawn m w) k goes)
+    by_number false = leads w (fails c w) (k (fails c w)) (kept_answered c (record { 0 = 0 }) (Refused (codes "failed")) w) (goes (fails c w))
 
   pub kept_kills : (found : Option Member) (signal : Signal) (group : Bool) (w : World) → R w (kills found signal group w)
   kept_kills None signal group w = s.same w
@@ -86,29 +91,29 @@ module _ (R : World → World → Type 0) (s : Steps R) where
   pub kept_does : (deed : Option ChildDeed) (c : ℕ) (w : World) (k : World → Turn) → ((v : World) → From R v (k v)) → From R w (does deed c w k)
   kept_does None c w k goes = goes w
   kept_does (Some (Kill signal group)) c w k goes =
-      let found = slice_get w.members c in
+      let found = member_at w c in
       leads w (kills found signal group w) (k (kills found signal group w)) (kept_kills found signal group w) (goes (kills found signal group w))
-  kept_does (Some Spawn) c w k goes = kept_spawns (slice_get w.members c) c w k goes
+  kept_does (Some Spawn) c w k goes = kept_spawns (member_at w c) c w k goes
 
-  pub kept_brings : (stimulus : Option Stimulus) (c : ℕ) (m : Member) (w : World) (k : World → Turn) → slice_get w.members c ≡ Some m
+  pub kept_brings : (stimulus : Option Stimulus) (c : ℕ) (m : Member) (w : World) (k : World → Turn) → member_at w c ≡ Some m
       → ((v : World) → From R v (k v)) → From R w (brings stimulus c m w k)
   kept_brings None c m w k is goes = goes w
   kept_brings (Some stimulus) c m w k is goes =
       let answer = said m stimulus w in
       leads w (moves c m answer w) (does answer.step.deed c (moves c m answer w) k) (s.moved c m stimulus w is) (kept_does answer.step.deed c (moves c m answer w) k goes)
 
-  pub kept_meets : (sweep : Sweep) (found : Option Member) (c : ℕ) (w : World) (k : World → Turn) → slice_get w.members c ≡ found
+  pub kept_meets : (sweep : Sweep) (found : Option Member) (c : ℕ) (w : World) (k : World → Turn) → member_at w c ≡ found
       → ((v : World) → From R v (k v)) → From R w (meets sweep found c w k)
   kept_meets sweep None c w k is goes = goes w
-  kept_meets sweep (Some m) c w k is goes = kept_brings (stimulus_of sweep m.spec m.child) c m w k is goes
+  kept_meets sweep (Some m) c w k is goes = kept_brings (stimulus_of sweep m.child) c m w k is goes
 
   pub kept_sweeps : (sweep : Sweep) (left place : ℕ) (w : World) (k : World → Turn) → ((v : World) → From R v (k v)) → From R w (sweeps sweep left place w k)
   kept_sweeps sweep zero place w k goes = goes w
   kept_sweeps sweep (suc left) place w k goes =
-      kept_meets sweep (slice_get w.members place) place w (λ v. sweeps sweep left (place + 1) v k) refl (λ v. kept_sweeps sweep left (place + 1) v k goes)
+      kept_meets sweep (member_at w place) place w (λ v. sweeps sweep left (place + 1) v k) refl (λ v. kept_sweeps sweep left (place + 1) v k goes)
 
   pub kept_sweeps_all : (sweep : Sweep) (w : World) (k : World → Turn) → ((v : World) → From R v (k v)) → From R w (sweeps_all sweep w k)
-  kept_sweeps_all sweep w k goes = kept_sweeps sweep (length w.members) 0 w k goes
+  kept_sweeps_all sweep w k goes = kept_sweeps sweep (length w.children - 0) 0 w k goes
 
   pub kept_done : (w : World) → From R w (Done w)
   kept_done w = (s.same w, tt)
@@ -119,99 +124,108 @@ module _ (R : World → World → Type 0) (s : Steps R) where
   by_test false w one other yes_holds no_holds = no_holds
 
   kept_signals : (deed : Option ChildDeed) (c : ℕ) (w : World) → R w (signals deed c w)
-  kept_signals (Some (Kill signal group)) c w = kept_kills (slice_get w.members c) signal group w
+  kept_signals (Some (Kill signal group)) c w = kept_kills (member_at w c) signal group w
   kept_signals (Some Spawn) c w = s.same w
   kept_signals None c w = s.same w
 
-  kept_stops_member : (c : ℕ) (m : Member) (w : World) → slice_get w.members c ≡ Some m → R w (stops_member c m w)
-  kept_stops_member c m w is =
+  kept_stops : (found : Option Member) (c : ℕ) (w : World) → member_at w c ≡ found → R w (stops found c w)
+  kept_stops None c w is = s.same w
+  kept_stops (Some m) c w is =
       let answer = said m Is_to_stop w in
-      s.follow w (moves c m answer w) (stops_member c m w) (s.moved c m Is_to_stop w is) (kept_signals answer.step.deed c (moves c m answer w))
+      s.follow w (moves c m answer w) (stops (Some m) c w) (s.moved c m Is_to_stop w is) (kept_signals answer.step.deed c (moves c m answer w))
 
-  kept_stops : (target : Target) (found : Option Member) (c : ℕ) (w : World) → slice_get w.members c ≡ found → R w (stops target found c w)
-  kept_stops target None c w is = s.same w
-  kept_stops target (Some m) c w is = by_test (is_meant target m.spec) w (stops_member c m w) w (kept_stops_member c m w is) (s.same w)
+  kept_stops_from : (from left : ℕ) (w : World) → R w (stops_from from left w)
+  kept_stops_from from zero w = s.same w
+  kept_stops_from from (suc left) w =
+      let v = stops (member_at w (from + left)) (from + left) w in
+      s.follow w v (stops_from from left v) (kept_stops (member_at w (from + left)) (from + left) w refl) (kept_stops_from from left v)
 
-  kept_stops_first : (target : Target) (left : ℕ) (w : World) → R w (stops_first target left w)
-  kept_stops_first target zero w = s.same w
-  kept_stops_first target (suc c) w =
-      let v = stops target (slice_get w.members c) c w in
-      s.follow w v (stops_first target c v) (kept_stops target (slice_get w.members c) c w refl) (kept_stops_first target c v)
+  kept_stops_all : (span : Span) (w : World) → R w (stops_all span w)
+  kept_stops_all span w = kept_stops_from span.from (span.to - span.from) w
 
-  kept_stops_all : (target : Target) (w : World) → R w (stops_all target w)
-  kept_stops_all target w = kept_stops_first target (length w.members) w
-
-  kept_tells_group : (found : Option Target) (w : World) → R w (tells_group found w)
-  kept_tells_group None w = s.same w
-  kept_tells_group (Some group) w =
+  kept_tells_group : (group : ℕ) (w : World) → R w (tells_group group w)
+  kept_tells_group group w =
       let told = record w { course = record w.course { is_told = true } } in
-      by_test (w.course.is_told || is_at_rest group w.members) w w (stops_all group told) (s.same w)
-      (s.follow w told (stops_all group told) (s.steered (record w.course { is_told = true }) w) (kept_stops_all group told))
+      let span = span_of group w.roster in
+      by_test (w.course.is_told || has_come_to_rest group w) w w (stops_all span told) (s.same w)
+      (s.follow w told (stops_all span told) (s.steered (record w.course { is_told = true }) w) (kept_stops_all span told))
 
   kept_moves_on : (left : ℕ) (w : World) → R w (moves_on left w)
   kept_moves_on zero w = s.same w
   kept_moves_on (suc left) w =
-      let group = slice_get w.groups left in
-      let told = tells_group group w in
+      let told = tells_group left w in
       let dropped = drops_group left told in
-      by_test (has_come_to_rest group told) w (moves_on left dropped) told
-      (s.follow w told (moves_on left dropped) (kept_tells_group group w)
+      by_test (has_come_to_rest left told) w (moves_on left dropped) told
+      (s.follow w told (moves_on left dropped) (kept_tells_group left w)
       (s.follow told dropped (moves_on left dropped) (s.steered dropped.course told) (kept_moves_on left dropped)))
-      (kept_tells_group group w)
+      (kept_tells_group left w)
 
   kept_follows_plan : (w : World) → R w (follows_plan w)
   kept_follows_plan w = by_test (is_running w.course.mood) w w (moves_on w.course.left w) (s.same w) (kept_moves_on w.course.left w)
 
   kept_halts : (w : World) → R w (halts w)
-  kept_halts w = by_test (is_running w.course.mood) w w (halts_behind w.course.left w) (s.same w) (kept_behind w.course.left w) where
-    kept_behind : (left : ℕ) (v : World) → R v (halts_behind left v)
-    kept_behind zero v =
+  kept_halts w = by_test (is_running w.course.mood) w w (halts_after w.course.left w) (s.same w) (kept_after_plan w.course.left w) where
+    kept_after_plan : (left : ℕ) (v : World) → R v (halts_after left v)
+    kept_after_plan zero v =
         let ended = record v { given = v.given ++ order.Halt ∷ [] } in
-        s.follow v ended (halts_behind zero v) (s.ended v) (s.steered (record v.course { halted = true }) ended)
-    kept_behind (suc left) v = s.same v
+        s.follow v ended (halts_after zero v) (s.ended v) (s.steered (record v.course { halted = true }) ended)
+    kept_after_plan (suc left) v = s.same v
 
   kept_heeds : (signal : Signal) (w : World) → R w (heeds signal w)
   kept_heeds signal w =
       by_test (is_ending signal && is_running w.course.mood) w (in_mood mood_is.Shutdown w) w
       (s.steered (record w.course { mood = mood_is.Shutdown }) w) (s.same w)
 
-  kept_ends : (w : World) → From R w (ends w)
-  kept_ends w = (s.follow w (follows_plan w) (halts (follows_plan w)) (kept_follows_plan w) (kept_halts (follows_plan w)), tt)
+  kept_after_pass : (w : World) → From R w (after_pass w)
+  kept_after_pass w = (s.follow w (follows_plan w) (halts (follows_plan w)) (kept_follows_plan w) (kept_halts (follows_plan w)), tt)
 
-  kept_passes : (w : World) → From R w (passes w)
-  kept_passes w = kept_sweeps_all sweep_is.Time w ends kept_ends
+  kept_after_stimulus : (w : World) → From R w (after_stimulus w)
+  kept_after_stimulus w = kept_sweeps_all sweep_is.Time w after_pass kept_after_pass
 
-  kept_start : (b : Bool) (target : Target) (w : World) → From R w (if b then sweeps_all (sweep_is.Start target) w passes else passes w)
-  kept_start true target w = kept_sweeps_all (sweep_is.Start target) w passes kept_passes
-  kept_start false target w = kept_passes w
+  kept_start : (b : Bool) (span : Span) (w : World)
+      → From R w (if b then sweeps_over sweep_is.Start span w after_stimulus else after_stimulus w)
+  kept_start true span w = kept_sweeps sweep_is.Start (span.to - span.from) span.from w after_stimulus kept_after_stimulus
+  kept_start false span w = kept_after_stimulus w
 
-  kept_applies : (cause : Cause) (w : World) → From R w (applies cause w passes)
-  kept_applies cause_is.Tick w = kept_passes w
-  kept_applies (cause_is.Exit run how) w = kept_sweeps_all (sweep_is.Exit run how) w passes kept_passes
-  kept_applies (cause_is.Start target) w = kept_start (is_running w.course.mood) target w
-  kept_applies (cause_is.Stop target) w = leads w (stops_all target w) (passes (stops_all target w)) (kept_stops_all target w) (kept_passes (stops_all target w))
-  kept_applies (cause_is.Signal signal) w = leads w (heeds signal w) (passes (heeds signal w)) (kept_heeds signal w) (kept_passes (heeds signal w))
+  kept_applies : (cause : Cause) (w : World) → From R w (applies cause w after_stimulus)
+  kept_applies cause_is.Tick w = kept_after_stimulus w
+  kept_applies (cause_is.Exit run how) w = kept_sweeps_all (sweep_is.Exit run how) w after_stimulus kept_after_stimulus
+  kept_applies (cause_is.Start name) w = kept_start (is_running w.course.mood) (span_meant name w.roster) w
+  kept_applies (cause_is.Stop name) w =
+      let v = stops_all (span_meant name w.roster) w in
+      leads w v (after_stimulus v) (kept_stops_all (span_meant name w.roster) w) (kept_after_stimulus v)
+  kept_applies (cause_is.Signal signal) w =
+      leads w (heeds signal w) (after_stimulus (heeds signal w)) (kept_heeds signal w) (kept_after_stimulus (heeds signal w))
 
   kept_turn : (cause : Cause) (at : ℕ) (w : World) → From R w (turn cause at w)
   kept_turn cause at w = leads w (rewinds at w) (turn cause at w) (s.rewound at w) (kept_applies cause (rewinds at w))
 
-  pub kept_come : (t : Turn) (reply : Reply) → Onward R t → From R (world_of t) (come t reply)
-  kept_come (Done w) reply goes = kept_done w
-  kept_come (Ask w k) reply goes = goes w reply
+  kept_failed : (failure : Failure) (w : World) (q : Question) (k : World → Reply → Turn) → Onward R (Ask w q k)
+      → From R w (failed_at failure w q k)
+  kept_failed RefusesQuestion w q k goes = goes w (refusal q)
+  kept_failed ChangesNothing w q k goes = (s.same w, goes)
+  kept_failed NeverFails w q k goes = (s.same w, goes)
 
-  kept_came : (t : Turn) (replies : List Reply) → Onward R t → From R (world_of t) (came t replies)
+  pub kept_come : (t : Turn) (f : Followed) → Onward R t → From R (world_of t) (come t f)
+  kept_come (Done w) (followed.Answered reply) goes = kept_done w
+  kept_come (Done w) (followed.Failed failure) goes = kept_done w
+  kept_come (Ask w q k) (followed.Answered reply) goes = goes w reply
+  kept_come (Ask w q k) (followed.Failed failure) goes = kept_failed failure w q k goes
+
+  kept_came : (t : Turn) (fs : List Followed) → Onward R t → From R (world_of t) (came t fs)
   kept_came t [] goes = (s.same (world_of t), goes)
-  kept_came t (reply ∷ replies) goes =
-      let step = kept_come t reply goes in
-      leads (world_of t) (world_of (come t reply)) (came (come t reply) replies) step.0 (kept_came (come t reply) replies step.1)
+  kept_came t (f ∷ fs) goes =
+      let step = kept_come t f goes in
+      leads (world_of t) (world_of (come t f)) (came (come t f) fs) step.0 (kept_came (come t f) fs step.1)
 
   kept_part : (m : Model) (part : Part) → Onward R (hand m) → From R (now m) (hand (next_part m part))
   kept_part m (Begins at cause) goes = kept_turn cause at (now m)
   kept_part m (Answers reply) goes =
-      subst (λ t. From R (now m) t) (sym (came_more (turn_of m.begun m.base) m.answers (reply ∷ []))) (kept_come (hand m) reply goes)
+      subst (λ t. From R (now m) t) (sym (came_more (turn_of m.begun m.base) m.followed (followed.Answered reply ∷ [])))
+      (kept_come (hand m) (followed.Answered reply) goes)
   kept_part m (Fails number) goes =
-      let replies = replies_of (failure_named m number) in
-      subst (λ t. From R (now m) t) (sym (came_more (turn_of m.begun m.base) m.answers replies)) (kept_came (hand m) replies goes)
+      let told = failures_told (failure_named m number) in
+      subst (λ t. From R (now m) t) (sym (came_more (turn_of m.begun m.base) m.followed told)) (kept_came (hand m) told goes)
 
   pub kept_next : (m : Model) (input : Input) → Onward R (hand m) → From R (now m) (hand (next m input))
   kept_next m input goes = kept_part m (part_of input) goes

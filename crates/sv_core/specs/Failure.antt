@@ -1,30 +1,43 @@
 -- What it means that an order couldn't be carried out.
-use Rattle.std.specs.Prelude.{ℕ, List, [], ◌∷◌, Option, Some, Bool, true, false, ◌+◌, ◌-◌, ◌^◌, ◌%◌, codes}
+use Rattle.std.specs.Prelude.{ℕ, List, [], ◌∷◌, Option, Some, None, Bool, true, false, ◌+◌, ◌-◌, ◌^◌, ◌%◌, codes}
+use Rattle.sv_core.specs.World.{World}
 use Rattle.sv_core.specs.declared.failure.Failure.{Failure}
-use Rattle.sv_core.specs.declared.failure.Failure.TheVariants.{NeverFails, ChangesNothing, RefusesSpawn}
+use Rattle.sv_core.specs.declared.failure.Failure.TheVariants.{NeverFails, ChangesNothing, RefusesQuestion}
+use Rattle.sv_core.specs.declared.part.Followed.{Followed}
+use Rattle.sv_core.specs.declared.part.Followed.TheVariants as followed
+use Rattle.sv_core.specs.declared.part.Question.{Question}
+use Rattle.sv_core.specs.declared.part.Question.TheVariants as question
 use Rattle.sv_core.specs.declared.part.Reply.{Reply}
-use Rattle.sv_core.specs.declared.part.Reply.TheVariants.{NotStarted}
+use Rattle.sv_core.specs.declared.part.Reply.TheVariants.{Refused}
 use Rattle.sv_out.specs.declared.order.Order.{Order}
 use Rattle.sv_out.specs.declared.order.Order.TheVariants as order
 
--- a report and the halt are carried out by nobody; a spawn that fails is refused; a signal that doesn't get through
--- changes nothing
+-- a report and the halt are carried out by nobody; a spawn is a question, and refused where it fails; a signal that
+-- doesn't get through changes nothing
 abbrev pub failure_of : Order → Failure
 failure_of (order.State group name from to) = NeverFails
-failure_of (order.Spawn spawn) = RefusesSpawn
+failure_of (order.Spawn spawn) = RefusesQuestion
 failure_of (order.Kill run signal group) = ChangesNothing
 failure_of order.Halt = NeverFails
 
 abbrev pub can_fail : Option Failure → Bool
 can_fail (Some ChangesNothing) = true
-can_fail (Some RefusesSpawn) = true
+can_fail (Some RefusesQuestion) = true
 can_fail other = false
 
--- how the failure answers the question that stands: an order that asks and can still be named is that question
-abbrev pub replies_of : Option Failure → List Reply
-replies_of (Some RefusesSpawn) = NotStarted (codes "failed") ∷ []
-replies_of other = []
+-- the answer of a question whose order couldn't be carried out
+abbrev pub refusal : Question → Reply
+refusal question.Spawn = Refused (codes "failed")
 
--- how far behind the order numbered `first` the order numbered `number` stands; numbers are taken modulo 2^64
+-- what the failure of an order that asks nothing changes: no such order changes anything yet
+abbrev pub failed : Failure → World → World
+failed failure w = w
+
+-- what followed the input of a turn where an order failed, if it is one that can be named
+abbrev pub failures_told : Option Failure → List Followed
+failures_told None = []
+failures_told (Some failure) = followed.Failed failure ∷ []
+
+-- how far after the order numbered `first` the order numbered `number` is; numbers are taken modulo 2^64
 abbrev pub behind : ℕ → ℕ → ℕ
 behind first number = (number + (2 ^ 64 - first)) % 2 ^ 64

@@ -1,5 +1,6 @@
 pub mod Sizes
 pub mod World
+pub mod Members
 pub mod Orders
 pub mod Stimuli
 pub mod Brought
@@ -13,5 +14,6 @@ pub mod Turn
 pub mod MachineState
 pub mod Deeds
 pub mod StandsFor
+pub mod Frames
 pub mod Path
 pub mod WorkedJournals

@@ -1,26 +1,28 @@
 -- The machine: its state, which inputs it accepts, and what comes next.
-use Rattle.std.specs.Prelude.{ℕ, List, [], ◌∷◌, ◌++◌, Option, Some, None, Bool, true, false, ◌&&◌, not, nat_lt, length, drop, map, slice_get, ◌^◌, ◌%◌}
-use Rattle.std.specs.List.{flat_map, list_all}
+use Rattle.std.specs.Prelude.{ℕ, List, [], ◌∷◌, ◌++◌, Option, Some, None, Bool, true, false, ◌&&◌, not, nat_lt, is_none, length, replicate, drop, map, slice_get, ◌^◌, ◌%◌}
+use Rattle.std.specs.List.{list_all}
 use Rattle.sv_base.specs.declared.config.Config.{Config}
 use Rattle.sv_base.specs.declared.config.Host.{Host}
 use Rattle.sv_base.specs.declared.spec.GroupSpec.{GroupSpec}
 use Rattle.sv_base.specs.declared.spec.Spec.{Spec}
 use Rattle.sv_base.specs.declared.state.Mood.TheVariants as mood_is
 use Rattle.sv_child.specs.Moves.{new_child}
-use Rattle.sv_core.specs.Failure.{behind, can_fail, failure_of, replies_of}
-use Rattle.sv_core.specs.Parts.{part_of}
+use Rattle.sv_child.specs.declared.child.Child.{Child}
+use Rattle.sv_core.specs.Failure.{behind, can_fail, failure_of, failures_told}
+use Rattle.sv_core.specs.Parts.{fits, part_of}
 use Rattle.sv_core.specs.Sweeps.{Turn}
 use Rattle.sv_core.specs.Sweeps.Turn.{Done}
-use Rattle.sv_core.specs.Turn.{turn, came, world_of, is_asking}
+use Rattle.sv_core.specs.Turn.{turn, came, world_of, asked_of}
 use Rattle.sv_core.specs.World.{World}
 use Rattle.sv_core.specs.declared.failure.Failure.{Failure}
-use Rattle.sv_core.specs.declared.member.Member.{Member}
 use Rattle.sv_core.specs.declared.part.Cause.{Cause}
 use Rattle.sv_core.specs.declared.part.Cause.TheVariants as cause_is
+use Rattle.sv_core.specs.declared.part.Followed.{Followed}
+use Rattle.sv_core.specs.declared.part.Followed.TheVariants as followed
 use Rattle.sv_core.specs.declared.part.Part.{Part}
 use Rattle.sv_core.specs.declared.part.Part.TheVariants.{Begins, Answers, Fails}
-use Rattle.sv_core.specs.declared.part.Reply.{Reply}
-use Rattle.sv_core.specs.declared.target.Target.{Target}
+use Rattle.sv_core.specs.declared.part.Question.{Question}
+use Rattle.sv_groups.specs.StartOrder.{processes}
 use Rattle.sv_out.specs.declared.input.Input.{Input}
 use Rattle.sv_out.specs.declared.order.Order.{Order}
 
@@ -29,12 +31,13 @@ pub record Begin : Type 0 where
   pub at : ℕ
   pub cause : Cause
 
--- the state: the world when the turn in hand began, what began it, and the answers that came since; how many orders had
--- been given before the last input that wasn't a failed order; and the numbers of the orders that failed since
+-- the state: the world when the turn in hand began, what began it, and what followed since: answers and failed orders;
+-- how many orders had been given before the last input that wasn't a failed order; and the numbers of the orders that
+-- failed since
 pub record Model : Type 0 where
   pub base : World
   pub begun : Option Begin
-  pub answers : List Reply
+  pub followed : List Followed
   pub since : ℕ
   pub named : List ℕ
 
@@ -44,52 +47,34 @@ turn_of (Some begin) w = turn begin.cause begin.at w
 
 -- the turn in hand, worked out again from its beginning
 abbrev pub hand : Model → Turn
-hand m = came (turn_of m.begun m.base) m.answers
+hand m = came (turn_of m.begun m.base) m.followed
 
 -- the world as it is now
 abbrev pub now : Model → World
 now m = world_of (hand m)
 
--- a process as a child of the group of this name, whatever it says of its group itself
-abbrev pub of_group : List ℕ → Spec → Spec
-of_group name spec = record spec { group = name }
-
--- the children of a group
-abbrev pub own_members : GroupSpec → List Spec
-own_members group = map (of_group group.name) group.members
-
--- the children of a configuration, in start order
-abbrev pub specs_of : Config → List Spec
-specs_of config = flat_map own_members config.groups
-
-abbrev pub new_member : Spec → Member
-new_member spec = record { spec = spec; child = new_child }
-
--- a group as a whole
-abbrev pub whole_group : GroupSpec → Target
-whole_group group = record { group = group.name; member = None }
+-- a state in which no turn has begun
+abbrev pub resting : World → Model
+resting w = record { base = w; begun = None; followed = []; since = length w.given; named = [] }
 
 -- the state in which the daemon begins
 abbrev pub opening : Config → List (List ℕ × ℕ) → Host → Model
-opening config sizes host = record {
-  base = record {
-    members = map new_member (specs_of config);
-    groups = map whole_group config.groups;
-    course = record { mood = mood_is.Running; left = length config.groups; is_told = false; halted = false };
-    next_run = 1;
-    moment = host.start;
-    sizes = sizes;
-    given = [];
-  };
-  begun = None;
-  answers = [];
-  since = 0;
-  named = [];
-}
+opening config sizes host = resting (record {
+  config = config;
+  pid = host.pid;
+  roster = config.groups;
+  children = replicate (length (processes config.groups)) new_child;
+  course = record { mood = mood_is.Running; left = length config.groups; is_told = false; halted = false };
+  next_run = 1;
+  moment = host.start;
+  sizes = sizes;
+  given = [];
+})
 
 -- the failure of the order of this number, where it was given since the last input that wasn't a failed order
 abbrev pub failure_named : Model → ℕ → Option Failure
-failure_named m number = slice_get (map failure_of (drop m.since (now m).given)) (behind (m.since % 2 ^ 64) number)
+failure_named m number =
+    slice_get (map failure_of (drop m.since (now m).given)) (behind (m.since % 2 ^ 64) number)
 
 -- the order of this number can be named now: it is one of those, it can fail, and its number is above each that failed
 abbrev pub can_be_named : Model → ℕ → Bool
@@ -100,21 +85,36 @@ abbrev pub is_issued : Cause → ℕ → Bool
 is_issued (cause_is.Exit run how) next_run = nat_lt 0 run.0 && nat_lt run.0 next_run
 is_issued cause next_run = true
 
--- a turn begins while no question stands; a run must have been issued; an answer is accepted while a question stands
-abbrev pub is_accepted : Part → Bool → ℕ → (ℕ → Bool) → Bool
-is_accepted (Begins at cause) asking next_run named = not asking && is_issued cause next_run
-is_accepted (Answers reply) asking next_run named = asking
-is_accepted (Fails number) asking next_run named = named number
+-- a turn begins while no question stands, and a run that it names must have been issued; an answer is accepted where it
+-- fits the question that stands; and a failed order where it can be named
+abbrev pub is_accepted : Part → Option Question → ℕ → (ℕ → Bool) → Bool
+is_accepted (Begins at cause) asked next_run named = is_none asked && is_issued cause next_run
+is_accepted (Answers reply) asked next_run named = fits asked reply
+is_accepted (Fails number) asked next_run named = named number
 
 -- after the halt nothing is accepted
 abbrev pub accepts : Model → Input → Bool
-accepts m input = not (now m).course.halted && is_accepted (part_of input) (is_asking (hand m)) (now m).next_run (can_be_named m)
+accepts m input =
+    not (now m).course.halted
+    && is_accepted (part_of input) (asked_of (hand m)) (now m).next_run (can_be_named m)
 
 abbrev pub next_part : Model → Part → Model
-next_part m (Begins at cause) =
-    record { base = now m; begun = Some (record { at = at; cause = cause }); answers = []; since = length (now m).given; named = [] }
-next_part m (Answers reply) = record m { answers = m.answers ++ reply ∷ []; since = length (now m).given; named = [] }
-next_part m (Fails number) = record m { answers = m.answers ++ replies_of (failure_named m number); named = number ∷ m.named }
+next_part m (Begins at cause) = record {
+  base = now m;
+  begun = Some (record { at = at; cause = cause });
+  followed = [];
+  since = length (now m).given;
+  named = [];
+}
+next_part m (Answers reply) = record m {
+  followed = m.followed ++ followed.Answered reply ∷ [];
+  since = length (now m).given;
+  named = [];
+}
+next_part m (Fails number) = record m {
+  followed = m.followed ++ failures_told (failure_named m number);
+  named = number ∷ m.named;
+}
 
 -- the state after an accepted input
 abbrev pub next : Model → Input → Model

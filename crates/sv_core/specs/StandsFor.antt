@@ -1,20 +1,25 @@
 -- What the machine keeps, and which state of the model it stands for.
-use Rattle.std.specs.Prelude.{◌≡◌, ◌≤◌, ℕ, List, [], ◌++◌, Option, Some, None, Bool, true, false, not, ◌&&◌, is_some, nat_lt, length, drop, map, slice_get, ◌-◌, ◌+◌, ◌^◌, ◌%◌}
+use Rattle.std.specs.Prelude.{◌≡◌, ◌≤◌, ℕ, List, [], ◌++◌, Option, Some, None, Bool, true, false, not, ◌&&◌, if◌then◌else◌, nat_lt, length, drop, map, slice_get, ◌-◌, ◌+◌, ◌^◌, ◌%◌}
 use Rattle.std.specs.List.{list_all}
-use Rattle.sv_core.specs.Failure.{behind, can_fail, failure_of, replies_of}
+use Rattle.sv_core.specs.Failure.{behind, can_fail, failure_of, failures_told}
 use Rattle.sv_core.specs.MachineState.{Model, hand, is_accepted}
 use Rattle.sv_core.specs.Parts.{part_of}
 use Rattle.sv_core.specs.Sweeps.{Turn, asks, sweeps}
 use Rattle.sv_core.specs.Sweeps.Turn.{Done}
-use Rattle.sv_core.specs.Turn.{turn, come, came, world_of, after_sweep}
+use Rattle.sv_core.specs.Turn.{turn, come, came, world_of, after_pass, after_stimulus}
 use Rattle.sv_core.specs.World.{World}
 use Rattle.sv_core.specs.declared.failure.Failure.{Failure}
 use Rattle.sv_core.specs.declared.machine.Machine.{Machine}
 use Rattle.sv_core.specs.declared.numbers.Numbers.{Numbers}
+use Rattle.sv_core.specs.declared.part.Followed.TheVariants as followed
 use Rattle.sv_core.specs.declared.part.Part.{Part}
 use Rattle.sv_core.specs.declared.part.Part.TheVariants.{Begins, Answers, Fails}
+use Rattle.sv_core.specs.declared.part.Question.{Question}
+use Rattle.sv_core.specs.declared.part.Question.TheVariants as question
 use Rattle.sv_core.specs.declared.place.Asked.{Asked}
+use Rattle.sv_core.specs.declared.place.Paused.{Paused}
 use Rattle.sv_core.specs.declared.place.Place.{Place}
+use Rattle.sv_core.specs.declared.place.Place.TheVariants.{Stimulus, Pass}
 use Rattle.sv_core.specs.declared.place.Stop.{Stop}
 use Rattle.sv_core.specs.declared.sweep.Sweep.{Sweep}
 use Rattle.sv_out.specs.declared.input.Input.{Input}
@@ -23,8 +28,10 @@ use Rattle.sv_out.specs.declared.order.Order.{Order}
 -- the world that the machine's fields show, after these older orders
 abbrev pub shown : Machine → List Order → World
 shown x older = record {
-  members = x.members.items;
-  groups = x.groups.items;
+  config = x.config;
+  pid = x.pid;
+  roster = x.roster;
+  children = x.children.items;
   course = x.course;
   next_run = x.numbers.next_run;
   moment = x.hand.moment;
@@ -37,16 +44,28 @@ unfoldable pub stopped : Option Asked → World → (World → Turn) → Turn
 stopped None w k = k w
 stopped (Some asked) w k = asks asked.child asked.run w k
 
--- what is left of a sweep that stopped at a question, or that is done
-unfoldable pub swept : Sweep → Option Stop → World → (World → Turn) → Turn
-swept sweep None w k = k w
-swept sweep (Some stop) w k =
-    asks stop.asked.child stop.asked.run w (λ v. sweeps sweep (length w.members - stop.next) stop.next v k)
+-- what is left of a sweep up to before this place, that stopped at a question, or that is done
+unfoldable pub swept : Sweep → ℕ → Option Stop → World → (World → Turn) → Turn
+swept sweep to None w k = k w
+swept sweep to (Some stop) w k =
+    asks stop.asked.child stop.asked.run w (λ v. sweeps sweep (to - stop.next) stop.next v k)
+
+-- the same of a sweep that was kept
+unfoldable pub paused : Option Paused → World → (World → Turn) → Turn
+paused None w k = k w
+paused (Some p) w k = swept p.sweep p.to (Some p.stop) w k
 
 -- what is left of the turn
 unfoldable pub rest : Option Place → World → Turn
 rest None w = Done w
-rest (Some place) w = swept place.sweep (Some place.stop) w (after_sweep place.sweep)
+rest (Some (Stimulus p)) w = paused (Some p) w after_stimulus
+rest (Some (Pass p)) w = paused (Some p) w after_pass
+
+-- the question that stands: each step that asks yet asks for spawns
+abbrev pub question_of : Option Place → Option Question
+question_of None = None
+question_of (Some (Stimulus p)) = Some question.Spawn
+question_of (Some (Pass p)) = Some question.Spawn
 
 -- the number is above the last one that failed
 abbrev pub is_above : Option ℕ → ℕ → Bool
@@ -59,6 +78,18 @@ pub record Names (x : Numbers) (since : ℕ) (named : List ℕ) (older : List Or
   pub first : x.first ≡ since % 2 ^ 64
   pub failures : x.failures.items ≡ map failure_of (drop since older)
   pub above : (number : ℕ) → list_all (λ n. nat_lt n number) named ≡ is_above x.last number
+
+-- memory was refused in a step
+abbrev pub is_broken : Machine → Bool
+is_broken x = x.broken
+
+-- the question that stands; for a broken machine none does
+abbrev pub asked_by : Machine → Option Question
+asked_by x = if x.broken then None else question_of x.hand.place
+
+-- the halt was given; a broken machine has given none
+abbrev pub has_halted : Machine → Bool
+has_halted x = not x.broken && x.course.halted
 
 -- a machine that isn't broken stands for a state where its half-done turn is the turn in hand
 pub record StandsFor (x : Machine) (m : Model) : Type 0 where
@@ -75,10 +106,10 @@ failure_kept x number = slice_get x.failures.items (behind x.first number)
 -- what becomes of the turn in hand
 abbrev pub turn_after : Numbers → Part → Turn → Turn
 turn_after x (Begins at cause) t = turn cause at (world_of t)
-turn_after x (Answers reply) t = come t reply
-turn_after x (Fails number) t = came t (replies_of (failure_kept x number))
+turn_after x (Answers reply) t = come t (followed.Answered reply)
+turn_after x (Fails number) t = came t (failures_told (failure_kept x number))
 
--- what is kept of earlier orders once an input is heard: nothing, but behind a failed order
+-- what is kept of earlier orders once an input is heard: nothing, but after a failed order
 abbrev pub first_after : Part → Numbers → ℕ
 first_after (Fails number) x = x.first
 first_after part x = (x.first + length x.failures.items) % 2 ^ 64
@@ -91,11 +122,16 @@ abbrev pub last_after : Part → Option ℕ
 last_after (Fails number) = Some number
 last_after part = None
 
--- what a machine keeps of its orders behind an input that gave these
+-- what a machine keeps of its orders after an input that gave these
 pub record Notes (x y : Numbers) (part : Part) (given : List Order) : Type 0 where
   pub first : y.first ≡ first_after part x
   pub failures : y.failures.items ≡ failures_after part x ++ map failure_of given
   pub last : y.last ≡ last_after part
+
+-- the turn in hand goes on from one machine to the next
+abbrev pub GoesOnWith : Machine → Part → Machine → Type 0
+GoesOnWith x part y = (older : List Order)
+    → turn_after x.numbers part (rest x.hand.place (shown x older)) ≡ rest y.hand.place (shown y older)
 
 -- what a machine does with an input, and which orders that gives
 pub record Takes (x : Machine) (input : Input) (given : List Order) (y : Machine) : Type 0 where
@@ -103,7 +139,8 @@ pub record Takes (x : Machine) (input : Input) (given : List Order) (y : Machine
   pub idle : y.hand.given.items ≡ []
   pub notes : Notes x.numbers y.numbers (part_of input) given
   pub turn : (older : List Order) → x.hand.given.items ≡ []
-      → turn_after x.numbers (part_of input) (rest x.hand.place (shown x older)) ≡ rest y.hand.place (shown y (older ++ given))
+      → turn_after x.numbers (part_of input) (rest x.hand.place (shown x older))
+      ≡ rest y.hand.place (shown y (older ++ given))
 
 -- the order of this number can be named now
 abbrev pub can_name : Numbers → ℕ → Bool
@@ -112,4 +149,6 @@ can_name x number = can_fail (failure_kept x number) && is_above x.last number
 -- the machine accepts the input
 abbrev pub is_fitting : Machine → Input → Bool
 is_fitting x input =
-    not x.broken && (not x.course.halted && is_accepted (part_of input) (is_some x.hand.place) x.numbers.next_run (can_name x.numbers))
+    not x.broken
+    && (not x.course.halted
+    && is_accepted (part_of input) (question_of x.hand.place) x.numbers.next_run (can_name x.numbers))

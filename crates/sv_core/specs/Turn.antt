@@ -1,42 +1,63 @@
 -- One turn of the machine, in its named steps. A step works on the world and hands it to what comes next; a question
 -- stops the turn until its answer comes.
-use Rattle.std.specs.Prelude.{ℕ, List, [], ◌∷◌, Bool, true, false, map, if◌then◌else◌}
+use Rattle.std.specs.Prelude.{ℕ, List, [], ◌∷◌, Bool, true, false, Option, Some, None, is_some, if◌then◌else◌}
+use Rattle.sv_base.specs.declared.spec.GroupSpec.{GroupSpec}
+use Rattle.sv_base.specs.declared.spec.Spec.{Spec}
 use Rattle.sv_child.specs.Moves.{is_running}
 use Rattle.sv_child.specs.Rewind.{rewound}
+use Rattle.sv_child.specs.declared.child.Child.{Child}
+use Rattle.sv_core.specs.Failure.{failed, refusal}
 use Rattle.sv_core.specs.Shutdown.{heeds, follows_plan, halts}
+use Rattle.sv_core.specs.Stimuli.{span_meant}
 use Rattle.sv_core.specs.Stops.{stops_all}
-use Rattle.sv_core.specs.Sweeps.{Turn, sweeps_all}
+use Rattle.sv_core.specs.Sweeps.{Turn, sweeps_all, sweeps_over}
 use Rattle.sv_core.specs.Sweeps.Turn.{Done, Ask}
 use Rattle.sv_core.specs.World.{World}
-use Rattle.sv_core.specs.declared.member.Member.{Member}
+use Rattle.sv_core.specs.declared.failure.Failure.{Failure}
+use Rattle.sv_core.specs.declared.failure.Failure.TheVariants.{NeverFails, ChangesNothing, RefusesQuestion}
 use Rattle.sv_core.specs.declared.part.Cause.{Cause}
 use Rattle.sv_core.specs.declared.part.Cause.TheVariants as cause_is
+use Rattle.sv_core.specs.declared.part.Followed.{Followed}
+use Rattle.sv_core.specs.declared.part.Followed.TheVariants as followed
+use Rattle.sv_core.specs.declared.part.Question.{Question}
 use Rattle.sv_core.specs.declared.part.Reply.{Reply}
-use Rattle.sv_core.specs.declared.sweep.Sweep.{Sweep}
 use Rattle.sv_core.specs.declared.sweep.Sweep.TheVariants as sweep_is
+use Rattle.sv_groups.specs.StartOrder.{pairs_of}
 
 -- step 0, in the first turn the event that the daemon runs: no pool is built yet
 abbrev pub announces : World → World
 announces w = w
 
--- step 1, the turn's moment has come: each child is rewound to it
-abbrev pub member_rewound : ℕ → Member → Member
-member_rewound at m = record m { child = rewound m.spec m.child at }
+-- step 1, the turn's moment has come: a child is rewound to it, by what the configuration says of it
+abbrev pub child_rewound : ℕ → Option (GroupSpec × Spec) → Child → Child
+child_rewound at None child = child
+child_rewound at (Some pair) child = rewound pair.1 child at
+
+-- and so all of them
+abbrev pub all_rewound : ℕ → List (GroupSpec × Spec) → List Child → List Child
+all_rewound at pairs [] = []
+all_rewound at [] (c ∷ cs) = c ∷ cs
+all_rewound at (p ∷ ps) (c ∷ cs) = rewound p.1 c at ∷ all_rewound at ps cs
 
 abbrev pub rewinds : ℕ → World → World
-rewinds at w = record w { members = map (member_rewound at) w.members; moment = at }
+rewinds at w = record w { children = all_rewound at (pairs_of w.roster) w.children; moment = at }
 
 -- step 2, the stimulus: what began the turn is applied. While the daemon ends, the console starts nothing.
 abbrev pub applies : Cause → World → (World → Turn) → Turn
 applies cause_is.Tick w k = k w
 applies (cause_is.Exit run how) w k = sweeps_all (sweep_is.Exit run how) w k
-applies (cause_is.Start target) w k = if is_running w.course.mood then sweeps_all (sweep_is.Start target) w k else k w
-applies (cause_is.Stop target) w k = k (stops_all target w)
+applies (cause_is.Start name) w k =
+    if is_running w.course.mood then sweeps_over sweep_is.Start (span_meant name w.roster) w k else k w
+applies (cause_is.Stop name) w k = k (stops_all (span_meant name w.roster) w)
 applies (cause_is.Signal signal) w k = k (heeds signal w)
 
 -- step 3, the ticks of the clock: no pool is built yet
 abbrev pub ticks : World → World
 ticks w = w
+
+-- step 4, one pass over all children, for which time goes on
+abbrev pub passes : World → (World → Turn) → Turn
+passes w k = sweeps_all sweep_is.Time w k
 
 -- step 5, the links: none is built yet
 abbrev pub serves_links : World → World
@@ -46,37 +67,44 @@ serves_links w = w
 abbrev pub hands_out : World → World
 hands_out w = w
 
--- steps 5 to 8, behind the pass: the links, the stop plan, the pools, and the halt
-abbrev pub ends : World → Turn
-ends w = Done (halts (hands_out (follows_plan (serves_links w))))
+-- steps 5 to 8, after the pass: the links, the stop plan, the pools, and the halt
+abbrev pub after_pass : World → Turn
+after_pass w = Done (halts (hands_out (follows_plan (serves_links w))))
 
--- steps 3 to 8: the ticks, and one pass over all children, for which time goes on
-abbrev pub passes : World → Turn
-passes w = sweeps_all sweep_is.Time (ticks w) ends
-
--- what comes behind a sweep: behind that of time the end of the turn, behind a stimulus the pass
-unfoldable pub after_sweep : Sweep → World → Turn
-after_sweep sweep_is.Time w = ends w
-after_sweep sweep w = passes w
+-- steps 3 to 8, after the stimulus: the ticks, and the pass
+abbrev pub after_stimulus : World → Turn
+after_stimulus w = passes (ticks w) after_pass
 
 -- the whole turn
 abbrev pub turn : Cause → ℕ → World → Turn
-turn cause at w = applies cause (rewinds at (announces w)) passes
+turn cause at w = applies cause (rewinds at (announces w)) after_stimulus
 
--- an answer comes to a turn
-abbrev pub come : Turn → Reply → Turn
-come (Done w) reply = Done w
-come (Ask w k) reply = k w reply
+-- an order failed at a question: it is the question itself, or one that was given before
+abbrev pub failed_at : Failure → World → Question → (World → Reply → Turn) → Turn
+failed_at RefusesQuestion w q k = k w (refusal q)
+failed_at ChangesNothing w q k = Ask (failed ChangesNothing w) q k
+failed_at NeverFails w q k = Ask (failed NeverFails w) q k
 
-abbrev pub came : Turn → List Reply → Turn
+-- what followed comes to a turn: an answer goes on with it, a failed order changes the world
+abbrev pub come : Turn → Followed → Turn
+come (Done w) (followed.Answered reply) = Done w
+come (Done w) (followed.Failed failure) = Done (failed failure w)
+come (Ask w q k) (followed.Answered reply) = k w reply
+come (Ask w q k) (followed.Failed failure) = failed_at failure w q k
+
+abbrev pub came : Turn → List Followed → Turn
 came t [] = t
-came t (reply ∷ replies) = came (come t reply) replies
+came t (f ∷ fs) = came (come t f) fs
 
 -- the world in which a turn stands
 abbrev pub world_of : Turn → World
 world_of (Done w) = w
-world_of (Ask w k) = w
+world_of (Ask w q k) = w
+
+-- the question at which it stopped
+abbrev pub asked_of : Turn → Option Question
+asked_of (Done w) = None
+asked_of (Ask w q k) = Some q
 
 abbrev pub is_asking : Turn → Bool
-is_asking (Done w) = false
-is_asking (Ask w k) = true
+is_asking t = is_some (asked_of t)

@@ -14,7 +14,7 @@ use Rattle.sv_base.specs.declared.state.State.{State}
 use Rattle.sv_base.specs.declared.state.State.TheVariants.{Stopped, Starting, Running, Backoff, Stopping, Exited, Fatal}
 use Rattle.sv_child.specs.Examples.{program}
 use Rattle.sv_core.specs.Deeds.{deeds}
-use Rattle.sv_core.specs.MachineState.{opening}
+use Rattle.sv_core.specs.MachineState.{Model, opening, resting}
 use Rattle.sv_core.specs.Orders.{spawn}
 use Rattle.sv_out.specs.declared.input.Input.{Input}
 use Rattle.sv_out.specs.declared.input.Input.TheVariants.{Tick, Exit, Stop, Signal as Told, Pid, Failed}
@@ -56,7 +56,7 @@ StartsStaysUpAndExits rest =
     ∷ Pid 12
     ∷ Tick 1000
     ∷ Exit 2000 (run 1) (Code 0) ∷ [])
-    ≡ took Stopped Starting ∷ order.Spawn (spawn x 1)
+    ≡ took Stopped Starting ∷ order.Spawn (spawn x.group x 1)
     ∷ took Starting Running
     ∷ took Running Exited ∷ []
 
@@ -71,10 +71,10 @@ ThreeRetriesThenFatal rest =
     ∷ Tick 3599
     ∷ Tick 3600 ∷ Pid 3 ∷ Exit 3700 (run 3) (Code 1)
     ∷ Tick 6700 ∷ Pid 4 ∷ Exit 6800 (run 4) (Code 1) ∷ [])
-    ≡ took Stopped Starting ∷ order.Spawn (spawn x 1) ∷ took Starting Backoff
-    ∷ took Backoff Starting ∷ order.Spawn (spawn x 2) ∷ took Starting Backoff
-    ∷ took Backoff Starting ∷ order.Spawn (spawn x 3) ∷ took Starting Backoff
-    ∷ took Backoff Starting ∷ order.Spawn (spawn x 4) ∷ took Starting Backoff
+    ≡ took Stopped Starting ∷ order.Spawn (spawn x.group x 1) ∷ took Starting Backoff
+    ∷ took Backoff Starting ∷ order.Spawn (spawn x.group x 2) ∷ took Starting Backoff
+    ∷ took Backoff Starting ∷ order.Spawn (spawn x.group x 3) ∷ took Starting Backoff
+    ∷ took Backoff Starting ∷ order.Spawn (spawn x.group x 4) ∷ took Starting Backoff
     ∷ took Backoff Fatal ∷ []
 
 -- with startsecs 0 an exit at once is one of a child that was up
@@ -85,7 +85,7 @@ UpAtOnce rest =
     (Tick 0
     ∷ Pid 7
     ∷ Exit 0 (run 1) (Code 0) ∷ [])
-    ≡ took Stopped Starting ∷ order.Spawn (spawn x 1)
+    ≡ took Stopped Starting ∷ order.Spawn (spawn x.group x 1)
     ∷ took Starting Running
     ∷ took Running Exited ∷ []
 
@@ -97,7 +97,7 @@ ClockGoesBack rest =
     (Tick 3600000
     ∷ Pid 7
     ∷ Exit 500 (run 1) (Code 0) ∷ [])
-    ≡ took Stopped Starting ∷ order.Spawn (spawn x 1)
+    ≡ took Stopped Starting ∷ order.Spawn (spawn x.group x 1)
     ∷ took Starting Backoff ∷ []
 
 -- it doesn't heed TERM: KILL follows after two seconds, and again after two more
@@ -113,7 +113,7 @@ KillAtEachDeadline rest =
     ∷ Tick 3500
     ∷ Tick 5500
     ∷ Exit 5600 (run 1) (Signal 9) ∷ [])
-    ≡ took Stopped Starting ∷ order.Spawn (spawn x 1)
+    ≡ took Stopped Starting ∷ order.Spawn (spawn x.group x 1)
     ∷ took Starting Running
     ∷ took Running Stopping ∷ order.Kill (run 1) signal_is.Term x.stopasgroup
     ∷ order.Kill (run 1) signal_is.Kill x.killasgroup
@@ -127,7 +127,7 @@ SpawnThatFails rest =
     done rest x
     (Tick 0
     ∷ Failed 1 ∷ [])
-    ≡ took Stopped Starting ∷ order.Spawn (spawn x 1)
+    ≡ took Stopped Starting ∷ order.Spawn (spawn x.group x 1)
     ∷ took Starting Backoff ∷ []
 
 -- a program that is alone in its group
@@ -149,8 +149,25 @@ GroupsStopOneByOne rest =
     ∷ Told 5000 signal_is.Term
     ∷ Exit 5100 (run 2) (Code 0)
     ∷ Exit 5200 (run 1) (Signal 15) ∷ [])
-    ≡ goes a Stopped Starting ∷ order.Spawn (spawn a 1) ∷ goes b Stopped Starting ∷ order.Spawn (spawn b 2)
+    ≡ goes a Stopped Starting ∷ order.Spawn (spawn a.group a 1) ∷ goes b Stopped Starting ∷ order.Spawn (spawn b.group b 2)
     ∷ goes a Starting Running ∷ goes b Starting Running
     ∷ goes b Running Stopping ∷ order.Kill (run 2) signal_is.Term b.stopasgroup
     ∷ goes b Stopping Stopped ∷ goes a Running Stopping ∷ order.Kill (run 1) signal_is.Term a.stopasgroup
     ∷ goes a Stopping Stopped ∷ order.Halt ∷ []
+
+-- the world in which the daemon begins, but that so many runs were numbered already
+abbrev pub numbered : Rest → Spec → ℕ → Model
+numbered rest spec next_run =
+    let w = (opening (alone rest spec) rest.sizes rest.host).base in resting (record w { next_run = next_run })
+
+-- all numbers of runs but the last are taken: the last spawn gets it, and each further one fails by itself
+abbrev pub NoRunNumberLeft : Rest → Type 0
+NoRunNumberLeft rest =
+    let x = x_of rest 1 3 Unexpected 10 in
+    deeds (numbered rest x 4294967295)
+    (Tick 0 ∷ Pid 1 ∷ Exit 500 (run 4294967295) (Code 1)
+    ∷ Tick 1500
+    ∷ Tick 3500 ∷ [])
+    ≡ took Stopped Starting ∷ order.Spawn (spawn x.group x 4294967295) ∷ took Starting Backoff
+    ∷ took Backoff Starting ∷ took Starting Backoff
+    ∷ took Backoff Starting ∷ took Starting Backoff ∷ []

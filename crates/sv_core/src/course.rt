@@ -1,3 +1,4 @@
+//! The plan and the mood of the daemon.
 use sv_base::state::Mood;
 
 /// What the daemon is about: its mood, and how far its groups are stopped.

@@ -1,3 +1,4 @@
+//! What it means that an order couldn't be carried out.
 ghost use Rattle.std.specs.Prelude.{◌≡◌};
 ghost use Rattle.sv_core.specs.Failure.{failure_of, can_fail};
 
@@ -10,8 +11,8 @@ pub enum Failure {
     NeverFails,
     /// A signal that didn't get through.
     ChangesNothing,
-    /// A spawn: it is refused.
-    RefusesSpawn,
+    /// A question: it is answered by a refusal.
+    RefusesQuestion,
 }
 
 /// What the failure of this order would mean.
@@ -20,7 +21,7 @@ pub(crate) fn failure_of(order: &Order) -> Failure
 {
     match order {
         Order::State { .. } | Order::Halt => Failure::NeverFails,
-        Order::Spawn(_) => Failure::RefusesSpawn,
+        Order::Spawn(_) => Failure::RefusesQuestion,
         Order::Kill { .. } => Failure::ChangesNothing,
     }
 }
@@ -30,7 +31,7 @@ pub(crate) fn can_fail(failure: Option<Failure>) -> bool
     ensures { result ≡ can_fail failure }
 {
     match failure {
-        Some(Failure::ChangesNothing) | Some(Failure::RefusesSpawn) => true,
+        Some(Failure::ChangesNothing) | Some(Failure::RefusesQuestion) => true,
         Some(Failure::NeverFails) | None => false,
     }
 }

@@ -1,7 +1,7 @@
-ghost use Rattle.std.specs.Prelude.{◌≡◌, List, OnOk};
+//! Step 8 of a turn.
+ghost use Rattle.std.specs.Prelude.{OnOk};
+ghost use Rattle.sv_core.specs.Frames.{ChangesCourse, Makes};
 ghost use Rattle.sv_core.specs.Shutdown.{halts};
-ghost use Rattle.sv_core.specs.StandsFor.{shown};
-ghost use Rattle.sv_out.specs.declared.order.Order.{Order};
 
 use crate::machine::Machine;
 use std::alloc::AllocError;
@@ -11,8 +11,8 @@ use sv_out::order::Order;
 impl Machine {
     /// Step 8 of a turn: where the daemon ends and no group is left, it halts.
     pub(crate) fn halt(&mut self) -> Result<(), AllocError>
-        ensures kept { self.new ≡ record self.old { course = self.new.course; hand = record self.old.hand { given = self.new.hand.given } } }
-        ensures halts { OnOk result ((older : List Order) → shown self.new older ≡ halts (shown self.old older)) }
+        ensures kept { ChangesCourse self.old self.new }
+        ensures halts { OnOk result (Makes halts self.old self.new) }
     {
         if self.course.mood != Mood::Running && self.course.left == 0 {
             self.hand.given.push(Order::Halt)?;

@@ -3,19 +3,14 @@
 //! and in the code; it stops at a question, and its answer goes on with it.
 #![tactic(auto)]
 
-mod announce;
 pub mod course;
 pub mod failure;
 mod halt;
 pub mod hand;
-mod hand_out;
 pub mod laws;
-mod links;
 pub mod machine;
-pub mod member;
 pub mod numbers;
 pub mod part;
-mod pass;
 pub mod place;
 mod plan;
 mod report;
@@ -24,6 +19,4 @@ mod stimulus;
 mod stopping;
 pub mod sweep;
 mod sweeping;
-pub mod target;
-mod ticks;
 mod turn;

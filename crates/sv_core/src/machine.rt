@@ -1,34 +1,34 @@
-ghost use Rattle.std.specs.Prelude.{◌≡◌, ◌++◌, List, [], ℕ, IsTrue, false, ◌&&◌, nat_lt, IfOk, OnOk, OnErr, map};
-ghost use Rattle.std.specs.List.{flat_map};
-ghost use Rattle.sv_core.specs.MachineState.{new_member, of_group, own_members, whole_group};
-ghost use Rattle.sv_out.specs.declared.order.Order.{Order};
+//! The machine: what it keeps, which inputs it accepts, and the one call that takes an input.
+ghost use Rattle.std.specs.Prelude.{◌≡◌, [], IsTrue, false, ◌&&◌, nat_lt, IfOk, OnOk, OnErr, replicate};
+ghost use Rattle.sv_child.specs.Moves.{new_child};
 
 use crate::course::Course;
-use crate::failure::Failure;
 use crate::hand::Hand;
-use crate::member::Member;
 use crate::numbers::Numbers;
-use crate::part::{Part, Reply, part_of};
-use crate::target::Target;
+use crate::part::{Followed, Part, Question, part_of};
+use crate::place::question_of;
 use std::alloc::{AllocError, Global};
 use std::mem;
 use sv_base::config::{Config, Host};
-use sv_base::groups::Groups;
 use sv_base::ids::Run;
-use sv_base::spec::{GroupSpec, Spec};
 use sv_base::state::Mood;
 use sv_base::text::Text;
 use sv_child::child::Child;
+use sv_groups::Roster;
 use sv_out::input::Input;
 use sv_out::order::Order;
 
 /// The daemon's machine. What it keeps doesn't grow with the number of its inputs.
 #[derive(Debug, Drop)]
 pub struct Machine {
-    /// The children in start order, each with what the configuration says of it.
-    pub(crate) members: Vec<Member>,
-    /// The groups in start order.
-    pub(crate) groups: Vec<Target>,
+    /// The configuration.
+    pub(crate) config: Config,
+    /// The daemon's own process number.
+    pub(crate) pid: u32,
+    /// The groups and their processes in start order.
+    pub(crate) roster: Roster,
+    /// The children in start order.
+    pub(crate) children: Vec<Child>,
     /// What the daemon is about.
     pub(crate) course: Course,
     /// The numbers that are given out.
@@ -44,7 +44,7 @@ pub struct Machine {
 impl Machine {
     ghost use Rattle.sv_core.specs.Sizes.{rise};
     ghost use Rattle.sv_core.specs.MachineState.{Model, opening, accepts, next, orders, hand, now};
-    ghost use Rattle.sv_core.specs.StandsFor.{StandsFor, Takes, Notes, shown, rest, turn_after, is_fitting};
+    ghost use Rattle.sv_core.specs.StandsFor.{StandsFor, Takes, Notes, GoesOnWith, asked_by, has_halted, is_broken, is_fitting};
     ghost use Rattle.sv_core.specs.Turn.{is_asking};
 
     /// The machine of this configuration as the daemon begins: each child is stopped and was never started. `sizes` are
@@ -58,16 +58,19 @@ impl Machine {
         requires { IsTrue (rise sizes.items) }
         ensures { IfOk result (λ x. StandsFor x (opening config sizes.items host.now)) }
     {
-        let (members, groups) = roster_of(alloc, config.groups)?;
+        let roster = Roster::new(alloc, &config)?;
+        let children = new_children(alloc, roster.count())?;
         let course = Course {
             mood: Mood::Running,
-            left: groups.len(),
+            left: roster.groups().len(),
             is_told: false,
             halted: false,
         };
         Ok(Machine {
-            members,
-            groups,
+            config,
+            pid: host.pid,
+            roster,
+            children,
             course,
             numbers: Numbers {
                 next_run: 1,
@@ -90,17 +93,21 @@ impl Machine {
     /// machine takes nothing.
     pub fn accepts(&self, input: &Input) -> bool
         ensures accepts { (m : Model) → StandsFor self.now m → result ≡ accepts m input.now }
-        ensures broken { IsTrue self.now.broken → result ≡ false }
+        ensures fits { result ≡ is_fitting self.now input.now }
+        ensures broken { IsTrue (is_broken self.now) → result ≡ false }
     {
         self.is_fitting(input)
     }
 
-    /// Takes one input, which the machine accepts, and answers its orders. After want of memory the machine is broken.
+    /// Takes one input, which the machine accepts, and answers its orders. Out of memory, the machine is broken from
+    /// then on.
     pub fn step(&mut self, alloc: Global, input: Input) -> Result<Vec<Order>, AllocError>
-        requires { (m : Model) → StandsFor self.old m → IsTrue (accepts m input) }
-        ensures next { IfOk result (λ given. (m : Model) → StandsFor self.old m → StandsFor self.new (next m input)) }
-        ensures orders { IfOk result (λ given. (m : Model) → StandsFor self.old m → given.items ≡ orders m input) }
-        ensures broken { OnErr result (IsTrue self.new.broken) }
+        requires { IsTrue (is_fitting self.old input) }
+        ensures next { IfOk result (λ given. (m : Model) → StandsFor self.old m
+            → StandsFor self.new (next m input)) }
+        ensures orders { IfOk result (λ given. (m : Model) → StandsFor self.old m
+            → given.items ≡ orders m input) }
+        ensures broken { OnErr result (IsTrue (is_broken self.new)) }
     {
         match self.take(alloc, input) {
             Ok(given) => Ok(given),
@@ -111,40 +118,59 @@ impl Machine {
         }
     }
 
-    /// Whether a question stands.
+    /// Whether a question stands. For a broken machine none does.
     pub fn awaits(&self) -> bool
-        ensures { (m : Model) → StandsFor self.now m → result ≡ is_asking (hand m) }
+        ensures awaits { (m : Model) → StandsFor self.now m → result ≡ is_asking (hand m) }
+        ensures broken { IsTrue (is_broken self.now) → result ≡ false }
     {
-        self.hand.place.is_some()
+        self.asked_by().is_some()
     }
 
-    /// Whether the halt was given, after which the machine accepts nothing.
+    /// Whether the halt was given, after which the machine accepts nothing. A broken machine has given none.
     pub fn halted(&self) -> bool
-        ensures { (m : Model) → StandsFor self.now m → result ≡ (now m).course.halted }
+        ensures halted { (m : Model) → StandsFor self.now m → result ≡ (now m).course.halted }
+        ensures broken { IsTrue (is_broken self.now) → result ≡ false }
     {
-        self.course.halted
+        self.has_halted()
     }
 
     /// Whether memory was refused in a step, after which the machine accepts nothing.
     pub fn broken(&self) -> bool
-        ensures { result ≡ self.now.broken }
+        ensures { result ≡ is_broken self.now }
     {
         self.broken
+    }
+
+    fn asked_by(&self) -> Option<Question>
+        ensures { result ≡ asked_by self.now }
+    {
+        if self.broken {
+            None
+        } else {
+            question_of(&self.hand.place)
+        }
+    }
+
+    fn has_halted(&self) -> bool
+        ensures { result ≡ has_halted self.now }
+    {
+        !self.broken && self.course.halted
     }
 
     fn is_fitting(&self, input: &Input) -> bool
         ensures { result ≡ is_fitting self.now input.now }
     {
+        let asked = question_of(&self.hand.place);
         !self.broken
             && !self.course.halted
             && match input {
                 Input::Tick { .. }
                 | Input::Start { .. }
                 | Input::Stop { .. }
-                | Input::Signal { .. } => self.hand.place.is_none(),
-                Input::Exit { run, .. } => self.hand.place.is_none() && self.is_issued(*run),
+                | Input::Signal { .. } => asked.is_none(),
+                Input::Exit { run, .. } => asked.is_none() && self.is_issued(*run),
                 Input::Pid(_) | Input::NoFile | Input::NotExecutable | Input::Refused(_) => {
-                    self.hand.place.is_some()
+                    matches!(asked, Some(Question::Spawn))
                 }
                 Input::Failed(number) => self.numbers.can_name(*number),
             }
@@ -159,18 +185,16 @@ impl Machine {
     fn take(&mut self, alloc: Global, input: Input) -> Result<Vec<Order>, AllocError>
         ensures { IfOk result (λ given. Takes self.old input given.items self.new) }
     {
-        let part = part_of(alloc, input)?;
-        self.hear(part)?;
+        self.hear(part_of(input))?;
         self.numbers.note(self.hand.given.as_slice())?;
         Ok(mem::replace(&mut self.hand.given, Vec::new(alloc)))
     }
 
-    /// The turn in hand begins, or goes on with an answer of its question.
+    /// The turn in hand begins, or goes on.
     fn hear(&mut self, part: Part) -> Result<(), AllocError>
         ensures whole { self.new.broken ≡ self.old.broken }
         ensures notes { OnOk result (Notes self.old.numbers self.new.numbers part []) }
-        ensures turn { OnOk result ((older : List Order) →
-            turn_after self.old.numbers part (rest self.old.hand.place (shown self.old older)) ≡ rest self.new.hand.place (shown self.new older)) }
+        ensures turn { OnOk result (GoesOnWith self.old part self.new) }
     {
         match part {
             Part::Begins(at, cause) => {
@@ -179,7 +203,7 @@ impl Machine {
             }
             Part::Answers(reply) => {
                 self.numbers.forget();
-                self.go_on_with(reply)
+                self.follow(Followed::Answered(reply))
             }
             Part::Fails(number) => self.fail(number),
         }
@@ -189,55 +213,23 @@ impl Machine {
     fn fail(&mut self, number: u64) -> Result<(), AllocError>
         ensures whole { self.new.broken ≡ self.old.broken }
         ensures notes { OnOk result (Notes self.old.numbers self.new.numbers (Part.Fails number) []) }
-        ensures turn { OnOk result ((older : List Order) →
-            turn_after self.old.numbers (Part.Fails number) (rest self.old.hand.place (shown self.old older)) ≡ rest self.new.hand.place (shown self.new older)) }
+        ensures turn { OnOk result (GoesOnWith self.old (Part.Fails number) self.new) }
     {
         self.numbers.last = Some(number);
         match self.numbers.failure(number) {
-            Some(Failure::RefusesSpawn) => {
-                self.go_on_with(Reply::NotStarted(Text::fixed("failed")))
-            }
-            _ => Ok(()),
+            Some(failure) => self.follow(Followed::Failed(failure)),
+            None => Ok(()),
         }
     }
 }
 
-/// The children of these groups in start order, each as it is before its first start, and the groups.
-fn roster_of(alloc: Global, groups: Groups) -> Result<(Vec<Member>, Vec<Target>), AllocError>
-    ensures members { IfOk result (λ roster. roster.0.items ≡ map new_member (flat_map own_members groups)) }
-    ensures groups { IfOk result (λ roster. roster.1.items ≡ map whole_group groups) }
+/// So many children that were never started.
+fn new_children(alloc: Global, count: usize) -> Result<Vec<Child>, AllocError>
+    ensures { IfOk result (λ children. children.items ≡ replicate count new_child) }
 {
-    let mut members = Vec::new(alloc);
-    let mut targets = Vec::new(alloc);
-    for group in groups.into_vec() {
-        let specs = group.members.into_vec();
-        add_members(&mut members, &group.name, specs)?;
-        targets.push(Target {
-            group: group.name,
-            member: None,
-        })?;
+    let mut children = Vec::new(alloc);
+    for _ in 0..count {
+        children.push(Child::new())?;
     }
-    Ok((members, targets))
-}
-
-fn add_members(members: &mut Vec<Member>, group: &Text, specs: Vec<Spec>) -> Result<(), AllocError>
-    ensures { OnOk result (members.new.items ≡
-        members.old.items ++ map new_member (map (of_group group.now) specs.items)) }
-{
-    for spec in specs {
-        members.push(Member {
-            spec: of_group(group, spec)?,
-            child: Child::new(),
-        })?;
-    }
-    Ok(())
-}
-
-/// A process as a child of this group, whatever it says of its group itself.
-fn of_group(group: &Text, spec: Spec) -> Result<Spec, AllocError>
-    ensures { IfOk result (λ child. child ≡ of_group group.now spec) }
-{
-    let mut child = spec;
-    child.group = group.clone()?;
-    Ok(child)
+    Ok(children)
 }

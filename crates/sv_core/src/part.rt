@@ -1,22 +1,63 @@
-ghost use Rattle.std.specs.Prelude.{◌≡◌, IfOk};
-ghost use Rattle.sv_core.specs.Parts.{part_of, target_of};
+//! What an input is to the machine.
+ghost use Rattle.std.specs.Prelude.{◌≡◌};
+ghost use Rattle.sv_core.specs.Moves.{told_of};
+ghost use Rattle.sv_core.specs.Parts.{part_of};
 
-use crate::target::Target;
-use std::alloc::{AllocError, Global};
+use crate::failure::Failure;
 use sv_base::ids::Run;
 use sv_base::moment::Moment;
-use sv_base::names::split_name;
 use sv_base::number::Pid;
 use sv_base::signal::DaemonSignal;
 use sv_base::state::How;
 use sv_base::text::Text;
 use sv_out::input::Input;
 
-/// What a spawn was answered: the number of the process, or why there is none.
+/// What is asked of the world, and answered before the turn goes on.
+#[derive(Clone, Copy, Debug)]
+pub enum Question {
+    /// Whether a process was started.
+    Spawn,
+}
+
+/// The answer of a question.
 #[derive(Debug, Drop)]
 pub enum Reply {
+    /// The process of a spawn has this number.
+    Started(Pid),
+    /// There is no such program.
+    NoFile,
+    /// The program can't be executed.
+    NotExecutable,
+    /// There is no process, for this reason.
+    Refused(Text),
+}
+
+/// What a child is told of its spawn: the number of its process, or why there is none.
+#[derive(Debug, Drop)]
+pub enum Told {
     Started(Pid),
     NotStarted(Text),
+}
+
+/// What a child is told of this answer.
+pub(crate) fn told_of(reply: Reply) -> Told
+    ensures { result ≡ told_of reply }
+{
+    match reply {
+        Reply::Started(pid) => Told::Started(pid),
+        Reply::NoFile => Told::NotStarted(Text::fixed("can't find command")),
+        Reply::NotExecutable => Told::NotStarted(Text::fixed("command is not executable")),
+        Reply::Refused(text) => Told::NotStarted(text),
+    }
+}
+
+/// What followed the input that began a turn.
+#[derive(Debug, Drop)]
+pub enum Followed {
+    /// The question was answered.
+    Answered(Reply),
+    /// An order couldn't be carried out.
+    Failed(Failure),
 }
 
 /// What begins a turn.
@@ -27,9 +68,9 @@ pub enum Cause {
     /// The process of a run ended.
     Exit(Run, How),
     /// The console asks for starts.
-    Start(Target),
+    Start(Text),
     /// The console asks for stops.
-    Stop(Target),
+    Stop(Text),
     /// The daemon was sent a signal.
     Signal(DaemonSignal),
 }
@@ -46,28 +87,19 @@ pub enum Part {
 }
 
 /// What this input is to the machine.
-pub(crate) fn part_of(alloc: Global, input: Input) -> Result<Part, AllocError>
-    ensures { IfOk result (λ part. part ≡ part_of input) }
+pub(crate) fn part_of(input: Input) -> Part
+    ensures { result ≡ part_of input }
 {
-    Ok(match input {
+    match input {
         Input::Tick { at } => Part::Begins(at, Cause::Tick),
         Input::Exit { at, run, how } => Part::Begins(at, Cause::Exit(run, how)),
-        Input::Start { at, name } => Part::Begins(at, Cause::Start(target_of(alloc, &name)?)),
-        Input::Stop { at, name } => Part::Begins(at, Cause::Stop(target_of(alloc, &name)?)),
+        Input::Start { at, name } => Part::Begins(at, Cause::Start(name)),
+        Input::Stop { at, name } => Part::Begins(at, Cause::Stop(name)),
         Input::Signal { at, signal } => Part::Begins(at, Cause::Signal(signal)),
         Input::Pid(pid) => Part::Answers(Reply::Started(pid)),
-        Input::NoFile => Part::Answers(Reply::NotStarted(Text::fixed("can't find command"))),
-        Input::NotExecutable => {
-            Part::Answers(Reply::NotStarted(Text::fixed("command is not executable")))
-        }
-        Input::Refused(text) => Part::Answers(Reply::NotStarted(text)),
+        Input::NoFile => Part::Answers(Reply::NoFile),
+        Input::NotExecutable => Part::Answers(Reply::NotExecutable),
+        Input::Refused(text) => Part::Answers(Reply::Refused(text)),
         Input::Failed(number) => Part::Fails(number),
-    })
-}
-
-fn target_of(alloc: Global, name: &Text) -> Result<Target, AllocError>
-    ensures { IfOk result (λ target. target ≡ target_of name.now) }
-{
-    let (group, member) = split_name(alloc, name.as_str())?;
-    Ok(Target { group, member })
+    }
 }

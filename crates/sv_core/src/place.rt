@@ -1,7 +1,12 @@
+//! Where a turn was left at a question.
+ghost use Rattle.std.specs.Prelude.{◌≡◌};
+ghost use Rattle.sv_core.specs.StandsFor.{question_of};
+
+use crate::part::Question;
 use crate::sweep::Sweep;
 use sv_base::ids::Run;
 
-/// A question that stands: the spawn of a child, as this run.
+/// A spawn that was asked for: of a child, as this run.
 #[derive(Clone, Copy, Debug)]
 pub struct Asked {
     pub child: usize,
@@ -15,9 +20,29 @@ pub struct Stop {
     pub asked: Asked,
 }
 
-/// Where a turn was left at a question: in which sweep, and where in it.
+/// What is left of a sweep at a question: the places up to before `to`.
 #[derive(Debug, Drop)]
-pub struct Place {
+pub struct Paused {
     pub sweep: Sweep,
+    pub to: usize,
     pub stop: Stop,
+}
+
+/// Where a turn was left at a question: in which of its steps, and where in it.
+#[derive(Debug, Drop)]
+pub enum Place {
+    /// In step 2, the stimulus.
+    Stimulus(Paused),
+    /// In step 4, the pass.
+    Pass(Paused),
+}
+
+/// The question that stands where a turn was left.
+pub(crate) fn question_of(place: &Option<Place>) -> Option<Question>
+    ensures { result ≡ question_of place.now }
+{
+    match place {
+        None => None,
+        Some(Place::Stimulus(_)) | Some(Place::Pass(_)) => Some(Question::Spawn),
+    }
 }

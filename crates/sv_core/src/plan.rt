@@ -1,15 +1,18 @@
-ghost use Rattle.std.specs.Prelude.{◌≡◌, List, Some, OnOk, slice_get};
+//! Step 6 of a turn, the stop plan, and the signals that begin it.
+ghost use Rattle.std.specs.Prelude.{◌≡◌, ◌-◌, OnOk, drop, take};
+ghost use Rattle.std.specs.List.{list_all};
 ghost use Rattle.sv_base.specs.declared.signal.Signal.{Signal};
-ghost use Rattle.sv_core.specs.Shutdown.{is_ending, heeds, is_resting, is_at_rest, has_come_to_rest, tells_group, drops_group, follows_plan};
-ghost use Rattle.sv_core.specs.StandsFor.{shown};
-ghost use Rattle.sv_out.specs.declared.order.Order.{Order};
+ghost use Rattle.sv_core.specs.Frames.{Makes, MovesPlan};
+ghost use Rattle.sv_child.specs.Moves.{is_at_rest};
+ghost use Rattle.sv_child.specs.declared.child.Child.{Child};
+ghost use Rattle.sv_core.specs.Shutdown.{is_ending, is_group_at_rest, heeds, tells_group, follows_plan};
 
 use crate::machine::Machine;
-use crate::member::Member;
-use crate::target::Target;
 use std::alloc::AllocError;
 use sv_base::signal::{DaemonSignal, Signal};
-use sv_base::state::{Mood, State};
+use sv_base::state::Mood;
+use sv_child::child::Child;
+use sv_groups::Span;
 
 fn is_ending(signal: Signal) -> bool
     ensures { result ≡ is_ending signal }
@@ -20,27 +23,23 @@ fn is_ending(signal: Signal) -> bool
     }
 }
 
-fn is_resting(state: State) -> bool
-    ensures { result ≡ is_resting state }
+/// Whether none of these children has a process or gets one by itself.
+fn are_at_rest(children: &[Child], span: Span) -> bool
+    ensures { result ≡ list_all (λ (c : Child). is_at_rest c.state)
+        (take (span.to - span.from) (drop span.from children.now)) }
 {
-    match state {
-        State::Stopped | State::Exited | State::Fatal => true,
-        _ => false,
-    }
-}
-
-/// Whether no child of this group has a process or gets one by itself.
-fn is_at_rest(group: &Target, members: &[Member]) -> bool
-    ensures { result ≡ is_at_rest group.now members.now }
-{
-    members.iter().all(|member| !group.means(&member.spec) || is_resting(member.child.state))
+    children
+        .iter()
+        .skip(span.from)
+        .take(span.to.saturating_sub(span.from))
+        .all(|child| child.is_at_rest())
 }
 
 impl Machine {
     /// A signal came: the first that ends the daemon begins its shutdown.
     pub(crate) fn heed(&mut self, signal: &DaemonSignal)
         ensures kept { self.new ≡ record self.old { course = self.new.course } }
-        ensures heeds { (older : List Order) → shown self.new older ≡ heeds signal.now (shown self.old older) }
+        ensures heeds { Makes (heeds signal.now) self.old self.new }
     {
         if is_ending(signal.get()) && self.course.mood == Mood::Running {
             self.course.mood = Mood::Shutdown;
@@ -48,35 +47,35 @@ impl Machine {
     }
 
     /// Whether the group of this place is at rest; what isn't there is.
-    #[tactic(auto, using(std::proofs::lemmas::Option::slice_get_read, std::proofs::lemmas::Option::slice_get_past))]
     fn has_come_to_rest(&self, group: usize) -> bool
-        ensures { (older : List Order) → result ≡ has_come_to_rest (slice_get self.now.groups.items group) (shown self.now older) }
+        ensures { result ≡ is_group_at_rest group self.now.roster self.now.children.items }
     {
-        match self.groups.as_slice().get(group) {
-            Some(group) => is_at_rest(group, self.members.as_slice()),
-            None => true,
-        }
+        let span = self.roster.span(group);
+        are_at_rest(self.children.as_slice(), span)
     }
 
     /// A group that isn't at rest is told to stop, once.
     fn tell_group(&mut self, group: usize) -> Result<(), AllocError>
-        ensures kept { self.new ≡ record self.old { members = self.new.members; course = self.new.course; hand = record self.old.hand { given = self.new.hand.given } } }
+        ensures kept { MovesPlan self.old self.new }
         ensures left { self.new.course.left ≡ self.old.course.left }
-        ensures tells { OnOk result ((older : List Order) →
-            shown self.new older ≡ tells_group (slice_get self.old.groups.items group) (shown self.old older)) }
+        ensures tells { OnOk result (Makes (tells_group group) self.old self.new) }
     {
-        if self.course.is_told || group >= self.groups.len() || self.has_come_to_rest(group) {
+        if self.course.is_told {
             return Ok(());
         }
-        let target = self.groups[group].clone()?;
+        if self.has_come_to_rest(group) {
+            return Ok(());
+        }
+        let own = self.roster.span(group);
         self.course.is_told = true;
-        self.stop_all(&target)
+        self.stop_all(own)?;
+        Ok(())
     }
 
     /// Step 6 of a turn: while the daemon ends, its groups are stopped one after the other, the last one first.
     pub(crate) fn follow_plan(&mut self) -> Result<(), AllocError>
-        ensures kept { self.new ≡ record self.old { members = self.new.members; course = self.new.course; hand = record self.old.hand { given = self.new.hand.given } } }
-        ensures follows { OnOk result ((older : List Order) → shown self.new older ≡ follows_plan (shown self.old older)) }
+        ensures kept { MovesPlan self.old self.new }
+        ensures follows { OnOk result (Makes follows_plan self.old self.new) }
     {
         if self.course.mood == Mood::Running {
             return Ok(());

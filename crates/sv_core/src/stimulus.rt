@@ -1,38 +1,65 @@
-ghost use Rattle.std.specs.Prelude.{◌≡◌, List, OnOk};
-ghost use Rattle.sv_core.specs.StandsFor.{shown, rest};
-ghost use Rattle.sv_core.specs.Turn.{applies, passes};
+//! Step 2 of a turn.
+ghost use Rattle.std.specs.Prelude.{◌≡◌, List, IfOk};
+ghost use Rattle.sv_core.specs.Frames.{MovesOn};
+ghost use Rattle.sv_core.specs.StandsFor.{paused, shown};
+ghost use Rattle.sv_core.specs.Stimuli.{span_meant};
+ghost use Rattle.sv_core.specs.Sweeps.{Turn};
+ghost use Rattle.sv_core.specs.Turn.{applies};
+ghost use Rattle.sv_core.specs.World.{World};
 ghost use Rattle.sv_out.specs.declared.order.Order.{Order};
 
 use crate::machine::Machine;
 use crate::part::Cause;
+use crate::place::Paused;
 use crate::sweep::Sweep;
 use std::alloc::AllocError;
 use sv_base::state::Mood;
+use sv_base::text::Text;
+use sv_groups::{Found, Span};
 
 impl Machine {
-    /// Step 2 of a turn, and what comes behind it, up to a question: what began the turn is applied. While the daemon
-    /// ends, the console starts nothing.
-    #[tactic(auto, unfolding(crate::specs::Turn::after_sweep))]
-    pub(crate) fn apply(&mut self, cause: Cause) -> Result<(), AllocError>
-        ensures kept { self.new ≡ record self.old { members = self.new.members; course = self.new.course; numbers = record self.old.numbers { next_run = self.new.numbers.next_run }; hand = record self.old.hand { place = self.new.hand.place; given = self.new.hand.given } } }
-        ensures rest { OnOk result ((older : List Order) →
-            applies cause (shown self.old older) passes ≡ rest self.new.hand.place (shown self.new older)) }
+    /// Step 2 of a turn, up to a question: what began the turn is applied. While the daemon ends, the console starts
+    /// nothing.
+    #[tactic(auto, unfolding(crate::specs::StandsFor::paused))]
+    pub(crate) fn apply(&mut self, cause: Cause) -> Result<Option<Paused>, AllocError>
+        ensures kept { MovesOn self.old self.new }
+        ensures applies { IfOk result (λ left. (older : List Order) (k : World → Turn) →
+            applies cause (shown self.old older) k ≡ paused left (shown self.new older) k) }
     {
         match cause {
-            Cause::Tick => self.pass(),
-            Cause::Exit(run, how) => self.go_on(Sweep::Exit(run, how), 0),
-            Cause::Start(target) if self.course.mood == Mood::Running => {
-                self.go_on(Sweep::Start(target), 0)
+            Cause::Tick => Ok(None),
+            Cause::Exit(run, how) => {
+                let all = self.children.len();
+                self.sweep_over(Sweep::Exit(run, how), 0, all)
             }
-            Cause::Start(_) => self.pass(),
-            Cause::Stop(target) => {
-                self.stop_all(&target)?;
-                self.pass()
+            Cause::Start(name) if self.course.mood == Mood::Running => {
+                let span = self.meant(&name);
+                self.sweep_over(Sweep::Start, span.from, span.to)
+            }
+            Cause::Start(_) => Ok(None),
+            Cause::Stop(name) => {
+                let span = self.meant(&name);
+                self.stop_all(span)?;
+                Ok(None)
             }
             Cause::Signal(signal) => {
                 self.heed(&signal);
-                self.pass()
+                Ok(None)
             }
+        }
+    }
+
+    /// The children that a name of the console means.
+    fn meant(&self, name: &Text) -> Span
+        ensures { result ≡ span_meant name.now self.now.roster }
+    {
+        match self.roster.find(name.as_str()) {
+            Found::One(child) => {
+                let from = child.0 as usize;
+                Span { from, to: from + 1 }
+            }
+            Found::Group(group) => self.roster.span(group),
+            Found::Nothing => Span { from: 0, to: 0 },
         }
     }
 }

@@ -1,19 +1,22 @@
-ghost use Rattle.std.specs.Prelude.{◌≡◌, List, OnOk, vec_len, slice_get};
+//! Stopping children that are side by side.
+ghost use Rattle.std.specs.Prelude.{◌≡◌, List, OnOk};
+ghost use Rattle.sv_core.specs.Frames.{GivesOrders, Makes, MovesChildren};
+ghost use Rattle.sv_core.specs.Members.{member_at};
 ghost use Rattle.sv_core.specs.StandsFor.{shown};
 ghost use Rattle.sv_core.specs.Stops.{signals, stops, stops_all};
 ghost use Rattle.sv_out.specs.declared.order.Order.{Order};
 
 use crate::machine::Machine;
 use crate::report::report;
-use crate::target::Target;
 use std::alloc::AllocError;
 use sv_child::step::ChildDeed;
+use sv_groups::Span;
 
 impl Machine {
     /// Sends the signal of a stop.
     fn signal(&mut self, child: usize, deed: Option<ChildDeed>) -> Result<(), AllocError>
-        ensures kept { self.new ≡ record self.old { hand = record self.old.hand { given = self.new.hand.given } } }
-        ensures signals { OnOk result ((older : List Order) → shown self.new older ≡ signals deed child (shown self.old older)) }
+        ensures kept { GivesOrders self.old self.new }
+        ensures signals { OnOk result (Makes (signals deed child) self.old self.new) }
     {
         match deed {
             Some(ChildDeed::Kill(signal, group)) => self.kill(child, signal, group),
@@ -21,37 +24,41 @@ impl Machine {
         }
     }
 
-    /// Stops the child of one place, if it is meant.
-    #[tactic(auto, using(std::proofs::lemmas::Option::slice_get_past))]
-    fn stop(&mut self, target: &Target, child: usize) -> Result<(), AllocError>
-        ensures kept { self.new ≡ record self.old { members = self.new.members; hand = record self.old.hand { given = self.new.hand.given } } }
-        ensures count { vec_len self.new.members ≡ vec_len self.old.members }
-        ensures stops { OnOk result ((older : List Order) →
-            shown self.new older ≡ stops target.now (slice_get self.old.members.items child) child (shown self.old older)) }
+    /// Stops the child of one place.
+    fn stop(&mut self, child: usize) -> Result<(), AllocError>
+        ensures kept { MovesChildren self.old self.new }
+        ensures stops { OnOk result ((older : List Order) → shown self.new older
+            ≡ stops (member_at (shown self.old older) child) child (shown self.old older)) }
     {
-        if child >= self.members.len() {
+        if child >= self.children.len() {
             return Ok(());
         }
-        let member = &mut self.members[child];
-        if !target.means(&member.spec) {
-            return Ok(());
+        match self.roster.process(child) {
+            None => Ok(()),
+            Some(process) => {
+                let own = &mut self.children[child];
+                let step = own.want_stop(process.1, self.hand.moment);
+                report(
+                    &process.0.name,
+                    &process.1.name,
+                    &step.edges,
+                    &mut self.hand.given,
+                )?;
+                self.signal(child, step.deed)?;
+                Ok(())
+            }
         }
-        let step = member.child.want_stop(&member.spec, self.hand.moment);
-        report(&member.spec, &step.edges, &mut self.hand.given)?;
-        self.signal(child, step.deed)?;
-        Ok(())
     }
 
-    /// Stops all children that are meant, from the last of the start order to the first.
-    pub(crate) fn stop_all(&mut self, target: &Target) -> Result<(), AllocError>
-        ensures kept { self.new ≡ record self.old { members = self.new.members; hand = record self.old.hand { given = self.new.hand.given } } }
-        ensures count { vec_len self.new.members ≡ vec_len self.old.members }
-        ensures stops { OnOk result ((older : List Order) → shown self.new older ≡ stops_all target.now (shown self.old older)) }
+    /// Stops the children of a span, from the last of the start order to the first.
+    pub(crate) fn stop_all(&mut self, span: Span) -> Result<(), AllocError>
+        ensures kept { MovesChildren self.old self.new }
+        ensures stops { OnOk result (Makes (stops_all span) self.old self.new) }
     {
-        let mut left = self.members.len();
+        let mut left = span.to.saturating_sub(span.from);
         while left > 0 {
             left -= 1;
-            self.stop(target, left)?;
+            self.stop(span.from + left)?;
         }
         Ok(())
     }

@@ -1,68 +1,68 @@
-ghost use Rattle.std.specs.Prelude.{◌≡◌, ◌-◌, List, OnOk, vec_len};
-ghost use Rattle.sv_core.specs.StandsFor.{shown, rest, turn_after};
+//! A turn: its nine steps in order, up to a question, and what followed its input.
+ghost use Rattle.std.specs.Prelude.{◌≡◌, ◌-◌, List, OnOk, Some};
+ghost use Rattle.sv_core.specs.Frames.{GoesOn, Makes};
+ghost use Rattle.sv_core.specs.StandsFor.{shown, rest};
+ghost use Rattle.sv_core.specs.Turn.{announces, turn, ticks, serves_links, hands_out, come, after_pass, after_stimulus, world_of};
 ghost use Rattle.sv_core.specs.Sweeps.{sweeps};
-ghost use Rattle.sv_core.specs.Turn.{turn, come, after_sweep, ends, world_of};
+ghost use Rattle.sv_core.specs.Moves.{answered};
 ghost use Rattle.sv_out.specs.declared.order.Order.{Order};
 
+use crate::failure::Failure;
 use crate::machine::Machine;
-use crate::part::{Cause, Reply};
-use crate::place::Place;
+use crate::part::{Cause, Followed, Reply};
+use crate::place::{Paused, Place};
 use crate::sweep::Sweep;
 use std::alloc::AllocError;
 use sv_base::moment::Moment;
+use sv_base::text::Text;
 
 impl Machine {
-    /// A turn begins: steps 0 and 1, then the stimulus, and so on up to a question.
+    /// A turn begins: steps 0 to 2, up to a question, and then the others.
+    #[tactic(auto, unfolding(crate::specs::StandsFor::paused, crate::specs::StandsFor::rest))]
     pub(crate) fn begin(&mut self, at: Moment, cause: Cause) -> Result<(), AllocError>
-        ensures kept { self.new ≡ record self.old { members = self.new.members; course = self.new.course; numbers = record self.old.numbers { next_run = self.new.numbers.next_run }; hand = self.new.hand } }
+        ensures kept { GoesOn self.old self.new }
         ensures turn { OnOk result ((older : List Order) →
-            turn cause at (world_of (rest self.old.hand.place (shown self.old older))) ≡ rest self.new.hand.place (shown self.new older)) }
+            turn cause at (world_of (rest self.old.hand.place (shown self.old older)))
+            ≡ rest self.new.hand.place (shown self.new older)) }
     {
         self.announce();
         self.rewind(at);
-        self.apply(cause)?;
-        Ok(())
-    }
-
-    /// The turn in hand goes on with the answer of its question.
-    pub(crate) fn go_on_with(&mut self, reply: Reply) -> Result<(), AllocError>
-        ensures kept { self.new ≡ record self.old { members = self.new.members; course = self.new.course; numbers = record self.old.numbers { next_run = self.new.numbers.next_run }; hand = self.new.hand } }
-        ensures turn { OnOk result ((older : List Order) →
-            come (rest self.old.hand.place (shown self.old older)) reply ≡ rest self.new.hand.place (shown self.new older)) }
-    {
-        match self.hand.place.take() {
-            Some(place) => {
-                self.answer(place.stop.asked, reply)?;
-                self.go_on(place.sweep, place.stop.next)?;
+        match self.apply(cause)? {
+            Some(paused) => {
+                self.hand.place = Some(Place::Stimulus(paused));
                 Ok(())
             }
-            None => Ok(()),
+            None => {
+                self.after_stimulus()?;
+                Ok(())
+            }
         }
     }
 
-    /// The sweep in hand goes on from this place, and behind it what is left of the turn, up to a question.
-    #[tactic(auto, unfolding(crate::specs::StandsFor::swept, crate::specs::StandsFor::rest, crate::specs::Turn::after_sweep))]
-    pub(crate) fn go_on(&mut self, sweep: Sweep, from: usize) -> Result<(), AllocError>
-        ensures kept { self.new ≡ record self.old { members = self.new.members; course = self.new.course; numbers = record self.old.numbers { next_run = self.new.numbers.next_run }; hand = record self.old.hand { place = self.new.hand.place; given = self.new.hand.given } } }
+    /// Steps 3 and 4, up to a question, and then the others.
+    #[tactic(auto, unfolding(crate::specs::StandsFor::paused, crate::specs::StandsFor::rest))]
+    pub(crate) fn after_stimulus(&mut self) -> Result<(), AllocError>
+        ensures kept { GoesOn self.old self.new }
         ensures rest { OnOk result ((older : List Order) →
-            sweeps sweep (vec_len self.old.members - from) from (shown self.old older) (after_sweep sweep)
-            ≡ rest self.new.hand.place (shown self.new older)) }
+            after_stimulus (shown self.old older) ≡ rest self.new.hand.place (shown self.new older)) }
     {
-        if let Some(stop) = self.sweep(&sweep, from)? {
-            self.hand.place = Some(Place { sweep, stop });
-            return Ok(());
-        }
-        match sweep {
-            Sweep::Time => self.end(),
-            _ => self.pass(),
+        self.tick();
+        let all = self.children.len();
+        match self.sweep_over(Sweep::Time, 0, all)? {
+            Some(paused) => {
+                self.hand.place = Some(Place::Pass(paused));
+                Ok(())
+            }
+            None => self.after_pass(),
         }
     }
 
-    /// Steps 5 to 8 of a turn: the links, the stop plan, the pools, and the halt.
+    /// Steps 5 to 8: the links, the stop plan, the pools, and the halt.
     #[tactic(auto, unfolding(crate::specs::StandsFor::rest))]
-    pub(crate) fn end(&mut self) -> Result<(), AllocError>
-        ensures kept { self.new ≡ record self.old { members = self.new.members; course = self.new.course; hand = record self.old.hand { place = self.new.hand.place; given = self.new.hand.given } } }
-        ensures rest { OnOk result ((older : List Order) → ends (shown self.old older) ≡ rest self.new.hand.place (shown self.new older)) }
+    pub(crate) fn after_pass(&mut self) -> Result<(), AllocError>
+        ensures kept { GoesOn self.old self.new }
+        ensures rest { OnOk result ((older : List Order) →
+            after_pass (shown self.old older) ≡ rest self.new.hand.place (shown self.new older)) }
     {
         self.serve_links();
         self.follow_plan()?;
@@ -71,4 +71,117 @@ impl Machine {
         self.hand.place = None;
         Ok(())
     }
+
+    /// Something followed the input of the turn in hand.
+    pub(crate) fn follow(&mut self, followed: Followed) -> Result<(), AllocError>
+        ensures kept { GoesOn self.old self.new }
+        ensures turn { OnOk result ((older : List Order) →
+            come (rest self.old.hand.place (shown self.old older)) followed
+            ≡ rest self.new.hand.place (shown self.new older)) }
+    {
+        match followed {
+            Followed::Answered(reply) => self.go_on_with(reply),
+            Followed::Failed(Failure::RefusesQuestion) => {
+                self.go_on_with(Reply::Refused(Text::fixed("failed")))
+            }
+            Followed::Failed(Failure::ChangesNothing | Failure::NeverFails) => Ok(()),
+        }
+    }
+
+    /// The turn in hand goes on with the answer of its question, if one stands.
+    fn go_on_with(&mut self, reply: Reply) -> Result<(), AllocError>
+        ensures kept { GoesOn self.old self.new }
+        ensures turn { OnOk result ((older : List Order) →
+            come (rest self.old.hand.place (shown self.old older)) (Followed.Answered reply)
+            ≡ rest self.new.hand.place (shown self.new older)) }
+    {
+        match self.hand.place.take() {
+            None => Ok(()),
+            Some(place) => {
+                self.go_on_from(place, reply)?;
+                Ok(())
+            }
+        }
+    }
+
+    /// The turn goes on from where it was left, with the answer of its question.
+    fn go_on_from(&mut self, place: Place, reply: Reply) -> Result<(), AllocError>
+        ensures kept { GoesOn self.old self.new }
+        ensures turn { OnOk result ((older : List Order) →
+            come (rest (Some place) (shown self.old older)) (Followed.Answered reply)
+            ≡ rest self.new.hand.place (shown self.new older)) }
+    {
+        match place {
+            Place::Stimulus(paused) => {
+                self.go_on_in_stimulus(paused, reply)?;
+                Ok(())
+            }
+            Place::Pass(paused) => {
+                self.go_on_in_pass(paused, reply)?;
+                Ok(())
+            }
+        }
+    }
+
+    /// Step 2 goes on with the answer of its question, and then the others.
+    #[tactic(auto, unfolding(crate::specs::StandsFor::paused, crate::specs::StandsFor::rest))]
+    fn go_on_in_stimulus(&mut self, paused: Paused, reply: Reply) -> Result<(), AllocError>
+        ensures kept { GoesOn self.old self.new }
+        ensures turn { OnOk result ((older : List Order) →
+            sweeps paused.sweep (paused.to - paused.stop.next) paused.stop.next
+            (answered paused.stop.asked.child paused.stop.asked.run reply (shown self.old older)) after_stimulus
+            ≡ rest self.new.hand.place (shown self.new older)) }
+    {
+        self.answer(paused.stop.asked, reply)?;
+        match self.sweep_over(paused.sweep, paused.stop.next, paused.to)? {
+            Some(paused) => {
+                self.hand.place = Some(Place::Stimulus(paused));
+                Ok(())
+            }
+            None => self.after_stimulus(),
+        }
+    }
+
+    /// Step 4 goes on with the answer of its question, and then the others.
+    #[tactic(auto, unfolding(crate::specs::StandsFor::paused, crate::specs::StandsFor::rest))]
+    fn go_on_in_pass(&mut self, paused: Paused, reply: Reply) -> Result<(), AllocError>
+        ensures kept { GoesOn self.old self.new }
+        ensures turn { OnOk result ((older : List Order) →
+            sweeps paused.sweep (paused.to - paused.stop.next) paused.stop.next
+            (answered paused.stop.asked.child paused.stop.asked.run reply (shown self.old older)) after_pass
+            ≡ rest self.new.hand.place (shown self.new older)) }
+    {
+        self.answer(paused.stop.asked, reply)?;
+        match self.sweep_over(paused.sweep, paused.stop.next, paused.to)? {
+            Some(paused) => {
+                self.hand.place = Some(Place::Pass(paused));
+                Ok(())
+            }
+            None => self.after_pass(),
+        }
+    }
+
+    /// Step 0: in the first turn, the event that the daemon runs. No pool is built yet.
+    fn announce(&mut self)
+        ensures kept { self.new ≡ self.old }
+        ensures announced { Makes announces self.old self.new }
+    {}
+
+    /// Step 3: the ticks of the clock. No pool is built yet.
+    fn tick(&mut self)
+        ensures kept { self.new ≡ self.old }
+        ensures ticked { Makes ticks self.old self.new }
+    {}
+
+    /// Step 5: the links. None is built yet.
+    fn serve_links(&mut self)
+        ensures kept { self.new ≡ self.old }
+        ensures served { Makes serves_links self.old self.new }
+    {}
+
+    /// Step 7: the pools hand out. None is built yet.
+    fn hand_out(&mut self)
+        ensures kept { self.new ≡ self.old }
+        ensures handed { Makes hands_out self.old self.new }
+    {}
 }

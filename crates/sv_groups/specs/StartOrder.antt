@@ -4,6 +4,7 @@ use Rattle.std.specs.List.{flat_map}
 use Rattle.sv_base.specs.declared.ids.ChildId.{ChildId}
 use Rattle.sv_base.specs.declared.spec.GroupSpec.{GroupSpec}
 use Rattle.sv_base.specs.declared.spec.Spec.{Spec}
+use Rattle.sv_groups.specs.declared.order.Span.{Span}
 
 -- all processes in start order: the list of groups joined
 abbrev pub processes : List GroupSpec → List Spec
@@ -38,6 +39,13 @@ first_members (g ∷ gs) = g.members
 -- the processes of the group at this place
 abbrev pub members_at : ℕ → List GroupSpec → List Spec
 members_at place groups = first_members (drop place groups)
+
+-- where the processes of the group at this place are
+abbrev pub span_of : ℕ → List GroupSpec → Span
+span_of place groups = record {
+  from = first_of place groups;
+  to = first_of place groups + length (members_at place groups);
+}
 
 -- a group stops in the reverse of the order in which it starts
 abbrev pub stop_order : ℕ → List GroupSpec → List ChildId

@@ -13,4 +13,4 @@ mod tests;
 
 pub use fault::GroupFault;
 pub use lookup::Found;
-pub use order::Roster;
+pub use order::{Roster, Span};

@@ -1,7 +1,7 @@
 //! The roster of a daemon: its groups and processes in start order.
 ghost use Rattle.std.specs.Prelude.{◌≡◌, ◌+◌, ◌≤◌, ◌<◌, ◌^◌, ◌++◌, IfOk, IsTrue, MatchOption, None, OnOk, Some, length, slice_get};
 ghost use Rattle.sv_base.specs.Roster.{is_roster};
-ghost use Rattle.sv_groups.specs.StartOrder.{first_members, ids_from, pairs_of, processes, start_order, stop_order};
+ghost use Rattle.sv_groups.specs.StartOrder.{first_members, ids_from, pairs_of, processes, span_of, start_order, stop_order};
 
 use crate::seat::{Seat, empty_seats, refill};
 use std::alloc::{AllocError, Global};
@@ -34,6 +34,13 @@ impl Model for Roster {
         IsTrue (is_roster r.groups.items) × (r.seats.items ≡ seats_from 0 r.groups.items) };
 }
 
+/// Processes side by side in the start order: from the one place to before the other, counted from 0.
+#[derive(Clone, Copy, Debug, PartialEq, Eq)]
+pub struct Span {
+    pub from: usize,
+    pub to: usize,
+}
+
 impl Roster {
     /// The groups of a configuration.
     #[tactic(auto, using(crate::proofs::Processes::roster_fits))]
@@ -60,6 +67,13 @@ impl Roster {
         self.groups.as_slice()
     }
 
+    /// How many processes there are.
+    pub fn count(&self) -> usize
+        ensures { result ≡ length (processes self.now) }
+    {
+        count(self.groups())
+    }
+
     /// The group and the process of a place in the start order, counted from 0; `None` where there are not so many
     /// processes. Takes constant time.
     pub fn process(&self, place: usize) -> Option<(&GroupSpec, &Spec)>
@@ -73,6 +87,22 @@ impl Roster {
         let group = &self.groups[seat.group];
         let process = &group.members.as_slice()[seat.member];
         Some((group, process))
+    }
+
+    /// The places of the processes of the group at this place of the start order of groups, counted from 0; none where
+    /// there are not so many groups.
+    #[tactic(auto, using(crate::proofs::Processes::first_within, crate::proofs::Processes::group_within))]
+    pub fn span(&self, group: usize) -> Span
+        ensures { result ≡ span_of group self.now }
+    {
+        let groups = self.groups();
+        if group >= groups.len() {
+            let to = count(groups);
+            return Span { from: to, to };
+        }
+        let from = count(&groups[..group]);
+        let to = from + first_members(&groups[group..]).len();
+        Span { from, to }
     }
 
     /// All processes in start order.

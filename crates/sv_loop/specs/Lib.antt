@@ -5,5 +5,4 @@ pub mod Judging
 pub mod Reading
 pub mod Replaying
 pub mod Telling
-pub mod Paths
 pub mod WholeJournal

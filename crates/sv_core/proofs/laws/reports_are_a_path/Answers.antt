@@ -1,10 +1,8 @@
-use Rattle.sv_core.proofs.Apart.{only_in_roster}
+use Rattle.std.proofs.Common.{ap, sym, ◌∙◌}
+use Rattle.sv_base.specs.Roster.{is_roster}
 use Rattle.sv_core.proofs.Reported.{path}
 use Rattle.sv_core.proofs.laws.reports_are_a_path.Goals as goal
 
-pub returns-clause-only_one : goal.returns-clause-only_one
-returns-clause-only_one c = path
-
-pub returns-clause-roster : goal.returns-clause-roster
-returns-clause-roster c = λ config sizes host inputs place spec roster is.
-    path config sizes host inputs place spec is (only_in_roster config.groups place spec roster is)
+pub returns : goal.returns
+returns c = λ sizes host inputs.
+    path c.args.config.now sizes host inputs (ap is_roster (sym c.as_slice-groups.ensures.value) ∙ c.as_slice-groups.ensures.roster)

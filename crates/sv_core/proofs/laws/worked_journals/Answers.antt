@@ -29,3 +29,7 @@ returns-clause-spawn_that_fails c = λ rest. refl
 pub returns-clause-groups_stop_one_by_one : goal.returns-clause-groups_stop_one_by_one
 unfolding asks
 returns-clause-groups_stop_one_by_one c = λ rest. refl
+
+pub returns-clause-no_run_number_left : goal.returns-clause-no_run_number_left
+unfolding asks
+returns-clause-no_run_number_left c = λ rest. refl

@@ -1,4 +1,5 @@
 use Rattle.std.proofs.Common.{◌≡◌, List}
+use Rattle.sv_core.specs.Frames.{MovesPlan}
 use Rattle.sv_core.specs.Shutdown.{moves_on}
 use Rattle.sv_core.specs.StandsFor.{shown}
 use Rattle.sv_out.specs.declared.order.Order.{Order}
@@ -6,7 +7,7 @@ use Rattle.sv_core.proofs.machine.Machine.follow_plan.Given as goal
 
 abbrev pub invariant-loop-self : goal.invariant-loop-self
 invariant-loop-self l = record {
-  kept : l.self ≡ record l.initial.self { members = l.self.members; course = l.self.course; hand = record l.initial.self.hand { given = l.self.hand.given } };
+  kept : MovesPlan l.initial.self l.self;
   goes : (older : List Order) →
       moves_on l.initial.self.course.left (shown l.initial.self older) ≡ moves_on l.self.course.left (shown l.self older);
 }

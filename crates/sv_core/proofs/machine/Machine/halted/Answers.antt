@@ -1,7 +1,6 @@
-use Rattle.std.proofs.Common.{sym, ap}
-use Rattle.sv_core.proofs.Standing.{now_is}
-use Rattle.sv_core.specs.World.{World}
+use Rattle.std.proofs.Common.{◌∙◌}
+use Rattle.sv_core.proofs.Standing.{halted_is}
 use Rattle.sv_core.proofs.machine.Machine.halted.Goals as goal
 
-pub returns : goal.returns
-returns c = λ m s. sym (ap (λ (w : World). w.course.halted) (now_is c.args.self.now m s))
+pub returns-clause-halted : goal.returns-clause-halted
+returns-clause-halted c = λ m s. c.has_halted.ensures ∙ halted_is c.args.self.now m s

@@ -1,8 +1,9 @@
-use Rattle.sv_core.proofs.Standing.{step_stands, step_orders}
+use Rattle.sv_core.proofs.Standing.{fitting_accepted, step_stands, step_orders}
 use Rattle.sv_core.proofs.machine.Machine.step.Goals as goal
 
 pub returns-in-Ok-clause-next : goal.returns-in-Ok-clause-next
-returns-in-Ok-clause-next c = λ m s. step_stands c.args.self.now _ m c.args.input _ s (c.requires m s) c.in-Ok.ensures
+returns-in-Ok-clause-next c = λ m s.
+    step_stands c.args.self.now _ m c.args.input _ s (fitting_accepted c.args.self.now m c.args.input s c.requires) c.in-Ok.ensures
 
 pub returns-in-Ok-clause-orders : goal.returns-in-Ok-clause-orders
 returns-in-Ok-clause-orders c = λ m s. step_orders c.args.self.now _ m c.args.input _ s c.in-Ok.ensures

@@ -5,10 +5,10 @@ use Rattle.sv_core.proofs.machine.Machine.stop_all.Goals as goal
 
 pub loop-left-preserved : goal.loop-left-preserved
 loop-left-preserved c = record {
-  count = omega (arith, c.in_ok-stop.ensures.count, c.loop-left.invariant.count);
+  most = omega (arith, c.loop-left.invariant.most);
   kept = search rules;
   goes = λ older.
       c.loop-left.invariant.goes older
-      ∙ stops_next c.args.target.now c.loop-left.left (shown c.loop-left.self older) (shown c.stop.new.self older) (omega arith)
+      ∙ stops_next c.args.span.from c.loop-left.left (shown c.loop-left.self older) (shown c.stop.new.self older) (omega arith)
       (c.in_ok-stop.ensures.stops older);
 }

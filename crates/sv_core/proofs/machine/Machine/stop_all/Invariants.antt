@@ -1,15 +1,17 @@
-use Rattle.std.proofs.Common.{◌≡◌, List, vec_len}
+use Rattle.std.proofs.Common.{◌≡◌, ◌≤◌, ◌-◌, List}
+use Rattle.sv_core.specs.Frames.{MovesChildren}
 use Rattle.sv_core.specs.StandsFor.{shown}
-use Rattle.sv_core.specs.Stops.{stops_first}
+use Rattle.sv_core.specs.Stops.{stops_from}
 use Rattle.sv_out.specs.declared.order.Order.{Order}
 use Rattle.sv_core.proofs.machine.Machine.stop_all.Given as goal
 
 abbrev pub invariant-loop-left : goal.invariant-loop-left
 invariant-loop-left l = record {
-  count : vec_len l.self.members ≡ vec_len l.initial.self.members;
-  kept : l.self ≡ record l.initial.self { members = l.self.members; hand = record l.initial.self.hand { given = l.self.hand.given } };
+  most : l.left ≤ l.span.to - l.span.from;
+  kept : MovesChildren l.initial.self l.self;
   goes : (older : List Order) →
-      stops_first l.target (vec_len l.initial.self.members) (shown l.initial.self older) ≡ stops_first l.target l.left (shown l.self older);
+      stops_from l.span.from (l.span.to - l.span.from) (shown l.initial.self older)
+      ≡ stops_from l.span.from l.left (shown l.self older);
 }
 
 abbrev pub decreases-loop-left : goal.decreases-loop-left

@@ -1,4 +1,5 @@
-use Rattle.std.proofs.Common.{◌≡◌, ◌-◌, List, vec_len}
+use Rattle.std.proofs.Common.{◌≡◌, ◌-◌, List}
+use Rattle.sv_core.specs.Frames.{StartsRuns}
 use Rattle.sv_core.specs.StandsFor.{shown}
 use Rattle.sv_core.specs.Sweeps.{Turn, sweeps}
 use Rattle.sv_core.specs.World.{World}
@@ -7,9 +8,8 @@ use Rattle.sv_core.proofs.machine.Machine.sweep.Given as goal
 
 abbrev pub invariant-loop-place : goal.invariant-loop-place
 invariant-loop-place l = record {
-  count : vec_len l.self.members ≡ vec_len l.initial.self.members;
-  kept : l.self ≡ record l.initial.self { members = l.self.members; numbers = record l.initial.self.numbers { next_run = l.self.numbers.next_run }; hand = record l.initial.self.hand { given = l.self.hand.given } };
+  kept : StartsRuns l.initial.self l.self;
   goes : (older : List Order) (k : World → Turn) →
-      sweeps l.sweep (vec_len l.initial.self.members - l.fn.from) l.fn.from (shown l.initial.self older) k
-      ≡ sweeps l.sweep (vec_len l.initial.self.members - l.place) l.place (shown l.self older) k;
+      sweeps l.sweep (l.to - l.fn.from) l.fn.from (shown l.initial.self older) k
+      ≡ sweeps l.sweep (l.to - l.place) l.place (shown l.self older) k;
 }

@@ -1,0 +1,58 @@
+-- What a step of a turn may change; all else is as it was. And what it makes of the world that the machine shows.
+use Rattle.std.specs.Prelude.{◌≡◌, List}
+use Rattle.sv_core.specs.StandsFor.{shown}
+use Rattle.sv_core.specs.World.{World}
+use Rattle.sv_core.specs.declared.machine.Machine.{Machine}
+use Rattle.sv_out.specs.declared.order.Order.{Order}
+
+-- orders are given
+abbrev pub GivesOrders : Machine → Machine → Type 0
+GivesOrders old new = new ≡ record old { hand = record old.hand { given = new.hand.given } }
+
+-- children move as well
+abbrev pub MovesChildren : Machine → Machine → Type 0
+MovesChildren old new =
+    new ≡ record old { children = new.children; hand = record old.hand { given = new.hand.given } }
+
+-- and runs are numbered
+abbrev pub StartsRuns : Machine → Machine → Type 0
+StartsRuns old new = new ≡ record old {
+  children = new.children;
+  numbers = record old.numbers { next_run = new.numbers.next_run };
+  hand = record old.hand { given = new.hand.given };
+}
+
+-- the daemon's course changes, and orders are given
+abbrev pub ChangesCourse : Machine → Machine → Type 0
+ChangesCourse old new =
+    new ≡ record old { course = new.course; hand = record old.hand { given = new.hand.given } }
+
+-- children move, and the daemon's course changes
+abbrev pub MovesPlan : Machine → Machine → Type 0
+MovesPlan old new = new ≡ record old {
+  children = new.children;
+  course = new.course;
+  hand = record old.hand { given = new.hand.given };
+}
+
+-- all that a step of a turn may change
+abbrev pub MovesOn : Machine → Machine → Type 0
+MovesOn old new = new ≡ record old {
+  children = new.children;
+  course = new.course;
+  numbers = record old.numbers { next_run = new.numbers.next_run };
+  hand = record old.hand { given = new.hand.given };
+}
+
+-- all that a turn may change: also its moment and where it was left
+abbrev pub GoesOn : Machine → Machine → Type 0
+GoesOn old new = new ≡ record old {
+  children = new.children;
+  course = new.course;
+  numbers = record old.numbers { next_run = new.numbers.next_run };
+  hand = new.hand;
+}
+
+-- a step makes of the world that was shown the world that is shown now
+abbrev pub Makes : (World → World) → Machine → Machine → Type 0
+Makes f old new = (older : List Order) → shown new older ≡ f (shown old older)
