@@ -9,3 +9,4 @@ pub mod Steps
 pub mod HeadReading
 pub mod AskReading
 pub mod Credentials
+pub mod ReplyReading

@@ -19,6 +19,10 @@ field_limit = 64
 abbrev pub body_limit : ℕ
 body_limit = 1048576
 
+-- the most bytes of the body of a reply
+abbrev pub reply_limit : ℕ
+reply_limit = 67108864
+
 -- the values of the fields of this name
 abbrev pub values_of : List ℕ → List Field → List (List ℕ)
 values_of name fields = map (λ field. field.1) (filter (is_named name) fields)

@@ -4,3 +4,6 @@ pub mod ReaderPlaces
 pub mod AsksOf
 pub mod ReplyText
 pub mod RequestStream
+pub mod RequestText
+pub mod ReplyStream
+pub mod ReplyPlaces

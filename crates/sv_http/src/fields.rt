@@ -5,7 +5,7 @@ ghost use Rattle.std.specs.List.{list_all};
 ghost use Rattle.std.specs.Str.{str_eq_ignore_ascii_case};
 ghost use Rattle.httparse.specs.Borrowed.{header_parts};
 ghost use Rattle.sv_http.specs.Authorization.{is_named, is_let_in};
-ghost use Rattle.sv_http.specs.AskTable.{values_of, has_field, says, closes, sized, number_of, is_length, body_limit};
+ghost use Rattle.sv_http.specs.AskTable.{values_of, has_field, says, closes, sized, number_of, is_length, reply_limit};
 
 use crate::guard::Guard;
 use crate::head::Ruling;
@@ -15,6 +15,9 @@ use std::alloc::{AllocError, Global};
 
 /// The most bytes of a body.
 const BODY_LIMIT: u64 = 1_048_576;
+
+/// The most bytes of the body of a reply.
+pub(crate) const REPLY_LIMIT: u64 = 67_108_864;
 
 fn is_named(field: &Header<'_>, name: &str) -> bool
     ensures { result ≡ is_named name.now (header_parts field.now) }
@@ -86,7 +89,10 @@ pub(crate) fn closes(minor: u8, fields: &[Header<'_>]) -> bool
 }
 
 /// The value of the first field of this name, and the fields behind it.
-fn first_value<'a, 'b>(fields: &'a [Header<'b>], name: &str) -> Option<(&'b [u8], &'a [Header<'b>])>
+pub(crate) fn first_value<'a, 'b>(
+    fields: &'a [Header<'b>],
+    name: &str,
+) -> Option<(&'b [u8], &'a [Header<'b>])>
     ensures { MatchOption result (values_of name.now (map header_parts fields.now) ≡ []) (λ first. values_of name.now (map header_parts fields.now) ≡ first.0.now ∷ values_of name.now (map header_parts first.1.now)) }
 {
     let mut rest = fields;
@@ -119,9 +125,9 @@ pub(crate) fn sized(fields: &[Header<'_>], close: bool) -> Ruling
     }
 }
 
-/// The length that 1 to 19 digits write, or the limit and one more where it is above that.
-fn length_of(value: &[u8]) -> Option<u64>
-    ensures length { MatchOption result (is_length value.now ≡ false) (λ length. (is_length value.now ≡ true) × (length ≡ min (number_of 0 value.now) (body_limit + 1))) }
+/// The length that 1 to 19 digits write, or the limit of replies and one more where it is above that.
+pub(crate) fn length_of(value: &[u8]) -> Option<u64>
+    ensures length { MatchOption result (is_length value.now ≡ false) (λ length. (is_length value.now ≡ true) × (length ≡ min (number_of 0 value.now) (reply_limit + 1))) }
 {
     if is_length(value) {
         Some(number_of(value))
@@ -144,7 +150,7 @@ fn are_digits(value: &[u8]) -> bool
 
 #[tactic(auto, using(crate::proofs::Lengths::capped_more))]
 fn number_of(digits: &[u8]) -> u64
-    ensures { result ≡ min (number_of 0 digits.now) (body_limit + 1) }
+    ensures { result ≡ min (number_of 0 digits.now) (reply_limit + 1) }
 {
     let mut number = 0u64;
     let mut rest = digits;
@@ -157,8 +163,8 @@ fn number_of(digits: &[u8]) -> u64
 
 /// The number with a digit behind it.
 fn with_digit(number: u64, digit: u8) -> u64
-    requires { number ≤ body_limit + 1 }
-    ensures { result ≡ min (10 * number + (digit - 48)) (body_limit + 1) }
+    requires { number ≤ reply_limit + 1 }
+    ensures { result ≡ min (10 * number + (digit - 48)) (reply_limit + 1) }
 {
-    (number * 10 + u64::from(digit.saturating_sub(b'0'))).min(BODY_LIMIT + 1)
+    (number * 10 + u64::from(digit.saturating_sub(b'0'))).min(REPLY_LIMIT + 1)
 }

@@ -35,7 +35,7 @@ fn put_status(text: &mut Vec<u8>, status: Status) -> Result<(), AllocError>
 }
 
 #[tactic(auto, using(crate::proofs::Replies::three_parts))]
-fn put_length(text: &mut Vec<u8>, length: u64) -> Result<(), AllocError>
+pub(crate) fn put_length(text: &mut Vec<u8>, length: u64) -> Result<(), AllocError>
     ensures { OnOk result (text.new.items ≡ text.old.items ++ length_line length) }
 {
     text.extend_from_slice(b"Content-Length: ")?;
