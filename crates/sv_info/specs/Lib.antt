@@ -1,0 +1,6 @@
+pub mod Dates
+pub mod Examples
+pub mod Faults
+pub mod Info
+pub mod Members
+pub mod Times
