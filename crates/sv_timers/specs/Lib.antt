@@ -1,0 +1,3 @@
+pub mod DeadlineTree
+pub mod Deadlines
+pub mod Looks
