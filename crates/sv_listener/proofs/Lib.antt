@@ -1,0 +1,3 @@
+mod Cuts
+mod Hearings
+mod Numbers

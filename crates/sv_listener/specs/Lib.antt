@@ -1,0 +1,9 @@
+pub mod FaultNumbers
+pub mod FirstBounds
+pub mod HeaderCalls
+pub mod HeaderLine
+pub mod Hearing
+pub mod Limits
+pub mod Reading
+pub mod SidePlaces
+pub mod Takes
