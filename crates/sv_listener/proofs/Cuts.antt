@@ -123,6 +123,7 @@ cuts stop (byte ∷ bytes) front rest is = by_test (byte == stop) refl (λ f r e
           again = λ more. cut_other stop byte (bytes ++ more) other ∙ ap (λ cut. option_map (λ parts. (byte ∷ parts.0, parts.1)) cut) (later.again more)
               ∙ ap (λ (f : List ℕ). Some (f, parts.1 ++ more)) pair.0 ∙ ap (λ (r : List ℕ). Some (front, r ++ more)) pair.1;
         }
+
     by_test : (test : Bool) → (byte == stop) ≡ test
         → ((f r : List ℕ) → ◌≡◌ {A = Option (List ℕ × List ℕ)} (cut_at stop bytes) (Some (f, r)) → Cuts stop bytes f r)
         → ◌≡◌ {A = Option (List ℕ × List ℕ)} (if test then Some ([], bytes) else option_map (λ parts. (byte ∷ parts.0, parts.1)) (cut_at stop bytes)) (Some (front, rest))

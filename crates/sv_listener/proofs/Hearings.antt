@@ -154,9 +154,11 @@ first_within bytes event count is = by_cut (cut_at 10 bytes) refl is
     by_long false line after parts is =
         let within = header_within (length line + 1) (header_of line) after event count is in
         (omega (arith, within.0), omega (arith, within.1, ap length parts, length-append line (10 ∷ after)))
+
     by_none : (long : Bool) → (if long then Fault BadHeader else Open) ≡ Whole event count → (1 ≤ count) × (count ≤ length bytes)
     by_none true is = absurd (cc)
     by_none false is = absurd (cc)
+
     by_cut : (cut : Option (List ℕ × List ℕ)) → cut_at 10 bytes ≡ cut → by_line bytes cut ≡ Whole event count → (1 ≤ count) × (count ≤ length bytes)
     by_cut None is_cut is = by_none (nat_lt header_limit (length bytes)) is
     by_cut (Some parts) is_cut is =
@@ -240,9 +242,9 @@ fed_none : (held piece rest : List ℕ) (fault : Option HeardFault) (heard : Lis
     → Takes (held ++ piece) [] heard rest fault → GoesOn held stream events → Stands fault rest (stream ++ piece) (events ++ heard)
 fed_none held piece rest fault heard stream events takes goes =
     takes (stream ++ piece) events (λ more.
-      ap hearing_of (append_assoc stream piece more) ∙ goes (piece ++ more)
-      ∙ ap (λ b. with_events events (hearing_of b)) (sym (append_assoc held piece more))
-      ∙ ap (λ e. with_events e (hearing_of ((held ++ piece) ++ more))) (sym (append-nil events)))
+    ap hearing_of (append_assoc stream piece more) ∙ goes (piece ++ more)
+    ∙ ap (λ b. with_events events (hearing_of b)) (sym (append_assoc held piece more))
+    ∙ ap (λ e. with_events e (hearing_of ((held ++ piece) ++ more))) (sym (append-nil events)))
 
 pub fed : (held piece bytes rest left : List ℕ) (before fault : Option HeardFault) (old heard : List Heard) (stream : List ℕ) (events : List Heard)
     → is_some before ≡ false → bytes ≡ held ++ piece → old ≡ [] → Takes bytes old heard left fault → rest ≡ left → Stands before held stream events

@@ -56,9 +56,7 @@ fn with_body(
 ) -> Result<First, AllocError>
     requires some { 1 ≤ before }
     requires room { before + length after.now < 2 ^ 64 }
-    ensures first {
-        IfOk result (λ first. first ≡ with_header before (Some (said_of header.now)) after.now)
-    }
+    ensures first { IfOk result (λ first. first ≡ with_header before (Some (said_of header.now)) after.now) }
     ensures within { IfOk result (λ first. IsWithin first (before + length after.now)) }
 {
     let size = match header.size {

@@ -70,10 +70,8 @@ fn named<'a>(pool: &'a str, serial: u64, poolserial: u64, bytes: &[u8]) -> Optio
 
 /// What follows this word.
 fn after<'a>(word: &[u8], bytes: &'a [u8]) -> Option<&'a [u8]>
-    ensures {
-        MatchOption result (rest_after word.now bytes.now ≡ None)
-        (λ rest. rest_after word.now bytes.now ≡ Some rest.now)
-    }
+    ensures { MatchOption result (rest_after word.now bytes.now ≡ None)
+        (λ rest. rest_after word.now bytes.now ≡ Some rest.now) }
 {
     let mut wanted = word;
     let mut rest = bytes;
@@ -89,13 +87,9 @@ fn after<'a>(word: &[u8], bytes: &'a [u8]) -> Option<&'a [u8]>
 
 /// The bytes before the first one like this, and those after it.
 pub(crate) fn cut(stop: u8, bytes: &[u8]) -> Option<(&[u8], &[u8])>
-    ensures size {
-        IfSome result (λ parts. length parts.0.now + 1 + length parts.1.now ≡ length bytes.now)
-    }
-    ensures cut {
-        MatchOption result (cut_at stop bytes.now ≡ None)
-        (λ parts. cut_at stop bytes.now ≡ Some (parts.0.now, parts.1.now))
-    }
+    ensures size { IfSome result (λ parts. length parts.0.now + 1 + length parts.1.now ≡ length bytes.now) }
+    ensures cut { MatchOption result (cut_at stop bytes.now ≡ None)
+        (λ parts. cut_at stop bytes.now ≡ Some (parts.0.now, parts.1.now)) }
 {
     let mut rest = bytes;
     let mut count = 0usize;
@@ -111,10 +105,8 @@ pub(crate) fn cut(stop: u8, bytes: &[u8]) -> Option<(&[u8], &[u8])>
 
 /// A text up to a space, and what follows that.
 fn text(bytes: &[u8]) -> Option<(&str, &[u8])>
-    ensures {
-        MatchOption result (text_at bytes.now ≡ None)
-        (λ parts. text_at bytes.now ≡ Some (parts.0.now, parts.1.now))
-    }
+    ensures { MatchOption result (text_at bytes.now ≡ None)
+        (λ parts. text_at bytes.now ≡ Some (parts.0.now, parts.1.now)) }
 {
     let (word, rest) = cut(b' ', bytes)?;
     match str::from_utf8(word) {
@@ -125,10 +117,8 @@ fn text(bytes: &[u8]) -> Option<(&str, &[u8])>
 
 /// A number below 2^64 up to a space, and what follows that.
 fn number(bytes: &[u8]) -> Option<(u64, &[u8])>
-    ensures {
-        MatchOption result (number_at bytes.now ≡ None)
-        (λ parts. number_at bytes.now ≡ Some (parts.0, parts.1.now))
-    }
+    ensures { MatchOption result (number_at bytes.now ≡ None)
+        (λ parts. number_at bytes.now ≡ Some (parts.0, parts.1.now)) }
 {
     let (word, rest) = text(bytes)?;
     let value = small_number(word)?;
@@ -136,10 +126,8 @@ fn number(bytes: &[u8]) -> Option<(u64, &[u8])>
 }
 
 fn small_number(digits: &str) -> Option<u64>
-    ensures {
-        MatchOption result (small_number digits.now ≡ None)
-        (λ value. small_number digits.now ≡ Some value)
-    }
+    ensures { MatchOption result (small_number digits.now ≡ None)
+        (λ value. small_number digits.now ≡ Some value) }
 {
     if !is_number(digits) {
         return None;
@@ -152,10 +140,8 @@ fn small_number(digits: &str) -> Option<u64>
 
 /// The type of an event by its name up to a space, and what follows that.
 fn event_type(bytes: &[u8]) -> Option<(Kind, &[u8])>
-    ensures {
-        MatchOption result (kind_at bytes.now ≡ None)
-        (λ parts. kind_at bytes.now ≡ Some (parts.0, parts.1.now))
-    }
+    ensures { MatchOption result (kind_at bytes.now ≡ None)
+        (λ parts. kind_at bytes.now ≡ Some (parts.0, parts.1.now)) }
 {
     let (name, rest) = text(bytes)?;
     let kind = kind_of(name)?;
@@ -164,9 +150,7 @@ fn event_type(bytes: &[u8]) -> Option<(Kind, &[u8])>
 
 /// The number of a body's bytes, in digits.
 fn body_size(bytes: &[u8]) -> Option<Size>
-    ensures {
-        MatchOption result (size_at bytes.now ≡ None) (λ size. size_at bytes.now ≡ Some size)
-    }
+    ensures { MatchOption result (size_at bytes.now ≡ None) (λ size. size_at bytes.now ≡ Some size) }
 {
     let Ok(digits) = str::from_utf8(bytes) else {
         return None;

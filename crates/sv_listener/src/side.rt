@@ -82,16 +82,10 @@ struct Taken {
 }
 
 /// Takes whole events from the front of the bytes. At a fault all bytes are done with.
-fn take_events(
-    alloc: Global,
-    bytes: &[u8],
-    events: &mut Vec<Heard>,
-) -> Result<Taken, AllocError>
+fn take_events(alloc: Global, bytes: &[u8], events: &mut Vec<Heard>) -> Result<Taken, AllocError>
     ensures count { IfOk result (λ taken. taken.count ≤ length bytes.now) }
-    ensures takes {
-        IfOk result (λ taken. Takes bytes.now events.old.items events.new.items
-        (drop taken.count bytes.now) taken.fault)
-    }
+    ensures takes { IfOk result (λ taken. Takes bytes.now events.old.items events.new.items
+        (drop taken.count bytes.now) taken.fault) }
 {
     let mut count = 0usize;
     'events: loop {

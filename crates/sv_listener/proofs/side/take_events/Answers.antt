@@ -10,8 +10,7 @@ use Rattle.sv_listener.proofs.side.take_events.Goals as goal
 pub returns-in-Fault-clause-takes : goal.returns-in-Fault-clause-takes
 returns-in-Fault-clause-takes c = λ stream earlier goes.
     let rest : List ℕ = drop c.events.count c.args.bytes.now in
-    let is : first_of rest ≡ Fault c.in-Fault.fault = ap first_of (sym c.split_at.ensures.back) ∙ sym c.in_ok-first_of.ensures.first ∙ c.in-Fault.is in
-    (
+    let is : first_of rest ≡ Fault c.in-Fault.fault = ap first_of (sym c.split_at.ensures.back) ∙ sym c.in_ok-first_of.ensures.first ∙ c.in-Fault.is in (
       goes_fault rest stream (earlier ++ c.events.events.items) c.in-Fault.fault (c.events.invariant.takes stream earlier goes) is,
       drop_of_length-le c.args.bytes.now (omega arith),
     )
