@@ -1,0 +1,134 @@
+//! Connections over TCP and Unix sockets.
+ghost use Rattle.std.specs.Prelude.{◌≡◌, None};
+ghost use Rattle.std.specs.Io.{ReadsAtMost, WritesAtMost};
+
+use std::alloc::{AllocError, Global};
+use std::io;
+use std::io::{ErrorKind, Read, Write};
+use std::net::{Net, TcpStream};
+use std::os::unix::net::UnixStream;
+use sv_base::Place;
+use sv_out::failed::Failed;
+use sv_out::{Dial, DialFault, Link};
+
+/// The two kinds of sockets.
+#[derive(Drop)]
+enum Socket<S> {
+    Inet(S),
+    Unix(UnixStream),
+}
+
+/// A connection over a socket. It counts each error, and each write that takes nothing, as a fault, and tells nothing of
+/// the content.
+#[derive(Drop)]
+pub struct OsLink<S> {
+    socket: Socket<S>,
+    faults: u64,
+}
+
+impl<S: Read + Write> OsLink<S> {
+    fn take(&mut self, into: &mut [u8]) -> io::Result<usize>
+        ensures bound { ReadsAtMost result into.new }
+        ensures faults { self.new.faults ≡ self.old.faults }
+    {
+        match &mut self.socket {
+            Socket::Inet(stream) => stream.read(into),
+            Socket::Unix(stream) => stream.read(into),
+        }
+    }
+
+    fn give(&mut self, piece: &[u8]) -> io::Result<usize>
+        ensures bound { WritesAtMost result piece.now }
+        ensures faults { self.new.faults ≡ self.old.faults }
+    {
+        match &mut self.socket {
+            Socket::Inet(stream) => stream.write(piece),
+            Socket::Unix(stream) => stream.write(piece),
+        }
+    }
+}
+
+impl<S: Read + Write> Link for OsLink<S> {
+    ghost told = { λ _. None };
+
+    ghost faults = { λ s. s.faults };
+
+    fn read(&mut self, into: &mut [u8]) -> Result<usize, Failed> {
+        match self.take(into) {
+            Ok(count) => Ok(count),
+            Err(_) => {
+                self.faults = self.faults.saturating_add(1);
+                Err(Failed)
+            }
+        }
+    }
+
+    fn write(&mut self, piece: &[u8]) -> Result<usize, Failed> {
+        if piece.is_empty() {
+            return Ok(0);
+        }
+        match self.give(piece) {
+            Ok(count) if count > 0 => Ok(count),
+            _ => {
+                self.faults = self.faults.saturating_add(1);
+                Err(Failed)
+            }
+        }
+    }
+}
+
+/// A dial over TCP and Unix sockets. It counts each connection that can't be made, and each link with faults that it
+/// takes back. A place without a host is this machine.
+#[derive(Drop)]
+pub struct OsDial<'a, R> {
+    net: &'a R,
+    faults: u64,
+}
+
+impl<'a, R: Net> OsDial<'a, R> {
+    /// A dial that has not failed yet.
+    pub fn new(net: &'a R) -> OsDial<'a, R>
+        ensures { result.faults ≡ 0 }
+    {
+        OsDial { net, faults: 0 }
+    }
+
+    fn open(&self, place: &Place) -> io::Result<Socket<R::Stream>> {
+        match place {
+            Place::Inet(host, port) => {
+                let host = match host.as_str() {
+                    "" => "localhost",
+                    host => host,
+                };
+                Ok(Socket::Inet(TcpStream::connect(self.net, (host, *port))?))
+            }
+            Place::Unix(path) => Ok(Socket::Unix(UnixStream::connect(self.net, path.as_str())?)),
+        }
+    }
+}
+
+impl<R: Net> Dial for OsDial<'_, R> {
+    type Link = OsLink<R::Stream>;
+
+    ghost told = { λ _. None };
+
+    ghost faults = { λ s. s.faults };
+
+    fn connect(&mut self, _alloc: Global, place: &Place) -> Result<OsLink<R::Stream>, DialFault> {
+        match self.open(place) {
+            Ok(socket) => Ok(OsLink { socket, faults: 0 }),
+            Err(error) if error.kind() == ErrorKind::OutOfMemory => Err(DialFault::OutOfMemory),
+            Err(_) => {
+                self.faults = self.faults.saturating_add(1);
+                Err(DialFault::Failed)
+            }
+        }
+    }
+
+    fn close(&mut self, _alloc: Global, link: OsLink<R::Stream>) -> Result<(), AllocError> {
+        if 0 < link.faults {
+            self.faults = self.faults.saturating_add(1);
+        }
+        Ok(())
+    }
+}
