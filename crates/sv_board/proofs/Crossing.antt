@@ -15,7 +15,8 @@ use Rattle.sv_board.specs.contracts.shown.Shown as Shown
 -- what is shown is only looked at, so each thread may; the other parts are numbers and a mark without bytes
 pub board_reader_send : IsSend BoardReader.the_row
 board_reader_send =
-    recorded_send BoardReader.the_field.row _ _ BoardReader.the_type.to_one (struct_send (shape BoardReader.the_type)
-      (end.the_field_send Shown.the_row Role.the_row Rule.the_row Heap.the_row Rules.ghosts Allocates.ghosts
-        (search sendable depth 12) (search (shown.the_field_sync, sendable) depth 20) (search sendable depth 12) frees,
-      (search sendable, (search sendable, (search sendable depth 40, tt)))))
+    recorded_send BoardReader.the_field.row _ _ BoardReader.the_type.to_one (struct_send (shape BoardReader.the_type) (
+      end.the_field_send Shown.the_row Role.the_row Rule.the_row Heap.the_row Rules.ghosts Allocates.ghosts
+          (search sendable depth 12) (search (shown.the_field_sync, sendable) depth 20) (search sendable depth 12) frees,
+      (search sendable, (search sendable, (search sendable depth 40, tt))),
+    ))

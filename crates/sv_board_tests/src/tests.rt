@@ -1,10 +1,10 @@
 //! Reports, reads and tickets that were worked out by hand.
 
 use std::alloc::AllocError;
-use sv_base::state::State;
-use sv_base::text::Text;
 use std::sync::Wait;
 use std::thread;
+use sv_base::state::State;
+use sv_base::text::Text;
 use sv_board::{BoardReader, Report, Row, board};
 
 /// A report of a process of its own group.
