@@ -1,0 +1,4 @@
+pub mod FoundLaws
+pub mod MethodLaws
+pub mod ParamLaws
+pub mod SpanLaws

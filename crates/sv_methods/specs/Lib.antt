@@ -1,0 +1,9 @@
+pub mod Acts
+pub mod Logs
+pub mod MethodNames
+pub mod MethodTable
+pub mod Outcomes
+pub mod Params
+pub mod Processes
+pub mod Spellings
+pub mod Waits

@@ -1,0 +1,105 @@
+-- Reading and clearing logs.
+use Rattle.std.specs.Prelude.{ℕ, ℤ, pos, ◌+◌, List, [], ◌∷◌, ◌++◌, Bool, true, false, Option, Some, None, min}
+use Rattle.std.specs.List.{slice_get}
+use Rattle.sv_base.specs.declared.ids.ChildId.{ChildId}
+use Rattle.sv_base.specs.declared.spec.GroupSpec.{GroupSpec}
+use Rattle.sv_base.specs.declared.spec.LogSpec.{LogSpec}
+use Rattle.sv_base.specs.declared.spec.Spec.{Spec}
+use Rattle.sv_groups.specs.Lookup.{found}
+use Rattle.sv_groups.specs.StartOrder.{pairs_of, start_order}
+use Rattle.sv_groups.specs.declared.lookup.Found.{Found}
+use Rattle.sv_groups.specs.declared.lookup.Found.TheVariants.{One, Group, Nothing}
+use Rattle.sv_info.specs.declared.fault.Fault.TheVariants.{BadArguments, BadName, NoFile}
+use Rattle.sv_logs.specs.Spans.{has_missed, read_part, tail_part}
+use Rattle.sv_logs.specs.declared.spans.Span.{Span}
+use Rattle.sv_methods.specs.Outcomes.{Outcome, Gives, Does, Reads, refuses}
+use Rattle.sv_methods.specs.Processes.{size_of}
+use Rattle.sv_methods.specs.declared.method.LogMethod.{LogMethod}
+use Rattle.sv_methods.specs.declared.method.LogMethod.TheVariants.{ReadStderr, ReadStdout, TailStderr, TailStdout}
+use Rattle.sv_methods.specs.declared.planned.Aim.TheVariants.{Cleared}
+use Rattle.sv_methods.specs.declared.planned.Asked.{Asked}
+use Rattle.sv_methods.specs.declared.planned.ReadShape.TheVariants.{Plain, Tail}
+use Rattle.sv_methods.specs.declared.planned.Request.{Request}
+use Rattle.sv_methods.specs.declared.planned.Request.TheVariants.{Clear}
+use Rattle.sv_methods.specs.declared.stand.Stand.{Stand}
+use Rattle.sv_xmlcall.specs.Trees.{integer, truth, text, array, trees_of}
+
+abbrev pub reads_part : List ℕ → Option Span → Outcome
+reads_part file None = refuses BadArguments None
+reads_part file (Some span) = Reads file span Plain
+
+-- a part of a log from an offset on; `name` is what the call named, if it named something
+abbrev pub reads : Stand → Option (List ℕ) → Option (List ℕ) → ℤ → ℤ → Outcome
+reads stand name None offset length = refuses NoFile name
+reads stand name (Some file) offset length = reads_part file (read_part (size_of file stand.sizes.now) offset length)
+
+-- the end of a log
+abbrev pub tails : Stand → Option (List ℕ) → ℤ → ℤ → Outcome
+tails stand None offset length = Gives (array (trees_of (text [] ∷ integer (pos 0) ∷ truth false ∷ [])))
+tails stand (Some file) offset length =
+    Reads file (tail_part (size_of file stand.sizes.now) offset length)
+    (Tail (size_of file stand.sizes.now) (has_missed (size_of file stand.sizes.now) offset length))
+
+-- what a method gives of the logs of a process
+abbrev pub log_of : LogMethod → Stand → List ℕ → Spec → ℤ → ℤ → Outcome
+log_of ReadStderr stand name spec offset length = reads stand (Some name) spec.stderr.file offset length
+log_of ReadStdout stand name spec offset length = reads stand (Some name) spec.stdout.file offset length
+log_of TailStderr stand name spec offset length = tails stand spec.stderr.file offset length
+log_of TailStdout stand name spec offset length = tails stand spec.stdout.file offset length
+
+-- the process that a name finds, if it finds one and no group
+abbrev pub spec_found : List GroupSpec → Found → Option (GroupSpec × Spec)
+spec_found groups (One id) = slice_get (pairs_of groups) id.0
+spec_found groups found = None
+
+abbrev pub process_named : List ℕ → List GroupSpec → Option (GroupSpec × Spec)
+process_named name groups = spec_found groups (found name groups)
+
+abbrev pub log_of_found : LogMethod → Stand → List ℕ → ℤ → ℤ → Option (GroupSpec × Spec) → Outcome
+log_of_found method stand name offset length None = refuses BadName (Some name)
+log_of_found method stand name offset length (Some process) = log_of method stand name process.1 offset length
+
+-- the logs of a name
+abbrev pub log_row : LogMethod → Stand → List ℕ → ℤ → ℤ → Outcome
+log_row method stand name offset length =
+    log_of_found method stand name offset length (process_named name stand.roster.now)
+
+-- the main log
+abbrev pub reads_main : Stand → ℤ → ℤ → Outcome
+reads_main stand offset length = reads stand None stand.config.now.main.file offset length
+
+abbrev pub clears : List Request → Bool → Option (List ℕ) → List Asked → Outcome
+clears requests is_array name rows = Does requests (record { wait = false; array = is_array; name = name; rows = rows })
+
+abbrev pub cleared : Option ChildId → Asked
+cleared child = record { child = child; aim = Cleared; fault = None }
+
+-- the main log is cleared
+abbrev pub clears_main : Option (List ℕ) → Outcome
+clears_main None = refuses NoFile None
+clears_main (Some file) = clears (Clear (file ∷ []) ∷ []) false None (cleared None ∷ [])
+
+abbrev pub file_of : Option (List ℕ) → List (List ℕ)
+file_of None = []
+file_of (Some file) = file ∷ []
+
+-- the logs of a process, stdout's before stderr's
+abbrev pub logs_of : Spec → List (List ℕ)
+logs_of spec = file_of spec.stdout.file ++ file_of spec.stderr.file
+
+-- the logs of a process are cleared
+abbrev pub clear_request : Spec → Request
+clear_request spec = Clear (logs_of spec)
+
+abbrev pub clears_process : List ℕ → ChildId → Option (GroupSpec × Spec) → Outcome
+clears_process name id None = refuses BadName (Some name)
+clears_process name id (Some process) =
+    clears (clear_request process.1 ∷ []) false (Some name) (cleared (Some id) ∷ [])
+
+abbrev pub clears_found : List GroupSpec → List ℕ → Found → Outcome
+clears_found groups name (One id) = clears_process name id (slice_get (pairs_of groups) id.0)
+clears_found groups name found = refuses BadName (Some name)
+
+-- the logs of a name are cleared
+abbrev pub clears_named : Stand → List ℕ → Outcome
+clears_named stand name = clears_found stand.roster.now name (found name stand.roster.now)

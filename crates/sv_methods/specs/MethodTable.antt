@@ -1,0 +1,184 @@
+-- The table of methods (the manual's chapter on its XML-RPC interface): one row for each method.
+use Rattle.std.specs.Prelude.{ℕ, ℤ, pos, List, [], ◌∷◌, ◌++◌, Bool, true, false, not, ◌&&◌, ◌||◌, Option, Some, None, codes, find, map, if◌then◌else◌}
+use Rattle.std.specs.List.{slice_get}
+use Rattle.std.specs.Str.{str_to_ascii_lowercase}
+use Rattle.sv_base.specs.Names.{mood_name, mood_number}
+use Rattle.sv_base.specs.SignalWords.{all_signals, is_signal_word}
+use Rattle.sv_base.specs.declared.config.Config.{Config}
+use Rattle.sv_base.specs.declared.ids.ChildId.{ChildId}
+use Rattle.sv_base.specs.declared.signal.Signal.{Signal}
+use Rattle.sv_base.specs.declared.spec.GroupSpec.{GroupSpec}
+use Rattle.sv_base.specs.declared.spec.Spec.{Spec}
+use Rattle.sv_base.specs.declared.state.Mood.{Mood}
+use Rattle.sv_base.specs.declared.state.Mood.TheVariants as mood_is
+use Rattle.sv_child.specs.declared.child.Child.{Child}
+use Rattle.sv_groups.specs.Lookup.{found}
+use Rattle.sv_groups.specs.StartOrder.{pairs_of, processes, start_order}
+use Rattle.sv_groups.specs.declared.lookup.Found.{Found}
+use Rattle.sv_groups.specs.declared.lookup.Found.TheVariants.{One, Group, Nothing}
+use Rattle.sv_info.specs.declared.fault.Fault.{Fault}
+use Rattle.sv_info.specs.declared.fault.Fault.TheVariants.{BadName, IncorrectParameters, NoFile, NotRunning, ShutdownState, SignatureUnsupported, UnknownMethod}
+use Rattle.sv_methods.specs.Acts.{asks_all, asks_group_named, asks_named, signals_all, signals_found, signals_found_group}
+use Rattle.sv_methods.specs.Logs.{clear_request, cleared, clears, clears_main, clears_named, log_row, reads_main}
+use Rattle.sv_methods.specs.MethodNames.{all_methods, is_always_open, is_ours, method_named, signature, spelling}
+use Rattle.sv_methods.specs.Outcomes.{Outcome, Gives, does, refuses}
+use Rattle.sv_methods.specs.Params.{log_in, numbers_in, text_and_wait_in, text_in, texts_in, wait_in, ended}
+use Rattle.sv_methods.specs.Processes.{group_named, info_of, infos, is_heard_state}
+use Rattle.sv_methods.specs.declared.act.Act.TheVariants as act
+use Rattle.sv_methods.specs.declared.method.LogMethod.{LogMethod}
+use Rattle.sv_methods.specs.declared.method.Method.{Method}
+use Rattle.sv_methods.specs.declared.method.Method.TheVariants as takes
+use Rattle.sv_methods.specs.declared.method.PlainMethod.{PlainMethod}
+use Rattle.sv_methods.specs.declared.method.PlainMethod.TheVariants.{ClearAllProcessLogs, ClearLog, GetApiVersion, GetAllProcessInfo, GetIdentification, GetPid, GetState, GetSupervisorVersion, ListMethods, Shutdown}
+use Rattle.sv_methods.specs.declared.method.TextMethod.{TextMethod}
+use Rattle.sv_methods.specs.declared.method.TextMethod.TheVariants.{ClearProcessLogs, GetProcessInfo, MethodSignature, SignalAllProcesses}
+use Rattle.sv_methods.specs.declared.method.TextWaitMethod.{TextWaitMethod}
+use Rattle.sv_methods.specs.declared.method.TextWaitMethod.TheVariants.{StartProcess, StartProcessGroup, StopProcess, StopProcessGroup}
+use Rattle.sv_methods.specs.declared.method.TextsMethod.{TextsMethod}
+use Rattle.sv_methods.specs.declared.method.TextsMethod.TheVariants.{SendProcessStdin, SendRemoteCommEvent, SignalProcess, SignalProcessGroup}
+use Rattle.sv_methods.specs.declared.method.WaitMethod.{WaitMethod}
+use Rattle.sv_methods.specs.declared.method.WaitMethod.TheVariants.{StartAllProcesses, StopAllProcesses}
+use Rattle.sv_methods.specs.declared.planned.Asked.{Asked}
+use Rattle.sv_methods.specs.declared.planned.Request.{Request}
+use Rattle.sv_methods.specs.declared.planned.Request.TheVariants as request
+use Rattle.sv_methods.specs.declared.stand.Stand.{Stand}
+use Rattle.sv_xmlcall.specs.Trees.{CallTree, Tree, Trees, integer, text, structure, array, no_tree, tree, trees_of, members_of}
+
+-- texts as an array
+abbrev pub texts_tree : List (List ℕ) → Tree
+texts_tree texts = array (trees_of (map text texts))
+
+-- the mood as a struct
+abbrev pub state_tree : Mood → Tree
+state_tree mood =
+    structure (members_of ((codes "statecode", integer (mood_number mood)) ∷ (codes "statename", text (mood_name mood)) ∷ []))
+
+-- the logs of all processes are cleared
+abbrev pub clears_all : Stand → Outcome
+clears_all stand =
+    clears (map clear_request (processes stand.roster.now)) true None
+    (map (λ id. cleared (Some id)) (start_order stand.roster.now))
+
+-- methods that take nothing
+abbrev pub plain_row : PlainMethod → Stand → ℕ → Outcome
+plain_row ClearAllProcessLogs stand now = clears_all stand
+plain_row ClearLog stand now = clears_main stand.config.now.main.file
+plain_row GetApiVersion stand now = Gives (text (codes "3.0"))
+plain_row GetAllProcessInfo stand now = Gives (array (trees_of (infos stand.roster.now stand.children.now now)))
+plain_row GetIdentification stand now = Gives (text stand.config.now.identifier)
+plain_row GetPid stand now = Gives (integer (pos stand.pid))
+plain_row GetState stand now = Gives (state_tree stand.mood)
+plain_row GetSupervisorVersion stand now = Gives (text (codes "4.0.0"))
+plain_row ListMethods stand now = Gives (texts_tree (map spelling all_methods))
+plain_row Shutdown stand now = does (request.Shutdown ∷ []) None
+
+-- one process
+abbrev pub info_row_of : List ℕ → List Tree → Outcome
+info_row_of name [] = refuses BadName (Some name)
+info_row_of name (said ∷ more) = Gives said
+
+abbrev pub info_row_found : Stand → List ℕ → ℕ → Found → Outcome
+info_row_found stand name now (One id) =
+    info_row_of name (info_of (slice_get (pairs_of stand.roster.now) id.0) (slice_get stand.children.now id.0) now)
+info_row_found stand name now found = refuses BadName (Some name)
+
+abbrev pub info_row : Stand → List ℕ → ℕ → Outcome
+info_row stand name now = info_row_found stand name now (found name stand.roster.now)
+
+abbrev pub signature_row : Option Method → Outcome
+signature_row None = refuses SignatureUnsupported None
+signature_row (Some method) = Gives (texts_tree (signature method))
+
+-- the signal of a text
+abbrev pub signal_of : List ℕ → Option Signal
+signal_of content = find (is_signal_word (str_to_ascii_lowercase content)) all_signals
+
+-- methods that take a text
+abbrev pub text_row : TextMethod → Stand → List ℕ → ℕ → Outcome
+text_row ClearProcessLogs stand name now = clears_named stand name
+text_row GetProcessInfo stand name now = info_row stand name now
+text_row MethodSignature stand name now = signature_row (method_named name)
+text_row SignalAllProcesses stand name now = signals_all stand name (signal_of name)
+
+-- methods that take whether to wait
+abbrev pub wait_row : WaitMethod → Stand → Bool → Outcome
+wait_row StartAllProcesses stand wait = asks_all act.Start stand wait
+wait_row StopAllProcesses stand wait = asks_all act.Stop stand wait
+
+-- methods that take a text and whether to wait
+abbrev pub text_wait_row : TextWaitMethod → Stand → List ℕ → Bool → Outcome
+text_wait_row StartProcess stand name wait = asks_named act.Start stand wait name
+text_wait_row StartProcessGroup stand name wait = asks_group_named act.Start stand wait name
+text_wait_row StopProcess stand name wait = asks_named act.Stop stand wait name
+text_wait_row StopProcessGroup stand name wait = asks_group_named act.Stop stand wait name
+
+-- the stdin of a process
+abbrev pub is_heard : Option Child → Bool
+is_heard None = false
+is_heard (Some child) = is_heard_state child.state
+
+abbrev pub is_closed : Option Bool → Bool
+is_closed None = false
+is_closed (Some closed) = closed
+
+abbrev pub stdin_found : Stand → List ℕ → List ℕ → Found → Outcome
+stdin_found stand name content (One id) =
+    if is_heard (slice_get stand.children.now id.0)
+    then (if is_closed (slice_get stand.closed.now id.0) then refuses NoFile (Some name)
+    else does (request.Stdin id content ∷ []) (Some name))
+    else refuses NotRunning (Some name)
+stdin_found stand name content found = refuses BadName (Some name)
+
+-- methods that take two texts
+abbrev pub texts_row : TextsMethod → Stand → List ℕ → List ℕ → Outcome
+texts_row SendProcessStdin stand name content = stdin_found stand name content (found name stand.roster.now)
+texts_row SendRemoteCommEvent stand sort content = does (request.Remote sort content ∷ []) None
+texts_row SignalProcess stand name content =
+    signals_found stand name content (signal_of content) (found name stand.roster.now)
+texts_row SignalProcessGroup stand name content =
+    signals_found_group stand name content (signal_of content) (group_named name stand.roster.now)
+
+-- in another mood than RUNNING most methods are refused
+abbrev pub is_shut : Method → Mood → Bool
+is_shut method mood_is.Running = false
+is_shut method mood = not (is_always_open method)
+
+-- the row of a method, after what it takes was looked at, and then the mood
+abbrev pub after_params : {A : Type 0} → Method → Stand → Option A → (A → Outcome) → Outcome
+after_params method stand None row = refuses IncorrectParameters None
+after_params method stand (Some given) row =
+    if is_shut method stand.mood then refuses ShutdownState None else row given
+
+-- nothing
+abbrev pub nothing_in : Trees → Option (Unit {0})
+nothing_in params = ended tt params
+
+-- what comes of a call of a method; several calls in one aren't planned here
+abbrev pub row : Method → Stand → Trees → ℕ → Outcome
+row (takes.Plain method) stand params now =
+    after_params (takes.Plain method) stand (nothing_in params) (λ given. plain_row method stand now)
+row (takes.OfText method) stand params now =
+    after_params (takes.OfText method) stand (text_in params) (λ given. text_row method stand given now)
+row (takes.OfWait method) stand params now =
+    after_params (takes.OfWait method) stand (wait_in params) (λ given. wait_row method stand given)
+row (takes.OfTextAndWait method) stand params now =
+    after_params (takes.OfTextAndWait method) stand (text_and_wait_in params) (λ given. text_wait_row method stand given.0 given.1)
+row (takes.OfTexts method) stand params now =
+    after_params (takes.OfTexts method) stand (texts_in params) (λ given. texts_row method stand given.0 given.1)
+row takes.ReadLog stand params now =
+    after_params takes.ReadLog stand (numbers_in params) (λ given. reads_main stand given.0 given.1)
+row (takes.OfLog method) stand params now =
+    after_params (takes.OfLog method) stand (log_in params) (λ given. log_row method stand given.0 given.1 given.2)
+row takes.Multicall stand params now = refuses IncorrectParameters None
+
+abbrev pub is_here : Config → Method → Bool
+is_here config method = config.rpc || not (is_ours method)
+
+abbrev pub row_if_here : Option Method → Stand → Trees → ℕ → Outcome
+row_if_here None stand params now = refuses UnknownMethod None
+row_if_here (Some method) stand params now =
+    if is_here stand.config.now method then row method stand params now else refuses UnknownMethod None
+
+-- what comes of a call
+abbrev pub planned : Stand → CallTree → ℕ → Outcome
+planned stand call now = row_if_here (method_named call.method) stand call.params now
