@@ -107,7 +107,7 @@ fn replies(rt: HostRuntime) -> Result<(), AllocError> {
 /// A reply whose head has so many bytes, one long field among them.
 fn with_head(alloc: Global, size: usize) -> Result<Vec<u8>, AllocError> {
     let mut bytes = stream_of(alloc, "@X: ")?;
-    while bytes.len() < size.saturating_sub(23) {
+    for _ in bytes.len()..size.saturating_sub(23) {
         bytes.push(b'a')?;
     }
     bytes.extend_from_slice(b"\r\nContent-Length: 0\r\n\r\n")?;
