@@ -1,7 +1,6 @@
-mod Apart
-mod Rewound
+mod Moved
 mod Named
-mod OneChild
+mod NumbersBegin
 mod Reported
 mod Standing
 mod Steps

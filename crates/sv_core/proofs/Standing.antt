@@ -148,14 +148,14 @@ turn_begun cause at place w v t is_v goes =
 -- step 2 goes on with the answer of its question
 pub stimulus_answered : (p : Paused) (reply : Reply) (w : World)
     → come (rest (Some (Stimulus p)) w) (followed.Answered reply)
-    ≡ sweeps p.sweep (p.to - p.stop.next) p.stop.next (answered p.stop.asked.child p.stop.asked.run reply w) after_stimulus
+    ≡ sweeps p.news (p.to - p.stop.next) p.stop.next (answered p.stop.asked.child p.stop.asked.run reply w) after_stimulus
 unfolding rest paused swept asks
 stimulus_answered p reply w = refl
 
 -- and step 4
 pub pass_answered : (p : Paused) (reply : Reply) (w : World)
     → come (rest (Some (Pass p)) w) (followed.Answered reply)
-    ≡ sweeps p.sweep (p.to - p.stop.next) p.stop.next (answered p.stop.asked.child p.stop.asked.run reply w) after_pass
+    ≡ sweeps p.news (p.to - p.stop.next) p.stop.next (answered p.stop.asked.child p.stop.asked.run reply w) after_pass
 unfolding rest paused swept asks
 pass_answered p reply w = refl
 

@@ -1,25 +1,28 @@
 -- One walk through the turn, for a relation between two worlds that each of its small steps keeps.
-use Rattle.std.proofs.Common.{◌≡◌, ℕ, zero, suc, ◌+◌, ◌++◌, List, [], ◌∷◌, Bool, true, false, ◌&&◌, ◌||◌, Option, Some, None, refl, subst, sym, if◌then◌else◌}
-use Rattle.std.specs.Prelude.{◌-◌, length, nat_le, codes, slice_set}
+use Rattle.std.proofs.Common.{ℕ, zero, suc, ◌+◌, ◌++◌, List, [], ◌∷◌, Bool, true, false, ◌&&◌, ◌||◌, Option, Some, None, subst, sym, if◌then◌else◌}
+use Rattle.std.specs.Prelude.{◌-◌, length, nat_le, codes}
 use Rattle.sv_base.specs.declared.ids.Run.{Run}
 use Rattle.sv_base.specs.declared.signal.Signal.{Signal}
 use Rattle.sv_base.specs.declared.state.Mood.TheVariants as mood_is
 use Rattle.sv_child.specs.ChildTable.{Stimulus}
-use Rattle.sv_child.specs.ChildTable.Stimulus.{Stop as Is_to_stop}
 use Rattle.sv_child.specs.Moves.{is_running}
 use Rattle.sv_child.specs.declared.step.ChildDeed.{ChildDeed}
 use Rattle.sv_child.specs.declared.step.ChildDeed.TheVariants.{Spawn, Kill}
+use Rattle.sv_child.specs.declared.child.Child.{Child}
+use Rattle.sv_children.specs.News.{deed_of, step_of, stimulus_of, stimulus_told}
+use Rattle.sv_children.specs.Orders.{spawn_at}
+use Rattle.sv_children.specs.Spans.{span_meant}
+use Rattle.sv_children.specs.declared.news.News.{News}
+use Rattle.sv_children.specs.declared.news.News.TheVariants as news_is
 use Rattle.sv_core.proofs.Standing.{came_more}
 use Rattle.sv_core.specs.Deeds.{after}
 use Rattle.sv_core.specs.Failure.{failures_told, refusal}
 use Rattle.sv_core.specs.MachineState.{Model, hand, failure_named, now, next, next_part, turn_of, accepts}
-use Rattle.sv_core.specs.Members.{Member, member_at}
-use Rattle.sv_core.specs.Moves.{answered, fails, heard, kills, moves, orders_spawn, said, tells}
+use Rattle.sv_core.specs.Moves.{answered, fails, kills, moves, orders_spawn, says, told_of}
 use Rattle.sv_core.specs.Parts.{part_of}
 use Rattle.sv_core.specs.Shutdown.{drops_group, follows_plan, halts, halts_after, has_come_to_rest, heeds, in_mood, is_ending, moves_on, tells_group}
-use Rattle.sv_core.specs.Stimuli.{span_meant, stimulus_of}
 use Rattle.sv_core.specs.Stops.{signals, stops, stops_from, stops_all}
-use Rattle.sv_core.specs.Sweeps.{Turn, asks, brings, does, meets, spawns, sweeps, sweeps_all, sweeps_over}
+use Rattle.sv_core.specs.Sweeps.{Turn, asks, does, meets, spawns, spawns_as, sweeps, sweeps_all, sweeps_over}
 use Rattle.sv_core.specs.Sweeps.Turn.{Done, Ask}
 use Rattle.sv_core.specs.Turn.{after_pass, after_stimulus, applies, came, come, failed_at, rewinds, turn, world_of}
 use Rattle.sv_core.specs.World.{World}
@@ -35,12 +38,11 @@ use Rattle.sv_core.specs.declared.part.Part.TheVariants.{Begins, Answers, Fails}
 use Rattle.sv_core.specs.declared.part.Question.{Question}
 use Rattle.sv_core.specs.declared.part.Reply.{Reply}
 use Rattle.sv_core.specs.declared.part.Reply.TheVariants.{Refused}
-use Rattle.sv_core.specs.declared.sweep.Sweep.{Sweep}
-use Rattle.sv_core.specs.declared.sweep.Sweep.TheVariants as sweep_is
 use Rattle.sv_groups.specs.StartOrder.{span_of}
 use Rattle.sv_groups.specs.declared.order.Span.{Span}
 use Rattle.sv_out.specs.declared.input.Input.{Input}
 use Rattle.sv_out.specs.declared.order.Order.TheVariants as order
+use Rattle.sv_out.specs.declared.order.SpawnOrder.{SpawnOrder}
 
 -- each answer leads to a stop that is related to the world in which it came
 abbrev pub Onward : (World → World → Type 0) → Turn → Type 0
@@ -56,9 +58,9 @@ pub record Steps (R : World → World → Type 0) : Type 0 where
   pub same : (w : World) → R w w
   pub follow : (u v w : World) → R u v → R v w → R u w
   pub rewound : (at : ℕ) (w : World) → R w (rewinds at w)
-  pub moved : (c : ℕ) (m : Member) (stimulus : Stimulus) (w : World) → member_at w c ≡ Some m → R w (moves c m (said m stimulus w) w)
-  pub killed : (m : Member) (signal : Signal) (group : Bool) (w : World) → R w (kills (Some m) signal group w)
-  pub ordered : (m : Member) (w : World) → R w (orders_spawn m w)
+  pub moved : (stimulus : Child → Option Stimulus) (c : ℕ) (w : World) → R w (moves c (says stimulus c w) w)
+  pub killed : (c : ℕ) (signal : Signal) (group : Bool) (w : World) → R w (kills c signal group w)
+  pub ordered : (spawning : SpawnOrder) (w : World) → R w (orders_spawn spawning w)
   pub steered : (course : Course) (w : World) → R w (record w { course = course })
   pub ended : (w : World) → R w (record w { given = w.given ++ order.Halt ∷ [] })
 
@@ -66,54 +68,45 @@ module _ (R : World → World → Type 0) (s : Steps R) where
   pub leads : (w v : World) (t : Turn) → R w v → From R v t → From R w t
   leads w v t r f = (s.follow w v (world_of t) r f.0, f.1)
 
-  pub kept_tells : (found : Option Member) (c : ℕ) (stimulus : Stimulus) (w : World) → member_at w c ≡ found → R w (tells found c stimulus w)
-  kept_tells None c stimulus w is = s.same w
-  kept_tells (Some m) c stimulus w is = s.moved c m stimulus w is
-
   pub kept_answered : (c : ℕ) (run : Run) (reply : Reply) (w : World) → R w (answered c run reply w)
-  kept_answered c run reply w = kept_tells (member_at w c) c (heard run reply) w refl
+  kept_answered c run reply w = s.moved (stimulus_told run (told_of reply)) c w
 
   pub kept_asks : (c : ℕ) (run : Run) (w : World) (k : World → Turn) → ((v : World) → From R v (k v)) → From R w (asks c run w k)
   unfolding asks
   kept_asks c run w k goes = (s.same w, λ v reply. leads v (answered c run reply v) (k (answered c run reply v)) (kept_answered c run reply v) (goes (answered c run reply v)))
 
-  pub kept_spawns : (found : Option Member) (c : ℕ) (w : World) (k : World → Turn) → ((v : World) → From R v (k v)) → From R w (spawns found c w k)
-  kept_spawns None c w k goes = goes w
-  kept_spawns (Some m) c w k goes = by_number (nat_le w.next_run 4294967295) where
-    by_number : (b : Bool) → From R w (if b then asks c (record { 0 = w.next_run }) (orders_spawn m w) k else k (fails c w))
-    by_number true = leads w (orders_spawn m w) (asks c (record { 0 = w.next_run }) (orders_spawn m w) k) (s.ordered m w) (kept_asks c (record { 0 = w.next_run }) (orders_spawn m w) k goes)
-    by_number false = leads w (fails c w) (k (fails c w)) (kept_answered c (record { 0 = 0 }) (Refused (codes "failed")) w) (goes (fails c w))
+  pub kept_spawns_as : (spawning : Option SpawnOrder) (c : ℕ) (w : World) (k : World → Turn) → ((v : World) → From R v (k v))
+      → From R w (spawns_as spawning c w k)
+  kept_spawns_as None c w k goes = goes w
+  kept_spawns_as (Some spawning) c w k goes =
+      let run : Run = record { 0 = w.next_run } in
+      leads w (orders_spawn spawning w) (asks c run (orders_spawn spawning w) k) (s.ordered spawning w) (kept_asks c run (orders_spawn spawning w) k goes)
 
-  pub kept_kills : (found : Option Member) (signal : Signal) (group : Bool) (w : World) → R w (kills found signal group w)
-  kept_kills None signal group w = s.same w
-  kept_kills (Some m) signal group w = s.killed m signal group w
+  pub kept_spawns : (c : ℕ) (w : World) (k : World → Turn) → ((v : World) → From R v (k v)) → From R w (spawns c w k)
+  kept_spawns c w k goes = by_number (nat_le w.next_run 4294967295) where
+    by_number : (b : Bool) → From R w (if b then spawns_as (spawn_at w.children c w.next_run) c w k else k (fails c w))
+    by_number true = kept_spawns_as (spawn_at w.children c w.next_run) c w k goes
+    by_number false = leads w (fails c w) (k (fails c w)) (kept_answered c (record { 0 = 0 }) (Refused (codes "failed")) w) (goes (fails c w))
 
   pub kept_does : (deed : Option ChildDeed) (c : ℕ) (w : World) (k : World → Turn) → ((v : World) → From R v (k v)) → From R w (does deed c w k)
   kept_does None c w k goes = goes w
   kept_does (Some (Kill signal group)) c w k goes =
-      let found = member_at w c in
-      leads w (kills found signal group w) (k (kills found signal group w)) (kept_kills found signal group w) (goes (kills found signal group w))
-  kept_does (Some Spawn) c w k goes = kept_spawns (member_at w c) c w k goes
+      leads w (kills c signal group w) (k (kills c signal group w)) (s.killed c signal group w) (goes (kills c signal group w))
+  kept_does (Some Spawn) c w k goes = kept_spawns c w k goes
 
-  pub kept_brings : (stimulus : Option Stimulus) (c : ℕ) (m : Member) (w : World) (k : World → Turn) → member_at w c ≡ Some m
-      → ((v : World) → From R v (k v)) → From R w (brings stimulus c m w k)
-  kept_brings None c m w k is goes = goes w
-  kept_brings (Some stimulus) c m w k is goes =
-      let answer = said m stimulus w in
-      leads w (moves c m answer w) (does answer.step.deed c (moves c m answer w) k) (s.moved c m stimulus w is) (kept_does answer.step.deed c (moves c m answer w) k goes)
+  pub kept_meets : (news : News) (c : ℕ) (w : World) (k : World → Turn) → ((v : World) → From R v (k v)) → From R w (meets news c w k)
+  kept_meets news c w k goes =
+      let answer = says (stimulus_of news) c w in
+      let deed = deed_of (step_of answer) in
+      leads w (moves c answer w) (does deed c (moves c answer w) k) (s.moved (stimulus_of news) c w) (kept_does deed c (moves c answer w) k goes)
 
-  pub kept_meets : (sweep : Sweep) (found : Option Member) (c : ℕ) (w : World) (k : World → Turn) → member_at w c ≡ found
-      → ((v : World) → From R v (k v)) → From R w (meets sweep found c w k)
-  kept_meets sweep None c w k is goes = goes w
-  kept_meets sweep (Some m) c w k is goes = kept_brings (stimulus_of sweep m.child) c m w k is goes
+  pub kept_sweeps : (news : News) (left place : ℕ) (w : World) (k : World → Turn) → ((v : World) → From R v (k v)) → From R w (sweeps news left place w k)
+  kept_sweeps news zero place w k goes = goes w
+  kept_sweeps news (suc left) place w k goes =
+      kept_meets news place w (λ v. sweeps news left (place + 1) v k) (λ v. kept_sweeps news left (place + 1) v k goes)
 
-  pub kept_sweeps : (sweep : Sweep) (left place : ℕ) (w : World) (k : World → Turn) → ((v : World) → From R v (k v)) → From R w (sweeps sweep left place w k)
-  kept_sweeps sweep zero place w k goes = goes w
-  kept_sweeps sweep (suc left) place w k goes =
-      kept_meets sweep (member_at w place) place w (λ v. sweeps sweep left (place + 1) v k) refl (λ v. kept_sweeps sweep left (place + 1) v k goes)
-
-  pub kept_sweeps_all : (sweep : Sweep) (w : World) (k : World → Turn) → ((v : World) → From R v (k v)) → From R w (sweeps_all sweep w k)
-  kept_sweeps_all sweep w k goes = kept_sweeps sweep (length w.children - 0) 0 w k goes
+  pub kept_sweeps_all : (news : News) (w : World) (k : World → Turn) → ((v : World) → From R v (k v)) → From R w (sweeps_all news w k)
+  kept_sweeps_all news w k goes = kept_sweeps news (length w.children.all - 0) 0 w k goes
 
   pub kept_done : (w : World) → From R w (Done w)
   kept_done w = (s.same w, tt)
@@ -124,21 +117,21 @@ module _ (R : World → World → Type 0) (s : Steps R) where
   by_test false w one other yes_holds no_holds = no_holds
 
   kept_signals : (deed : Option ChildDeed) (c : ℕ) (w : World) → R w (signals deed c w)
-  kept_signals (Some (Kill signal group)) c w = kept_kills (member_at w c) signal group w
+  kept_signals (Some (Kill signal group)) c w = s.killed c signal group w
   kept_signals (Some Spawn) c w = s.same w
   kept_signals None c w = s.same w
 
-  kept_stops : (found : Option Member) (c : ℕ) (w : World) → member_at w c ≡ found → R w (stops found c w)
-  kept_stops None c w is = s.same w
-  kept_stops (Some m) c w is =
-      let answer = said m Is_to_stop w in
-      s.follow w (moves c m answer w) (stops (Some m) c w) (s.moved c m Is_to_stop w is) (kept_signals answer.step.deed c (moves c m answer w))
+  kept_stops : (c : ℕ) (w : World) → R w (stops c w)
+  kept_stops c w =
+      let answer = says (stimulus_of news_is.Stop) c w in
+      s.follow w (moves c answer w) (stops c w) (s.moved (stimulus_of news_is.Stop) c w)
+      (kept_signals (deed_of (step_of answer)) c (moves c answer w))
 
   kept_stops_from : (from left : ℕ) (w : World) → R w (stops_from from left w)
   kept_stops_from from zero w = s.same w
   kept_stops_from from (suc left) w =
-      let v = stops (member_at w (from + left)) (from + left) w in
-      s.follow w v (stops_from from left v) (kept_stops (member_at w (from + left)) (from + left) w refl) (kept_stops_from from left v)
+      let v = stops (from + left) w in
+      s.follow w v (stops_from from left v) (kept_stops (from + left) w) (kept_stops_from from left v)
 
   kept_stops_all : (span : Span) (w : World) → R w (stops_all span w)
   kept_stops_all span w = kept_stops_from span.from (span.to - span.from) w
@@ -146,7 +139,7 @@ module _ (R : World → World → Type 0) (s : Steps R) where
   kept_tells_group : (group : ℕ) (w : World) → R w (tells_group group w)
   kept_tells_group group w =
       let told = record w { course = record w.course { is_told = true } } in
-      let span = span_of group w.roster in
+      let span = span_of group w.children.roster in
       by_test (w.course.is_told || has_come_to_rest group w) w w (stops_all span told) (s.same w)
       (s.follow w told (stops_all span told) (s.steered (record w.course { is_told = true }) w) (kept_stops_all span told))
 
@@ -180,20 +173,20 @@ module _ (R : World → World → Type 0) (s : Steps R) where
   kept_after_pass w = (s.follow w (follows_plan w) (halts (follows_plan w)) (kept_follows_plan w) (kept_halts (follows_plan w)), tt)
 
   kept_after_stimulus : (w : World) → From R w (after_stimulus w)
-  kept_after_stimulus w = kept_sweeps_all sweep_is.Time w after_pass kept_after_pass
+  kept_after_stimulus w = kept_sweeps_all news_is.Time w after_pass kept_after_pass
 
   kept_start : (b : Bool) (span : Span) (w : World)
-      → From R w (if b then sweeps_over sweep_is.Start span w after_stimulus else after_stimulus w)
-  kept_start true span w = kept_sweeps sweep_is.Start (span.to - span.from) span.from w after_stimulus kept_after_stimulus
+      → From R w (if b then sweeps_over news_is.Start span w after_stimulus else after_stimulus w)
+  kept_start true span w = kept_sweeps news_is.Start (span.to - span.from) span.from w after_stimulus kept_after_stimulus
   kept_start false span w = kept_after_stimulus w
 
   kept_applies : (cause : Cause) (w : World) → From R w (applies cause w after_stimulus)
   kept_applies cause_is.Tick w = kept_after_stimulus w
-  kept_applies (cause_is.Exit run how) w = kept_sweeps_all (sweep_is.Exit run how) w after_stimulus kept_after_stimulus
-  kept_applies (cause_is.Start name) w = kept_start (is_running w.course.mood) (span_meant name w.roster) w
+  kept_applies (cause_is.Exit run how) w = kept_sweeps_all (news_is.Exit run how) w after_stimulus kept_after_stimulus
+  kept_applies (cause_is.Start name) w = kept_start (is_running w.course.mood) (span_meant name w.children.roster) w
   kept_applies (cause_is.Stop name) w =
-      let v = stops_all (span_meant name w.roster) w in
-      leads w v (after_stimulus v) (kept_stops_all (span_meant name w.roster) w) (kept_after_stimulus v)
+      let v = stops_all (span_meant name w.children.roster) w in
+      leads w v (after_stimulus v) (kept_stops_all (span_meant name w.children.roster) w) (kept_after_stimulus v)
   kept_applies (cause_is.Signal signal) w =
       leads w (heeds signal w) (after_stimulus (heeds signal w)) (kept_heeds signal w) (kept_after_stimulus (heeds signal w))
 

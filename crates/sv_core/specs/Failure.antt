@@ -20,6 +20,7 @@ failure_of (order.Spawn spawn) = RefusesQuestion
 failure_of (order.Kill run signal group) = ChangesNothing
 failure_of order.Halt = NeverFails
 
+-- there is such an order, and it can fail
 abbrev pub can_fail : Option Failure → Bool
 can_fail (Some ChangesNothing) = true
 can_fail (Some RefusesQuestion) = true

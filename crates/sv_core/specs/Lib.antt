@@ -1,9 +1,5 @@
 pub mod Sizes
 pub mod World
-pub mod Members
-pub mod Orders
-pub mod Stimuli
-pub mod Brought
 pub mod Moves
 pub mod Stops
 pub mod Sweeps

@@ -1,13 +1,10 @@
 -- The machine: its state, which inputs it accepts, and what comes next.
-use Rattle.std.specs.Prelude.{ℕ, List, [], ◌∷◌, ◌++◌, Option, Some, None, Bool, true, false, ◌&&◌, not, nat_lt, is_none, length, replicate, drop, map, slice_get, ◌^◌, ◌%◌}
+use Rattle.std.specs.Prelude.{ℕ, List, [], ◌∷◌, ◌++◌, Option, Some, None, Bool, true, false, ◌&&◌, not, nat_lt, is_none, length, drop, map, slice_get, ◌^◌, ◌%◌}
 use Rattle.std.specs.List.{list_all}
 use Rattle.sv_base.specs.declared.config.Config.{Config}
 use Rattle.sv_base.specs.declared.config.Host.{Host}
-use Rattle.sv_base.specs.declared.spec.GroupSpec.{GroupSpec}
-use Rattle.sv_base.specs.declared.spec.Spec.{Spec}
 use Rattle.sv_base.specs.declared.state.Mood.TheVariants as mood_is
-use Rattle.sv_child.specs.Moves.{new_child}
-use Rattle.sv_child.specs.declared.child.Child.{Child}
+use Rattle.sv_children.specs.Crew.{new_crew}
 use Rattle.sv_core.specs.Failure.{behind, can_fail, failure_of, failures_told}
 use Rattle.sv_core.specs.Parts.{fits, part_of}
 use Rattle.sv_core.specs.Sweeps.{Turn}
@@ -22,7 +19,6 @@ use Rattle.sv_core.specs.declared.part.Followed.TheVariants as followed
 use Rattle.sv_core.specs.declared.part.Part.{Part}
 use Rattle.sv_core.specs.declared.part.Part.TheVariants.{Begins, Answers, Fails}
 use Rattle.sv_core.specs.declared.part.Question.{Question}
-use Rattle.sv_groups.specs.StartOrder.{processes}
 use Rattle.sv_out.specs.declared.input.Input.{Input}
 use Rattle.sv_out.specs.declared.order.Order.{Order}
 
@@ -41,6 +37,7 @@ pub record Model : Type 0 where
   pub since : ℕ
   pub named : List ℕ
 
+-- the turn that was begun, if one was
 abbrev pub turn_of : Option Begin → World → Turn
 turn_of None w = Done w
 turn_of (Some begin) w = turn begin.cause begin.at w
@@ -62,8 +59,7 @@ abbrev pub opening : Config → List (List ℕ × ℕ) → Host → Model
 opening config sizes host = resting (record {
   config = config;
   pid = host.pid;
-  roster = config.groups;
-  children = replicate (length (processes config.groups)) new_child;
+  children = new_crew config.groups;
   course = record { mood = mood_is.Running; left = length config.groups; is_told = false; halted = false };
   next_run = 1;
   moment = host.start;
@@ -98,6 +94,7 @@ accepts m input =
     not (now m).course.halted
     && is_accepted (part_of input) (asked_of (hand m)) (now m).next_run (can_be_named m)
 
+-- a turn begins, is answered, or has an order that failed
 abbrev pub next_part : Model → Part → Model
 next_part m (Begins at cause) = record {
   base = now m;

@@ -1,48 +1,45 @@
 -- What becomes of one child in a turn, and which orders that gives (the manual's chapter on subprocesses).
-use Rattle.std.specs.Prelude.{ℕ, List, [], ◌∷◌, ◌++◌, Option, Some, None, Bool, ◌+◌, codes, slice_set}
+use Rattle.std.specs.Prelude.{ℕ, [], ◌∷◌, ◌++◌, Option, Some, None, Bool, ◌+◌, codes}
 use Rattle.sv_base.specs.declared.ids.Run.{Run}
 use Rattle.sv_base.specs.declared.signal.Signal.{Signal}
-use Rattle.sv_child.specs.ChildTable.{Stimulus, happens}
-use Rattle.sv_child.specs.ChildTable.Stimulus.{Spawned, Spawn_failed}
+use Rattle.sv_child.specs.ChildTable.{Stimulus}
 use Rattle.sv_child.specs.Moves.{Answer}
 use Rattle.sv_child.specs.declared.child.Child.{Child}
-use Rattle.sv_child.specs.declared.step.Edge.{Edge}
-use Rattle.sv_core.specs.Members.{Member, member_at}
-use Rattle.sv_core.specs.Orders.{reports, kill, spawn}
+use Rattle.sv_child.specs.declared.step.Step.{Step}
+use Rattle.sv_children.specs.News.{moved, said_at, step_of, stimulus_told}
+use Rattle.sv_children.specs.Orders.{kill_at, reports_at}
+use Rattle.sv_children.specs.declared.news.Told.{Told}
+use Rattle.sv_children.specs.declared.news.Told.TheVariants as told
 use Rattle.sv_core.specs.World.{World}
 use Rattle.sv_core.specs.declared.part.Reply.{Reply}
 use Rattle.sv_core.specs.declared.part.Reply.TheVariants.{Started, NoFile, NotExecutable, Refused}
-use Rattle.sv_core.specs.declared.part.Told.{Told}
-use Rattle.sv_core.specs.declared.part.Told.TheVariants as told
 use Rattle.sv_out.specs.declared.order.Order.TheVariants as order
+use Rattle.sv_out.specs.declared.order.SpawnOrder.{SpawnOrder}
 
--- what the table says of a child, at the moment and in the mood of the turn
-abbrev pub said : Member → Stimulus → World → Answer
-said m stimulus w = happens m.spec m.child stimulus w.course.mood w.moment
-
--- the edges that a child took are reported
-abbrev pub reported : Member → List (Option Edge) → World → World
-reported m edges w = record w { given = w.given ++ reports m.group m.spec.name edges }
+-- what the table says to the child of a place, at the moment and in the mood of the turn
+abbrev pub says : (Child → Option Stimulus) → ℕ → World → Option Answer
+says stimulus c w = said_at stimulus c w.course.mood w.moment w.children
 
 -- the child is past its step
-abbrev pub changed : ℕ → Child → World → World
-changed c child w = record w { children = slice_set w.children c child }
+abbrev pub changed : ℕ → Option Answer → World → World
+changed c answer w = record w { children = moved c answer w.children }
+
+-- the edges that it took are reported
+abbrev pub reported : ℕ → Option Step → World → World
+reported c None w = w
+reported c (Some step) w = record w { given = w.given ++ reports_at w.children c step.edges }
 
 -- the child is past its step, and its edges are reported
-abbrev pub moves : ℕ → Member → Answer → World → World
-moves c m answer w = reported m answer.step.edges (changed c answer.child w)
+abbrev pub moves : ℕ → Option Answer → World → World
+moves c answer w = reported c (step_of answer) (changed c answer w)
 
 -- the run of a child is sent a signal
-abbrev pub kills : Option Member → Signal → Bool → World → World
-kills None signal group w = w
-kills (Some m) signal group w = record w { given = w.given ++ kill m.child.run signal group }
+abbrev pub kills : ℕ → Signal → Bool → World → World
+kills c signal group w = record w { given = w.given ++ kill_at w.children c signal group }
 
 -- a spawn is ordered, and the run numbered
-abbrev pub orders_spawn : Member → World → World
-orders_spawn m w = record w {
-  given = w.given ++ order.Spawn (spawn m.group m.spec w.next_run) ∷ [];
-  next_run = w.next_run + 1;
-}
+abbrev pub orders_spawn : SpawnOrder → World → World
+orders_spawn spawning w = record w { given = w.given ++ order.Spawn spawning ∷ []; next_run = w.next_run + 1 }
 
 -- what a child is told of its spawn, with the fault text of each refusal
 abbrev pub told_of : Reply → Told
@@ -51,22 +48,9 @@ told_of NoFile = told.NotStarted (codes "can't find command")
 told_of NotExecutable = told.NotStarted (codes "command is not executable")
 told_of (Refused text) = told.NotStarted text
 
-abbrev pub stimulus_told : Run → Told → Stimulus
-stimulus_told run (told.Started pid) = Spawned run pid
-stimulus_told run (told.NotStarted fault) = Spawn_failed fault
-
--- the stimulus of a spawn's answer
-abbrev pub heard : Run → Reply → Stimulus
-heard run reply = stimulus_told run (told_of reply)
-
--- a child is told a stimulus after which nothing is to be done
-abbrev pub tells : Option Member → ℕ → Stimulus → World → World
-tells None c stimulus w = w
-tells (Some m) c stimulus w = moves c m (said m stimulus w) w
-
--- the spawn of a child is answered
+-- the spawn of a child is answered, after which nothing is to be done
 abbrev pub answered : ℕ → Run → Reply → World → World
-answered c run reply w = tells (member_at w c) c (heard run reply) w
+answered c run reply w = moves c (says (stimulus_told run (told_of reply)) c w) w
 
 -- no number is left for a run: the spawn fails by itself
 abbrev pub fails : ℕ → World → World

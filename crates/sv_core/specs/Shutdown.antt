@@ -1,17 +1,14 @@
 -- The end of the daemon (the manual's chapter on running supervisord, its signals): a signal begins it, the groups are
 -- stopped one after the other, and when all are at rest the daemon halts.
-use Rattle.std.specs.Prelude.{ℕ, zero, suc, List, [], ◌∷◌, ◌++◌, Bool, true, false, ◌||◌, ◌&&◌, if◌then◌else◌}
-use Rattle.std.specs.List.{list_all}
+use Rattle.std.specs.Prelude.{ℕ, zero, suc, [], ◌∷◌, ◌++◌, Bool, true, false, ◌||◌, ◌&&◌, if◌then◌else◌}
 use Rattle.sv_base.specs.declared.signal.Signal.{Signal}
 use Rattle.sv_base.specs.declared.signal.Signal.TheVariants.{Term, Int, Quit}
-use Rattle.sv_base.specs.declared.spec.GroupSpec.{GroupSpec}
 use Rattle.sv_base.specs.declared.state.Mood.{Mood}
 use Rattle.sv_base.specs.declared.state.Mood.TheVariants as mood_is
-use Rattle.sv_child.specs.Moves.{is_at_rest, is_running}
-use Rattle.sv_child.specs.declared.child.Child.{Child}
+use Rattle.sv_child.specs.Moves.{is_running}
+use Rattle.sv_children.specs.Spans.{are_at_rest}
 use Rattle.sv_core.specs.Stops.{stops_all}
 use Rattle.sv_core.specs.World.{World}
-use Rattle.sv_groups.specs.Changes.{children_at}
 use Rattle.sv_groups.specs.StartOrder.{span_of}
 use Rattle.sv_out.specs.declared.order.Order.TheVariants as order
 
@@ -22,6 +19,7 @@ is_ending Int = true
 is_ending Quit = true
 is_ending signal = false
 
+-- the daemon is in this mood
 abbrev pub in_mood : Mood → World → World
 in_mood mood w = record w { course = record w.course { mood = mood } }
 
@@ -30,17 +28,14 @@ abbrev pub heeds : Signal → World → World
 heeds signal w = if is_ending signal && is_running w.course.mood then in_mood mood_is.Shutdown w else w
 
 -- no child of the group at this place has a process or gets one by itself
-abbrev pub is_group_at_rest : ℕ → List GroupSpec → List Child → Bool
-is_group_at_rest group roster children = list_all (λ (c : Child). is_at_rest c.state) (children_at group roster children)
-
 abbrev pub has_come_to_rest : ℕ → World → Bool
-has_come_to_rest group w = is_group_at_rest group w.roster w.children
+has_come_to_rest group w = are_at_rest (span_of group w.children.roster) w.children.all
 
 -- a group that isn't at rest is told to stop, once
 abbrev pub tells_group : ℕ → World → World
 tells_group group w =
     if w.course.is_told || has_come_to_rest group w then w
-    else stops_all (span_of group w.roster) (record w { course = record w.course { is_told = true } })
+    else stops_all (span_of group w.children.roster) (record w { course = record w.course { is_told = true } })
 
 -- a group that is at rest is done with
 abbrev pub drops_group : ℕ → World → World
@@ -62,5 +57,6 @@ abbrev pub halts_after : ℕ → World → World
 halts_after zero w = record w { course = record w.course { halted = true }; given = w.given ++ order.Halt ∷ [] }
 halts_after (suc left) w = w
 
+-- step 8: only while the daemon ends
 abbrev pub halts : World → World
 halts w = if is_running w.course.mood then w else halts_after w.course.left w

@@ -1,6 +1,7 @@
 -- What the machine keeps, and which state of the model it stands for.
 use Rattle.std.specs.Prelude.{◌≡◌, ◌≤◌, ℕ, List, [], ◌++◌, Option, Some, None, Bool, true, false, not, ◌&&◌, if◌then◌else◌, nat_lt, length, drop, map, slice_get, ◌-◌, ◌+◌, ◌^◌, ◌%◌}
 use Rattle.std.specs.List.{list_all}
+use Rattle.sv_children.specs.declared.news.News.{News}
 use Rattle.sv_core.specs.Failure.{behind, can_fail, failure_of, failures_told}
 use Rattle.sv_core.specs.MachineState.{Model, hand, is_accepted}
 use Rattle.sv_core.specs.Parts.{part_of}
@@ -21,7 +22,6 @@ use Rattle.sv_core.specs.declared.place.Paused.{Paused}
 use Rattle.sv_core.specs.declared.place.Place.{Place}
 use Rattle.sv_core.specs.declared.place.Place.TheVariants.{Stimulus, Pass}
 use Rattle.sv_core.specs.declared.place.Stop.{Stop}
-use Rattle.sv_core.specs.declared.sweep.Sweep.{Sweep}
 use Rattle.sv_out.specs.declared.input.Input.{Input}
 use Rattle.sv_out.specs.declared.order.Order.{Order}
 
@@ -30,8 +30,7 @@ abbrev pub shown : Machine → List Order → World
 shown x older = record {
   config = x.config;
   pid = x.pid;
-  roster = x.roster;
-  children = x.children.items;
+  children = x.children;
   course = x.course;
   next_run = x.numbers.next_run;
   moment = x.hand.moment;
@@ -45,15 +44,15 @@ stopped None w k = k w
 stopped (Some asked) w k = asks asked.child asked.run w k
 
 -- what is left of a sweep up to before this place, that stopped at a question, or that is done
-unfoldable pub swept : Sweep → ℕ → Option Stop → World → (World → Turn) → Turn
-swept sweep to None w k = k w
-swept sweep to (Some stop) w k =
-    asks stop.asked.child stop.asked.run w (λ v. sweeps sweep (to - stop.next) stop.next v k)
+unfoldable pub swept : News → ℕ → Option Stop → World → (World → Turn) → Turn
+swept news to None w k = k w
+swept news to (Some stop) w k =
+    asks stop.asked.child stop.asked.run w (λ v. sweeps news (to - stop.next) stop.next v k)
 
 -- the same of a sweep that was kept
 unfoldable pub paused : Option Paused → World → (World → Turn) → Turn
 paused None w k = k w
-paused (Some p) w k = swept p.sweep p.to (Some p.stop) w k
+paused (Some p) w k = swept p.news p.to (Some p.stop) w k
 
 -- what is left of the turn
 unfoldable pub rest : Option Place → World → Turn
@@ -114,10 +113,12 @@ abbrev pub first_after : Part → Numbers → ℕ
 first_after (Fails number) x = x.first
 first_after part x = (x.first + length x.failures.items) % 2 ^ 64
 
+-- what their failures would mean
 abbrev pub failures_after : Part → Numbers → List Failure
 failures_after (Fails number) x = x.failures.items
 failures_after part x = []
 
+-- the last that failed
 abbrev pub last_after : Part → Option ℕ
 last_after (Fails number) = Some number
 last_after part = None

@@ -1,14 +1,12 @@
 -- One turn of the machine, in its named steps. A step works on the world and hands it to what comes next; a question
 -- stops the turn until its answer comes.
-use Rattle.std.specs.Prelude.{ℕ, List, [], ◌∷◌, Bool, true, false, Option, Some, None, is_some, if◌then◌else◌}
-use Rattle.sv_base.specs.declared.spec.GroupSpec.{GroupSpec}
-use Rattle.sv_base.specs.declared.spec.Spec.{Spec}
+use Rattle.std.specs.Prelude.{ℕ, List, [], ◌∷◌, Bool, Option, Some, None, is_some, if◌then◌else◌}
 use Rattle.sv_child.specs.Moves.{is_running}
-use Rattle.sv_child.specs.Rewind.{rewound}
-use Rattle.sv_child.specs.declared.child.Child.{Child}
+use Rattle.sv_children.specs.Rewound.{crew_rewound}
+use Rattle.sv_children.specs.Spans.{span_meant}
+use Rattle.sv_children.specs.declared.news.News.TheVariants as news_is
 use Rattle.sv_core.specs.Failure.{failed, refusal}
 use Rattle.sv_core.specs.Shutdown.{heeds, follows_plan, halts}
-use Rattle.sv_core.specs.Stimuli.{span_meant}
 use Rattle.sv_core.specs.Stops.{stops_all}
 use Rattle.sv_core.specs.Sweeps.{Turn, sweeps_all, sweeps_over}
 use Rattle.sv_core.specs.Sweeps.Turn.{Done, Ask}
@@ -21,34 +19,22 @@ use Rattle.sv_core.specs.declared.part.Followed.{Followed}
 use Rattle.sv_core.specs.declared.part.Followed.TheVariants as followed
 use Rattle.sv_core.specs.declared.part.Question.{Question}
 use Rattle.sv_core.specs.declared.part.Reply.{Reply}
-use Rattle.sv_core.specs.declared.sweep.Sweep.TheVariants as sweep_is
-use Rattle.sv_groups.specs.StartOrder.{pairs_of}
 
 -- step 0, in the first turn the event that the daemon runs: no pool is built yet
 abbrev pub announces : World → World
 announces w = w
 
--- step 1, the turn's moment has come: a child is rewound to it, by what the configuration says of it
-abbrev pub child_rewound : ℕ → Option (GroupSpec × Spec) → Child → Child
-child_rewound at None child = child
-child_rewound at (Some pair) child = rewound pair.1 child at
-
--- and so all of them
-abbrev pub all_rewound : ℕ → List (GroupSpec × Spec) → List Child → List Child
-all_rewound at pairs [] = []
-all_rewound at [] (c ∷ cs) = c ∷ cs
-all_rewound at (p ∷ ps) (c ∷ cs) = rewound p.1 c at ∷ all_rewound at ps cs
-
+-- step 1, the turn's moment has come: all children are rewound to it
 abbrev pub rewinds : ℕ → World → World
-rewinds at w = record w { children = all_rewound at (pairs_of w.roster) w.children; moment = at }
+rewinds at w = record w { children = crew_rewound at w.children; moment = at }
 
 -- step 2, the stimulus: what began the turn is applied. While the daemon ends, the console starts nothing.
 abbrev pub applies : Cause → World → (World → Turn) → Turn
 applies cause_is.Tick w k = k w
-applies (cause_is.Exit run how) w k = sweeps_all (sweep_is.Exit run how) w k
+applies (cause_is.Exit run how) w k = sweeps_all (news_is.Exit run how) w k
 applies (cause_is.Start name) w k =
-    if is_running w.course.mood then sweeps_over sweep_is.Start (span_meant name w.roster) w k else k w
-applies (cause_is.Stop name) w k = k (stops_all (span_meant name w.roster) w)
+    if is_running w.course.mood then sweeps_over news_is.Start (span_meant name w.children.roster) w k else k w
+applies (cause_is.Stop name) w k = k (stops_all (span_meant name w.children.roster) w)
 applies (cause_is.Signal signal) w k = k (heeds signal w)
 
 -- step 3, the ticks of the clock: no pool is built yet
@@ -57,7 +43,7 @@ ticks w = w
 
 -- step 4, one pass over all children, for which time goes on
 abbrev pub passes : World → (World → Turn) → Turn
-passes w k = sweeps_all sweep_is.Time w k
+passes w k = sweeps_all news_is.Time w k
 
 -- step 5, the links: none is built yet
 abbrev pub serves_links : World → World
@@ -92,6 +78,7 @@ come (Done w) (followed.Failed failure) = Done (failed failure w)
 come (Ask w q k) (followed.Answered reply) = k w reply
 come (Ask w q k) (followed.Failed failure) = failed_at failure w q k
 
+-- and so all that followed
 abbrev pub came : Turn → List Followed → Turn
 came t [] = t
 came t (f ∷ fs) = came (come t f) fs
@@ -106,5 +93,6 @@ abbrev pub asked_of : Turn → Option Question
 asked_of (Done w) = None
 asked_of (Ask w q k) = Some q
 
+-- the turn stopped at a question
 abbrev pub is_asking : Turn → Bool
 is_asking t = is_some (asked_of t)

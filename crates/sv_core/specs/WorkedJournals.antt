@@ -1,6 +1,6 @@
 -- Journals of one program that were worked out by hand, one line for each input, and what the daemon then does.
 -- Moments are in milliseconds; startsecs, startretries, autorestart and stopwaitsecs stand behind `program spec`.
-use Rattle.std.specs.Prelude.{◌≡◌, ℕ, List, [], ◌∷◌, codes}
+use Rattle.std.specs.Prelude.{◌≡◌, ℕ, List, [], ◌∷◌, codes, length}
 use Rattle.sv_base.specs.declared.config.Config.{Config}
 use Rattle.sv_base.specs.declared.config.Host.{Host}
 use Rattle.sv_base.specs.declared.ids.Run.{Run}
@@ -13,9 +13,9 @@ use Rattle.sv_base.specs.declared.state.How.TheVariants.{Code, Signal}
 use Rattle.sv_base.specs.declared.state.State.{State}
 use Rattle.sv_base.specs.declared.state.State.TheVariants.{Stopped, Starting, Running, Backoff, Stopping, Exited, Fatal}
 use Rattle.sv_child.specs.Examples.{program}
+use Rattle.sv_children.specs.Orders.{spawn}
 use Rattle.sv_core.specs.Deeds.{deeds}
 use Rattle.sv_core.specs.MachineState.{Model, opening, resting}
-use Rattle.sv_core.specs.Orders.{spawn}
 use Rattle.sv_out.specs.declared.input.Input.{Input}
 use Rattle.sv_out.specs.declared.input.Input.TheVariants.{Tick, Exit, Stop, Signal as Told, Pid, Failed}
 use Rattle.sv_out.specs.declared.order.Order.{Order}
@@ -34,6 +34,7 @@ abbrev pub x_of : Rest → ℕ → ℕ → Autorestart → ℕ → Spec
 x_of rest startsecs startretries autorestart stopwaitsecs =
     record (program rest.spec startsecs startretries autorestart stopwaitsecs) { group = codes "x"; name = codes "x" }
 
+-- the configuration of this program alone
 abbrev pub alone : Rest → Spec → Config
 alone rest spec = record rest.config { groups = record rest.group { name = codes "x"; members = spec ∷ [] } ∷ [] }
 
@@ -41,9 +42,11 @@ alone rest spec = record rest.config { groups = record rest.group { name = codes
 abbrev pub done : Rest → Spec → List Input → List Order
 done rest spec inputs = deeds (opening (alone rest spec) rest.sizes rest.host) inputs
 
+-- the run of this number
 abbrev pub run : ℕ → Run
 run number = record { 0 = number }
 
+-- x goes an edge
 abbrev pub took : State → State → Order
 took from to = order.State (codes "x") (codes "x") from to
 
@@ -134,6 +137,7 @@ SpawnThatFails rest =
 abbrev pub lone : Rest → List ℕ → Spec
 lone rest name = record (program rest.spec 1 3 Unexpected 10) { group = name; name = name }
 
+-- a process goes an edge
 abbrev pub goes : Spec → State → State → Order
 goes spec from to = order.State spec.group spec.name from to
 
@@ -171,3 +175,21 @@ NoRunNumberLeft rest =
     ≡ took Stopped Starting ∷ order.Spawn (spawn x.group x 4294967295) ∷ took Starting Backoff
     ∷ took Backoff Starting ∷ took Starting Backoff
     ∷ took Backoff Starting ∷ took Starting Backoff ∷ []
+
+-- the world in which the daemon begins, but that these orders were given already
+abbrev pub ordered : Rest → Spec → List Order → Model
+ordered rest spec older =
+    let w = (opening (alone rest spec) rest.sizes rest.host).base in resting (record w { given = older })
+
+-- one number of orders is left before they begin again: the report has the number 18446744073709551615 and can't fail, and
+-- the spawn behind it has the number 0; the number 1 isn't given yet
+abbrev pub OrderNumbersBeginAgain : Rest → Type 0
+OrderNumbersBeginAgain rest = (older : List Order) → length older ≡ 18446744073709551615 →
+    let x = x_of rest 1 3 Unexpected 10 in
+    deeds (ordered rest x older)
+    (Tick 0
+    ∷ Failed 18446744073709551615
+    ∷ Failed 1
+    ∷ Failed 0 ∷ [])
+    ≡ took Stopped Starting ∷ order.Spawn (spawn x.group x 1)
+    ∷ took Starting Backoff ∷ []

@@ -1,19 +1,17 @@
 -- What a turn of the machine works on.
 use Rattle.std.specs.Prelude.{ℕ, List}
 use Rattle.sv_base.specs.declared.config.Config.{Config}
-use Rattle.sv_base.specs.declared.spec.GroupSpec.{GroupSpec}
-use Rattle.sv_child.specs.declared.child.Child.{Child}
+use Rattle.sv_children.specs.Crew.{Crew}
 use Rattle.sv_core.specs.declared.course.Course.{Course}
 use Rattle.sv_out.specs.declared.order.Order.{Order}
 
--- the configuration, and the daemon's process number; the groups in start order; the children in start order; what the
+-- the configuration, and the daemon's process number; the groups with their children, both in start order; what the
 -- daemon is about; the number that the next run gets; the moment of the turn; the known sizes of the log files, by their
 -- names; and all orders that were given since the beginning
 pub record World : Type 0 where
   pub config : Config
   pub pid : ℕ
-  pub roster : List GroupSpec
-  pub children : List Child
+  pub children : Crew
   pub course : Course
   pub next_run : ℕ
   pub moment : ℕ

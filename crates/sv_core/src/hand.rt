@@ -1,3 +1,4 @@
+//! The turn in hand.
 use crate::place::Place;
 use sv_base::moment::Moment;
 use sv_out::order::Order;

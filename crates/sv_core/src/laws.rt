@@ -5,7 +5,7 @@ ghost use Rattle.sv_base.specs.declared.config.Host.{Host};
 ghost use Rattle.sv_core.specs.Deeds.{after, deeds};
 ghost use Rattle.sv_core.specs.MachineState.{now, opening};
 ghost use Rattle.sv_core.specs.Path.{ChildrenWalk};
-ghost use Rattle.sv_core.specs.WorkedJournals.{ClockGoesBack, GroupsStopOneByOne, KillAtEachDeadline, NoRunNumberLeft, Rest, SpawnThatFails, StartsStaysUpAndExits, ThreeRetriesThenFatal, UpAtOnce};
+ghost use Rattle.sv_core.specs.WorkedJournals.{ClockGoesBack, GroupsStopOneByOne, KillAtEachDeadline, NoRunNumberLeft, OrderNumbersBeginAgain, Rest, SpawnThatFails, StartsStaysUpAndExits, ThreeRetriesThenFatal, UpAtOnce};
 ghost use Rattle.sv_out.specs.declared.input.Input.{Input};
 
 use sv_base::config::Config;
@@ -24,7 +24,8 @@ pub fn reports_are_a_path(config: &Config)
 /// The orders are only ever added to: the deeds of the inputs are all that was given in the end.
 pub fn orders_are_only_added()
     ensures { (config : Config) (sizes : List (List ℕ × ℕ)) (host : Host) (inputs : List Input) →
-        (now (after (opening config sizes host) inputs)).given ≡ deeds (opening config sizes host) inputs }
+        let m = opening config sizes host in
+        (now (after m inputs)).given ≡ deeds m inputs }
 {}
 
 /// Journals that were worked out by hand give the deeds that they should.
@@ -37,4 +38,5 @@ pub fn worked_journals()
     ensures spawn_that_fails { (rest : Rest) → SpawnThatFails rest }
     ensures groups_stop_one_by_one { (rest : Rest) → GroupsStopOneByOne rest }
     ensures no_run_number_left { (rest : Rest) → NoRunNumberLeft rest }
+    ensures order_numbers_begin_again { (rest : Rest) → OrderNumbersBeginAgain rest }
 {}

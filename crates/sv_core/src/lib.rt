@@ -3,20 +3,19 @@
 //! and in the code; it stops at a question, and its answer goes on with it.
 #![tactic(auto)]
 
-pub mod course;
-pub mod failure;
+mod course;
+mod failure;
 mod halt;
-pub mod hand;
+mod hand;
 pub mod laws;
 pub mod machine;
-pub mod numbers;
-pub mod part;
-pub mod place;
+mod numbers;
+mod part;
+mod place;
 mod plan;
-mod report;
-mod rewind;
 mod stimulus;
 mod stopping;
-pub mod sweep;
 mod sweeping;
 mod turn;
+
+pub use crate::machine::Machine;

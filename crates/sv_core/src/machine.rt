@@ -1,6 +1,5 @@
 //! The machine: what it keeps, which inputs it accepts, and the one call that takes an input.
-ghost use Rattle.std.specs.Prelude.{◌≡◌, [], IsTrue, false, ◌&&◌, nat_lt, IfOk, OnOk, OnErr, replicate};
-ghost use Rattle.sv_child.specs.Moves.{new_child};
+ghost use Rattle.std.specs.Prelude.{◌≡◌, [], IsTrue, false, ◌&&◌, nat_lt, IfOk, OnOk, OnErr};
 
 use crate::course::Course;
 use crate::hand::Hand;
@@ -13,22 +12,19 @@ use sv_base::config::{Config, Host};
 use sv_base::ids::Run;
 use sv_base::state::Mood;
 use sv_base::text::Text;
-use sv_child::child::Child;
-use sv_groups::Roster;
+use sv_children::Children;
 use sv_out::input::Input;
 use sv_out::order::Order;
 
-/// The daemon's machine. What it keeps doesn't grow with the number of its inputs.
+/// The daemon's machine.
 #[derive(Debug, Drop)]
 pub struct Machine {
     /// The configuration.
     pub(crate) config: Config,
     /// The daemon's own process number.
     pub(crate) pid: u32,
-    /// The groups and their processes in start order.
-    pub(crate) roster: Roster,
-    /// The children in start order.
-    pub(crate) children: Vec<Child>,
+    /// The groups and their children in start order.
+    pub(crate) children: Children,
     /// What the daemon is about.
     pub(crate) course: Course,
     /// The numbers that are given out.
@@ -58,18 +54,16 @@ impl Machine {
         requires { IsTrue (rise sizes.items) }
         ensures { IfOk result (λ x. StandsFor x (opening config sizes.items host.now)) }
     {
-        let roster = Roster::new(alloc, &config)?;
-        let children = new_children(alloc, roster.count())?;
+        let children = Children::new(alloc, &config)?;
         let course = Course {
             mood: Mood::Running,
-            left: roster.groups().len(),
+            left: children.roster().groups().len(),
             is_told: false,
             halted: false,
         };
         Ok(Machine {
             config,
             pid: host.pid,
-            roster,
             children,
             course,
             numbers: Numbers {
@@ -212,7 +206,8 @@ impl Machine {
     /// The order of this number failed.
     fn fail(&mut self, number: u64) -> Result<(), AllocError>
         ensures whole { self.new.broken ≡ self.old.broken }
-        ensures notes { OnOk result (Notes self.old.numbers self.new.numbers (Part.Fails number) []) }
+        ensures notes { OnOk result
+            (Notes self.old.numbers self.new.numbers (Part.Fails number) []) }
         ensures turn { OnOk result (GoesOnWith self.old (Part.Fails number) self.new) }
     {
         self.numbers.last = Some(number);
@@ -221,15 +216,4 @@ impl Machine {
             None => Ok(()),
         }
     }
-}
-
-/// So many children that were never started.
-fn new_children(alloc: Global, count: usize) -> Result<Vec<Child>, AllocError>
-    ensures { IfOk result (λ children. children.items ≡ replicate count new_child) }
-{
-    let mut children = Vec::new(alloc);
-    for _ in 0..count {
-        children.push(Child::new())?;
-    }
-    Ok(children)
 }

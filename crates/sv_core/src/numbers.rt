@@ -1,3 +1,4 @@
+//! The numbers that are given out.
 ghost use Rattle.std.specs.Prelude.{◌≡◌, ◌++◌, ◌+◌, ◌^◌, ◌%◌, [], Some, None, OnOk, length, map};
 ghost use Rattle.sv_core.specs.Failure.{failure_of, behind};
 ghost use Rattle.sv_core.specs.StandsFor.{is_above, failure_kept, can_name};
@@ -38,8 +39,13 @@ impl Numbers {
 
     /// An input comes that isn't a failed order: those before can no longer be named.
     pub(crate) fn forget(&mut self)
-        ensures kept { self.new ≡ record self.old { first = self.new.first; failures = self.new.failures; last = None } }
-        ensures first { self.new.first ≡ (self.old.first + length self.old.failures.items) % 2 ^ 64 }
+        ensures kept { self.new ≡ record self.old {
+          first = self.new.first;
+          failures = self.new.failures;
+          last = None;
+        } }
+        ensures first { self.new.first
+            ≡ (self.old.first + length self.old.failures.items) % 2 ^ 64 }
         ensures none { self.new.failures.items ≡ [] }
     {
         self.first = self.first.wrapping_add(self.failures.len() as u64);
@@ -50,7 +56,8 @@ impl Numbers {
     /// Keeps what is to be known of these orders.
     pub(crate) fn note(&mut self, given: &[Order]) -> Result<(), AllocError>
         ensures kept { self.new ≡ record self.old { failures = self.new.failures } }
-        ensures noted { OnOk result (self.new.failures.items ≡ self.old.failures.items ++ map failure_of given.now) }
+        ensures noted { OnOk result (self.new.failures.items
+            ≡ self.old.failures.items ++ map failure_of given.now) }
     {
         for order in given {
             self.failures.push(failure_of(order))?;

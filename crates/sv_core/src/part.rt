@@ -10,6 +10,7 @@ use sv_base::number::Pid;
 use sv_base::signal::DaemonSignal;
 use sv_base::state::How;
 use sv_base::text::Text;
+use sv_children::Told;
 use sv_out::input::Input;
 
 /// What is asked of the world, and answered before the turn goes on.
@@ -30,13 +31,6 @@ pub enum Reply {
     NotExecutable,
     /// There is no process, for this reason.
     Refused(Text),
-}
-
-/// What a child is told of its spawn: the number of its process, or why there is none.
-#[derive(Debug, Drop)]
-pub enum Told {
-    Started(Pid),
-    NotStarted(Text),
 }
 
 /// What a child is told of this answer.

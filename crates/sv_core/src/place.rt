@@ -3,8 +3,8 @@ ghost use Rattle.std.specs.Prelude.{◌≡◌};
 ghost use Rattle.sv_core.specs.StandsFor.{question_of};
 
 use crate::part::Question;
-use crate::sweep::Sweep;
 use sv_base::ids::Run;
+use sv_children::News;
 
 /// A spawn that was asked for: of a child, as this run.
 #[derive(Clone, Copy, Debug)]
@@ -23,7 +23,7 @@ pub struct Stop {
 /// What is left of a sweep at a question: the places up to before `to`.
 #[derive(Debug, Drop)]
 pub struct Paused {
-    pub sweep: Sweep,
+    pub news: News,
     pub to: usize,
     pub stop: Stop,
 }

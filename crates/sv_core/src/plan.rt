@@ -1,18 +1,15 @@
 //! Step 6 of a turn, the stop plan, and the signals that begin it.
-ghost use Rattle.std.specs.Prelude.{◌≡◌, ◌-◌, OnOk, drop, take};
-ghost use Rattle.std.specs.List.{list_all};
+ghost use Rattle.std.specs.Prelude.{◌≡◌, OnOk};
 ghost use Rattle.sv_base.specs.declared.signal.Signal.{Signal};
 ghost use Rattle.sv_core.specs.Frames.{Makes, MovesPlan};
-ghost use Rattle.sv_child.specs.Moves.{is_at_rest};
-ghost use Rattle.sv_child.specs.declared.child.Child.{Child};
-ghost use Rattle.sv_core.specs.Shutdown.{is_ending, is_group_at_rest, heeds, tells_group, follows_plan};
+ghost use Rattle.sv_children.specs.Spans.{are_at_rest};
+ghost use Rattle.sv_core.specs.Shutdown.{is_ending, heeds, tells_group, follows_plan};
+ghost use Rattle.sv_groups.specs.StartOrder.{span_of};
 
 use crate::machine::Machine;
 use std::alloc::AllocError;
 use sv_base::signal::{DaemonSignal, Signal};
 use sv_base::state::Mood;
-use sv_child::child::Child;
-use sv_groups::Span;
 
 fn is_ending(signal: Signal) -> bool
     ensures { result ≡ is_ending signal }
@@ -21,18 +18,6 @@ fn is_ending(signal: Signal) -> bool
         Signal::Term | Signal::Int | Signal::Quit => true,
         _ => false,
     }
-}
-
-/// Whether none of these children has a process or gets one by itself.
-fn are_at_rest(children: &[Child], span: Span) -> bool
-    ensures { result ≡ list_all (λ (c : Child). is_at_rest c.state)
-        (take (span.to - span.from) (drop span.from children.now)) }
-{
-    children
-        .iter()
-        .skip(span.from)
-        .take(span.to.saturating_sub(span.from))
-        .all(|child| child.is_at_rest())
 }
 
 impl Machine {
@@ -48,10 +33,10 @@ impl Machine {
 
     /// Whether the group of this place is at rest; what isn't there is.
     fn has_come_to_rest(&self, group: usize) -> bool
-        ensures { result ≡ is_group_at_rest group self.now.roster self.now.children.items }
+        ensures { result
+            ≡ are_at_rest (span_of group self.now.children.roster) self.now.children.all }
     {
-        let span = self.roster.span(group);
-        are_at_rest(self.children.as_slice(), span)
+        self.children.are_at_rest(self.children.group(group))
     }
 
     /// A group that isn't at rest is told to stop, once.
@@ -66,7 +51,7 @@ impl Machine {
         if self.has_come_to_rest(group) {
             return Ok(());
         }
-        let own = self.roster.span(group);
+        let own = self.children.group(group);
         self.course.is_told = true;
         self.stop_all(own)?;
         Ok(())

@@ -2,7 +2,6 @@
 ghost use Rattle.std.specs.Prelude.{◌≡◌, List, IfOk};
 ghost use Rattle.sv_core.specs.Frames.{MovesOn};
 ghost use Rattle.sv_core.specs.StandsFor.{paused, shown};
-ghost use Rattle.sv_core.specs.Stimuli.{span_meant};
 ghost use Rattle.sv_core.specs.Sweeps.{Turn};
 ghost use Rattle.sv_core.specs.Turn.{applies};
 ghost use Rattle.sv_core.specs.World.{World};
@@ -11,11 +10,9 @@ ghost use Rattle.sv_out.specs.declared.order.Order.{Order};
 use crate::machine::Machine;
 use crate::part::Cause;
 use crate::place::Paused;
-use crate::sweep::Sweep;
 use std::alloc::AllocError;
 use sv_base::state::Mood;
-use sv_base::text::Text;
-use sv_groups::{Found, Span};
+use sv_children::News;
 
 impl Machine {
     /// Step 2 of a turn, up to a question: what began the turn is applied. While the daemon ends, the console starts
@@ -30,15 +27,15 @@ impl Machine {
             Cause::Tick => Ok(None),
             Cause::Exit(run, how) => {
                 let all = self.children.len();
-                self.sweep_over(Sweep::Exit(run, how), 0, all)
+                self.sweep_over(News::Exit(run, how), 0, all)
             }
             Cause::Start(name) if self.course.mood == Mood::Running => {
-                let span = self.meant(&name);
-                self.sweep_over(Sweep::Start, span.from, span.to)
+                let span = self.children.meant(&name);
+                self.sweep_over(News::Start, span.from, span.to)
             }
             Cause::Start(_) => Ok(None),
             Cause::Stop(name) => {
-                let span = self.meant(&name);
+                let span = self.children.meant(&name);
                 self.stop_all(span)?;
                 Ok(None)
             }
@@ -46,20 +43,6 @@ impl Machine {
                 self.heed(&signal);
                 Ok(None)
             }
-        }
-    }
-
-    /// The children that a name of the console means.
-    fn meant(&self, name: &Text) -> Span
-        ensures { result ≡ span_meant name.now self.now.roster }
-    {
-        match self.roster.find(name.as_str()) {
-            Found::One(child) => {
-                let from = child.0 as usize;
-                Span { from, to: from + 1 }
-            }
-            Found::Group(group) => self.roster.span(group),
-            Found::Nothing => Span { from: 0, to: 0 },
         }
     }
 }

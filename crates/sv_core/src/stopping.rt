@@ -1,15 +1,12 @@
 //! Stopping children that are side by side.
-ghost use Rattle.std.specs.Prelude.{◌≡◌, List, OnOk};
+ghost use Rattle.std.specs.Prelude.{◌≡◌, OnOk};
 ghost use Rattle.sv_core.specs.Frames.{GivesOrders, Makes, MovesChildren};
-ghost use Rattle.sv_core.specs.Members.{member_at};
-ghost use Rattle.sv_core.specs.StandsFor.{shown};
 ghost use Rattle.sv_core.specs.Stops.{signals, stops, stops_all};
-ghost use Rattle.sv_out.specs.declared.order.Order.{Order};
 
 use crate::machine::Machine;
-use crate::report::report;
 use std::alloc::AllocError;
 use sv_child::step::ChildDeed;
+use sv_children::News;
 use sv_groups::Span;
 
 impl Machine {
@@ -27,27 +24,11 @@ impl Machine {
     /// Stops the child of one place.
     fn stop(&mut self, child: usize) -> Result<(), AllocError>
         ensures kept { MovesChildren self.old self.new }
-        ensures stops { OnOk result ((older : List Order) → shown self.new older
-            ≡ stops (member_at (shown self.old older) child) child (shown self.old older)) }
+        ensures stops { OnOk result (Makes (stops child) self.old self.new) }
     {
-        if child >= self.children.len() {
-            return Ok(());
-        }
-        match self.roster.process(child) {
-            None => Ok(()),
-            Some(process) => {
-                let own = &mut self.children[child];
-                let step = own.want_stop(process.1, self.hand.moment);
-                report(
-                    &process.0.name,
-                    &process.1.name,
-                    &step.edges,
-                    &mut self.hand.given,
-                )?;
-                self.signal(child, step.deed)?;
-                Ok(())
-            }
-        }
+        let deed = self.bring(&News::Stop, child)?;
+        self.signal(child, deed)?;
+        Ok(())
     }
 
     /// Stops the children of a span, from the last of the start order to the first.

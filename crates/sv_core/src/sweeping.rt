@@ -1,54 +1,79 @@
-//! A sweep over children, up to a question.
+//! News on their way over children, up to a question.
 ghost use Rattle.std.specs.Prelude.{◌≡◌, ◌-◌, List, IfOk, OnOk};
+ghost use Rattle.sv_children.specs.News.{deed_of, step_of, stimulus_of};
 ghost use Rattle.sv_core.specs.Frames.{GivesOrders, Makes, MovesChildren, StartsRuns};
-ghost use Rattle.sv_core.specs.Members.{member_at};
-ghost use Rattle.sv_core.specs.Moves.{kills, answered};
+ghost use Rattle.sv_core.specs.Moves.{answered, kills, moves, reported, says};
 ghost use Rattle.sv_core.specs.StandsFor.{paused, shown, stopped, swept};
 ghost use Rattle.sv_core.specs.Sweeps.{Turn, spawns, does, meets, sweeps};
 ghost use Rattle.sv_core.specs.World.{World};
 ghost use Rattle.sv_out.specs.declared.order.Order.{Order};
 
 use crate::machine::Machine;
-use crate::part::Reply;
+use crate::part::{Reply, told_of};
 use crate::place::{Asked, Paused, Stop};
-use crate::report::{kill_run, report, spawn_order};
-use crate::sweep::{Sweep, bring_reply};
 use std::alloc::AllocError;
 use sv_base::ids::Run;
 use sv_base::signal::Signal;
 use sv_base::text::Text;
-use sv_child::step::ChildDeed;
+use sv_child::step::{ChildDeed, Step};
+use sv_children::News;
 use sv_out::order::Order;
 
 /// The last number of a run.
 const LAST_RUN: u64 = 4_294_967_295;
 
 impl Machine {
-    /// The spawn of a child is answered.
-    pub(crate) fn answer(&mut self, asked: Asked, reply: Reply) -> Result<(), AllocError>
-        ensures kept { MovesChildren self.old self.new }
-        ensures answered { OnOk result (Makes (answered asked.child asked.run reply) self.old self.new) }
+    /// Reports the edges that a child took, if it took a step, and answers what is to be done for it.
+    #[tactic(auto, using(crate::proofs::Moved::reported_there))]
+    fn report(&mut self, child: usize, step: Option<Step>) -> Result<Option<ChildDeed>, AllocError>
+        ensures kept { GivesOrders self.old self.new }
+        ensures reports { OnOk result (Makes (reported child step) self.old self.new) }
+        ensures deed { IfOk result (λ deed. deed ≡ deed_of step) }
     {
-        if asked.child >= self.children.len() {
-            return Ok(());
-        }
-        match self.roster.process(asked.child) {
-            None => Ok(()),
-            Some(process) => {
-                let child = &mut self.children[asked.child];
-                let step = bring_reply(process.1, child, asked.run, reply, self.hand.moment);
-                report(
-                    &process.0.name,
-                    &process.1.name,
-                    &step.edges,
-                    &mut self.hand.given,
-                )?;
-                Ok(())
+        match step {
+            None => Ok(None),
+            Some(step) => {
+                self.children
+                    .report(child, &step.edges, &mut self.hand.given)?;
+                Ok(step.deed)
             }
         }
     }
 
+    /// News come to the child of a place, which takes its step. Answers what is then to be done for it.
+    pub(crate) fn bring(
+        &mut self,
+        news: &News,
+        child: usize,
+    ) -> Result<Option<ChildDeed>, AllocError>
+        ensures kept { MovesChildren self.old self.new }
+        ensures moves { OnOk result ((older : List Order) → let w = shown self.old older in
+            shown self.new older ≡ moves child (says (stimulus_of news.now) child w) w) }
+        ensures deed { IfOk result (λ deed. (older : List Order) → let w = shown self.old older in
+            deed ≡ deed_of (step_of (says (stimulus_of news.now) child w))) }
+    {
+        let step = self
+            .children
+            .bring(child, news, self.course.mood, self.hand.moment);
+        let deed = self.report(child, step)?;
+        Ok(deed)
+    }
+
+    /// The spawn of a child is answered.
+    pub(crate) fn answer(&mut self, asked: Asked, reply: Reply) -> Result<(), AllocError>
+        ensures kept { MovesChildren self.old self.new }
+        ensures answered { OnOk result
+            (Makes (answered asked.child asked.run reply) self.old self.new) }
+    {
+        let step = self
+            .children
+            .answer(asked.child, asked.run, told_of(reply), self.hand.moment);
+        self.report(asked.child, step)?;
+        Ok(())
+    }
+
     /// The run of a child is sent a signal.
+    #[tactic(auto, using(crate::proofs::Moved::killed_there))]
     pub(crate) fn kill(
         &mut self,
         child: usize,
@@ -56,24 +81,11 @@ impl Machine {
         group: bool,
     ) -> Result<(), AllocError>
         ensures kept { GivesOrders self.old self.new }
-        ensures kills { OnOk result ((older : List Order) → shown self.new older
-            ≡ kills (member_at (shown self.old older) child) signal group (shown self.old older)) }
+        ensures kills { OnOk result (Makes (kills child signal group) self.old self.new) }
     {
-        if child >= self.children.len() {
-            return Ok(());
-        }
-        match self.roster.process(child) {
-            None => Ok(()),
-            Some(_process) => {
-                kill_run(
-                    self.children[child].run,
-                    signal,
-                    group,
-                    &mut self.hand.given,
-                )?;
-                Ok(())
-            }
-        }
+        self.children
+            .kill(child, signal, group, &mut self.hand.given)?;
+        Ok(())
     }
 
     /// Orders the spawn of a child, which is a question; where no number is left for a run, the spawn fails.
@@ -81,23 +93,18 @@ impl Machine {
     fn spawn(&mut self, child: usize) -> Result<Option<Asked>, AllocError>
         ensures kept { StartsRuns self.old self.new }
         ensures spawns { IfOk result (λ asked. (older : List Order) (k : World → Turn) →
-            spawns (member_at (shown self.old older) child) child (shown self.old older) k
-            ≡ stopped asked (shown self.new older) k) }
+            spawns child (shown self.old older) k ≡ stopped asked (shown self.new older) k) }
     {
-        if child >= self.children.len() {
+        if self.numbers.next_run > LAST_RUN {
+            let nobody = Asked { child, run: Run(0) };
+            self.answer(nobody, Reply::Refused(Text::fixed("failed")))?;
             return Ok(None);
         }
-        match self.roster.process(child) {
+        let run = Run(self.numbers.next_run as u32);
+        match self.children.spawn_order(child, run)? {
             None => Ok(None),
-            Some(process) => {
-                if self.numbers.next_run > LAST_RUN {
-                    let nobody = Asked { child, run: Run(0) };
-                    self.answer(nobody, Reply::Refused(Text::fixed("failed")))?;
-                    return Ok(None);
-                }
-                let run = Run(self.numbers.next_run as u32);
-                let order = spawn_order(&process.0.name, process.1, run)?;
-                self.hand.given.push(Order::Spawn(order))?;
+            Some(spawning) => {
+                self.hand.given.push(Order::Spawn(spawning))?;
                 self.numbers.next_run += 1;
                 Ok(Some(Asked { child, run }))
             }
@@ -121,47 +128,26 @@ impl Machine {
         }
     }
 
-    /// A sweep comes to a child.
-    #[tactic(auto, unfolding(crate::specs::StandsFor::stopped))]
-    fn meet(&mut self, sweep: &Sweep, child: usize) -> Result<Option<Asked>, AllocError>
+    /// News come to the child of a place, and what is then to be done for it is done.
+    fn meet(&mut self, news: &News, child: usize) -> Result<Option<Asked>, AllocError>
         ensures kept { StartsRuns self.old self.new }
         ensures meets { IfOk result (λ asked. (older : List Order) (k : World → Turn) →
-            meets sweep.now (member_at (shown self.old older) child) child (shown self.old older) k
-            ≡ stopped asked (shown self.new older) k) }
+            meets news.now child (shown self.old older) k ≡ stopped asked (shown self.new older) k) }
     {
-        if child >= self.children.len() {
-            return Ok(None);
-        }
-        match self.roster.process(child) {
-            None => Ok(None),
-            Some(process) => {
-                let own = &mut self.children[child];
-                match sweep.bring(process.1, own, self.course.mood, self.hand.moment) {
-                    None => Ok(None),
-                    Some(step) => {
-                        report(
-                            &process.0.name,
-                            &process.1.name,
-                            &step.edges,
-                            &mut self.hand.given,
-                        )?;
-                        let asked = self.act(child, step.deed)?;
-                        Ok(asked)
-                    }
-                }
-            }
-        }
+        let deed = self.bring(news, child)?;
+        let asked = self.act(child, deed)?;
+        Ok(asked)
     }
 
-    /// A sweep goes over the places from the one to before the other, up to a question.
-    fn sweep(&mut self, sweep: &Sweep, from: usize, to: usize) -> Result<Option<Stop>, AllocError>
+    /// News go over the places from the one to before the other, up to a question.
+    fn sweep(&mut self, news: &News, from: usize, to: usize) -> Result<Option<Stop>, AllocError>
         ensures kept { StartsRuns self.old self.new }
         ensures sweeps { IfOk result (λ stop. (older : List Order) (k : World → Turn) →
-            sweeps sweep.now (to - from) from (shown self.old older) k
-            ≡ swept sweep.now to stop (shown self.new older) k) }
+            sweeps news.now (to - from) from (shown self.old older) k
+            ≡ swept news.now to stop (shown self.new older) k) }
     {
         for place in from..to {
-            match self.meet(sweep, place)? {
+            match self.meet(news, place)? {
                 Some(asked) => {
                     let next = place + 1;
                     return Ok(Some(Stop { next, asked }));
@@ -172,21 +158,21 @@ impl Machine {
         Ok(None)
     }
 
-    /// A sweep over these places; where it stops at a question, what is left of it.
+    /// News go over these places; where a question stops them, what is left of their way.
     #[tactic(auto, unfolding(crate::specs::StandsFor::swept, crate::specs::StandsFor::paused))]
     pub(crate) fn sweep_over(
         &mut self,
-        sweep: Sweep,
+        news: News,
         from: usize,
         to: usize,
     ) -> Result<Option<Paused>, AllocError>
         ensures kept { StartsRuns self.old self.new }
         ensures sweeps { IfOk result (λ left. (older : List Order) (k : World → Turn) →
-            sweeps sweep (to - from) from (shown self.old older) k
+            sweeps news (to - from) from (shown self.old older) k
             ≡ paused left (shown self.new older) k) }
     {
-        match self.sweep(&sweep, from, to)? {
-            Some(stop) => Ok(Some(Paused { sweep, to, stop })),
+        match self.sweep(&news, from, to)? {
+            Some(stop) => Ok(Some(Paused { news, to, stop })),
             None => Ok(None),
         }
     }

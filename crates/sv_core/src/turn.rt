@@ -2,7 +2,7 @@
 ghost use Rattle.std.specs.Prelude.{◌≡◌, ◌-◌, List, OnOk, Some};
 ghost use Rattle.sv_core.specs.Frames.{GoesOn, Makes};
 ghost use Rattle.sv_core.specs.StandsFor.{shown, rest};
-ghost use Rattle.sv_core.specs.Turn.{announces, turn, ticks, serves_links, hands_out, come, after_pass, after_stimulus, world_of};
+ghost use Rattle.sv_core.specs.Turn.{announces, turn, ticks, serves_links, hands_out, come, after_pass, after_stimulus, rewinds, world_of};
 ghost use Rattle.sv_core.specs.Sweeps.{sweeps};
 ghost use Rattle.sv_core.specs.Moves.{answered};
 ghost use Rattle.sv_out.specs.declared.order.Order.{Order};
@@ -11,10 +11,10 @@ use crate::failure::Failure;
 use crate::machine::Machine;
 use crate::part::{Cause, Followed, Reply};
 use crate::place::{Paused, Place};
-use crate::sweep::Sweep;
 use std::alloc::AllocError;
 use sv_base::moment::Moment;
 use sv_base::text::Text;
+use sv_children::News;
 
 impl Machine {
     /// A turn begins: steps 0 to 2, up to a question, and then the others.
@@ -48,7 +48,7 @@ impl Machine {
     {
         self.tick();
         let all = self.children.len();
-        match self.sweep_over(Sweep::Time, 0, all)? {
+        match self.sweep_over(News::Time, 0, all)? {
             Some(paused) => {
                 self.hand.place = Some(Place::Pass(paused));
                 Ok(())
@@ -128,12 +128,13 @@ impl Machine {
     fn go_on_in_stimulus(&mut self, paused: Paused, reply: Reply) -> Result<(), AllocError>
         ensures kept { GoesOn self.old self.new }
         ensures turn { OnOk result ((older : List Order) →
-            sweeps paused.sweep (paused.to - paused.stop.next) paused.stop.next
-            (answered paused.stop.asked.child paused.stop.asked.run reply (shown self.old older)) after_stimulus
+            let asked = paused.stop.asked in
+            sweeps paused.news (paused.to - paused.stop.next) paused.stop.next
+            (answered asked.child asked.run reply (shown self.old older)) after_stimulus
             ≡ rest self.new.hand.place (shown self.new older)) }
     {
         self.answer(paused.stop.asked, reply)?;
-        match self.sweep_over(paused.sweep, paused.stop.next, paused.to)? {
+        match self.sweep_over(paused.news, paused.stop.next, paused.to)? {
             Some(paused) => {
                 self.hand.place = Some(Place::Stimulus(paused));
                 Ok(())
@@ -147,12 +148,13 @@ impl Machine {
     fn go_on_in_pass(&mut self, paused: Paused, reply: Reply) -> Result<(), AllocError>
         ensures kept { GoesOn self.old self.new }
         ensures turn { OnOk result ((older : List Order) →
-            sweeps paused.sweep (paused.to - paused.stop.next) paused.stop.next
-            (answered paused.stop.asked.child paused.stop.asked.run reply (shown self.old older)) after_pass
+            let asked = paused.stop.asked in
+            sweeps paused.news (paused.to - paused.stop.next) paused.stop.next
+            (answered asked.child asked.run reply (shown self.old older)) after_pass
             ≡ rest self.new.hand.place (shown self.new older)) }
     {
         self.answer(paused.stop.asked, reply)?;
-        match self.sweep_over(paused.sweep, paused.stop.next, paused.to)? {
+        match self.sweep_over(paused.news, paused.stop.next, paused.to)? {
             Some(paused) => {
                 self.hand.place = Some(Place::Pass(paused));
                 Ok(())
@@ -166,6 +168,18 @@ impl Machine {
         ensures kept { self.new ≡ self.old }
         ensures announced { Makes announces self.old self.new }
     {}
+
+    /// Step 1: the turn's moment has come.
+    fn rewind(&mut self, at: Moment)
+        ensures kept { self.new ≡ record self.old {
+          children = self.new.children;
+          hand = record self.old.hand { moment = self.new.hand.moment };
+        } }
+        ensures rewound { Makes (rewinds at) self.old self.new }
+    {
+        self.children.rewind(at);
+        self.hand.moment = at;
+    }
 
     /// Step 3: the ticks of the clock. No pool is built yet.
     fn tick(&mut self)

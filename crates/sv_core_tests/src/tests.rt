@@ -12,7 +12,7 @@ use sv_base::signal::{DaemonSignal, Signal};
 use sv_base::spec::{GroupSpec, LogSpec, Spec};
 use sv_base::state::{Autorestart, How, Level, State};
 use sv_base::text::Text;
-use sv_core::machine::Machine;
+use sv_core::Machine;
 use sv_out::input::Input;
 use sv_out::order::Order;
 

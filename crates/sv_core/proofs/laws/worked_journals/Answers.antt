@@ -1,4 +1,5 @@
 use Rattle.std.proofs.Common.{refl}
+use Rattle.sv_core.proofs.NumbersBegin.{begin_again}
 use Rattle.sv_core.specs.Sweeps.{asks}
 use Rattle.sv_core.proofs.laws.worked_journals.Goals as goal
 
@@ -33,3 +34,6 @@ returns-clause-groups_stop_one_by_one c = λ rest. refl
 pub returns-clause-no_run_number_left : goal.returns-clause-no_run_number_left
 unfolding asks
 returns-clause-no_run_number_left c = λ rest. refl
+
+pub returns-clause-order_numbers_begin_again : goal.returns-clause-order_numbers_begin_again
+returns-clause-order_numbers_begin_again c = begin_again

@@ -10,6 +10,6 @@ abbrev pub invariant-loop-place : goal.invariant-loop-place
 invariant-loop-place l = record {
   kept : StartsRuns l.initial.self l.self;
   goes : (older : List Order) (k : World → Turn) →
-      sweeps l.sweep (l.to - l.fn.from) l.fn.from (shown l.initial.self older) k
-      ≡ sweeps l.sweep (l.to - l.place) l.place (shown l.self older) k;
+      sweeps l.news (l.to - l.fn.from) l.fn.from (shown l.initial.self older) k
+      ≡ sweeps l.news (l.to - l.place) l.place (shown l.self older) k;
 }

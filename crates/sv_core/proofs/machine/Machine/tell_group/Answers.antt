@@ -1,5 +1,4 @@
-use Rattle.std.proofs.Common.{refl, sym, ap, ◌∙◌}
-use Rattle.sv_core.specs.Stops.{stops_all}
+use Rattle.std.proofs.Common.{refl, sym, ◌∙◌}
 use Rattle.sv_core.proofs.machine.Machine.tell_group.Goals as goal
 
 pub returns-then-self-clause-tells : goal.returns-then-self-clause-tells
@@ -11,4 +10,4 @@ returns-then-has_come_to_rest-clause-tells c = λ older. rw (c.if-self.false, sy
 pub returns-clause-tells : goal.returns-clause-tells
 returns-clause-tells c = λ older.
     c.in_ok-stop_all.ensures.stops older
-    ∙ rw (c.span-own.ensures, c.if-self.false, sym c.if-has_come_to_rest.ensures) refl
+    ∙ rw (c.group-own.ensures, c.if-self.false, sym c.if-has_come_to_rest.ensures) refl

@@ -1,0 +1,5 @@
+mod Members
+mod Reports
+mod Rewinding
+mod Apart
+pub mod Walks

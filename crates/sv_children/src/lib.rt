@@ -1,0 +1,13 @@
+//! The children of the daemon in start order, and the step of one of them: what comes to the child of a place, which
+//! edges it takes, and the orders that these give. It keeps no turn and asks nothing; which children are gone over, and
+//! in which order, is the machine's.
+#![tactic(auto)]
+
+mod children;
+pub mod laws;
+mod news;
+mod orders;
+mod rewind;
+
+pub use crate::children::{Children, Member};
+pub use crate::news::{News, Told};

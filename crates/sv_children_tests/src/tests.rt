@@ -1,0 +1,181 @@
+//! One child in a group of another name than its own, and what names mean.
+use std::alloc::Global;
+use std::process::Abort;
+use std::rt::HostRuntime;
+use sv_base::config::{ClientSpec, Config};
+use sv_base::groups::Groups;
+use sv_base::ids::Run;
+use sv_base::items::Items;
+use sv_base::moment::Moment;
+use sv_base::number::{Backups, CaptureBytes, Pid, Retries, Seconds};
+use sv_base::signal::Signal;
+use sv_base::spec::{GroupSpec, LogSpec, Spec};
+use sv_base::state::{Autorestart, How, Level, Mood, State};
+use sv_base::text::Text;
+use sv_child::step::ChildDeed;
+use sv_children::{Children, News, Told};
+use sv_groups::Span;
+use sv_out::order::Order;
+
+fn no_log() -> LogSpec {
+    LogSpec {
+        file: None,
+        maxbytes: 0,
+        backups: Backups::least(),
+        capture: CaptureBytes::least(),
+        events: false,
+    }
+}
+
+/// A program which says that it is of another group than the one that it stands in.
+fn program(alloc: Global, name: &'static str) -> Spec {
+    Spec {
+        group: Text::fixed("other"),
+        name: Text::fixed(name),
+        words: Items::new(alloc),
+        priority: 999,
+        autostart: true,
+        startsecs: Seconds::least(),
+        startretries: Retries::least(),
+        autorestart: Autorestart::Never,
+        exitcodes: Items::new(alloc),
+        stopsignal: Signal::Term,
+        stopwaitsecs: Seconds::least(),
+        stopasgroup: false,
+        killasgroup: false,
+        redirect_stderr: false,
+        stdout: no_log(),
+        stderr: no_log(),
+        environment: Items::new(alloc),
+        directory: Text::fixed("/var"),
+        umask: Text::fixed(""),
+        user: Text::fixed(""),
+    }
+}
+
+fn group(rt: &impl Abort, alloc: Global, name: &'static str, names: &[&'static str]) -> GroupSpec {
+    let mut members = Items::new(alloc);
+    for name in names {
+        members.push(program(alloc, *name)).expect(rt, "memory");
+    }
+    GroupSpec {
+        name: Text::fixed(name),
+        priority: 999,
+        members,
+        pool: None,
+    }
+}
+
+/// The program d, alone in its group, and behind it the group g of three.
+fn one_and_three(rt: &impl Abort, alloc: Global) -> Children {
+    let mut groups = Vec::new(alloc);
+    groups
+        .push(group(rt, alloc, "d", &["d"]))
+        .expect(rt, "memory");
+    groups
+        .push(group(rt, alloc, "g", &["a", "b", "c"]))
+        .expect(rt, "memory");
+    let config = Config {
+        identifier: Text::fixed("supervisor"),
+        main: no_log(),
+        level: Level::Info,
+        groups: Groups::new(groups).expect(rt, "a roster"),
+        servers: Items::new(alloc),
+        client: ClientSpec {
+            url: Text::fixed(""),
+            username: Text::fixed(""),
+            password: Text::fixed(""),
+        },
+        rpc: false,
+    };
+    Children::new(alloc, &config).expect(rt, "memory")
+}
+
+/// What names mean, by the places of the children.
+const NAMES: [(&str, usize, usize); 7] = [
+    ("d", 0, 1),
+    ("d:d", 0, 1),
+    ("g:b", 2, 3),
+    ("g:*", 1, 4),
+    ("g", 0, 0),
+    ("other:b", 0, 0),
+    ("other:*", 0, 0),
+];
+
+#[test]
+fn names_are_the_rosters(rt: HostRuntime) {
+    let children = one_and_three(&rt, rt.alloc());
+    assert!(rt; children.len() == 4);
+    for (name, from, to) in NAMES {
+        let span = children.meant(&Text::fixed(name));
+        assert!(rt; span == Span { from, to });
+    }
+}
+
+/// The child b is started as run 7, and stopped: its reports, its spawn and its signal name the group g.
+#[test]
+fn one_child_is_started_and_stopped(rt: HostRuntime) {
+    let alloc = rt.alloc();
+    let mut children = one_and_three(&rt, alloc);
+    let now = Moment::zero();
+    let mut given = Vec::new(alloc);
+    let start = children
+        .bring(2, &News::Start, Mood::Running, now)
+        .expect(&rt, "a step");
+    assert!(rt; start.deed == Some(ChildDeed::Spawn));
+    children
+        .report(2, &start.edges, &mut given)
+        .expect(&rt, "memory");
+    let spawn = children
+        .spawn_order(2, Run(7))
+        .expect(&rt, "memory")
+        .expect(&rt, "a process");
+    assert!(rt; spawn.group.as_str() == "g");
+    assert!(rt; spawn.name.as_str() == "b");
+    assert!(rt; spawn.directory.as_str() == "/var");
+    let pid = Pid::new(12).expect(&rt, "a pid");
+    let _told = children.answer(2, Run(7), Told::Started(pid), now);
+    let other = News::Exit(Run(8), How::Code(0));
+    assert!(rt; children.bring(2, &other, Mood::Running, now).is_none());
+    let stop = children
+        .bring(2, &News::Stop, Mood::Running, now)
+        .expect(&rt, "a step");
+    assert!(rt; stop.deed == Some(ChildDeed::Kill(Signal::Term, false)));
+    assert!(rt; !children.are_at_rest(Span { from: 0, to: 4 }));
+    children
+        .report(2, &stop.edges, &mut given)
+        .expect(&rt, "memory");
+    children
+        .kill(2, Signal::Term, false, &mut given)
+        .expect(&rt, "memory");
+    assert!(rt; is_reported(given.as_slice()));
+}
+
+/// The orders of that child.
+fn is_reported(given: &[Order]) -> bool {
+    match given {
+        [started, stopped, signalled] => is_edge(started, State::Stopped, State::Starting)
+            && is_edge(stopped, State::Starting, State::Stopping)
+            && is_signal(signalled),
+        _ => false,
+    }
+}
+
+fn is_edge(order: &Order, left: State, entered: State) -> bool {
+    match order {
+        Order::State {
+            group,
+            name,
+            from,
+            to,
+        } => { group.as_str() == "g" && name.as_str() == "b" && *from == left && *to == entered }
+        _ => false,
+    }
+}
+
+fn is_signal(order: &Order) -> bool {
+    match order {
+        Order::Kill { run, signal, group } => run.0 == 7 && *signal == Signal::Term && !*group,
+        _ => false,
+    }
+}

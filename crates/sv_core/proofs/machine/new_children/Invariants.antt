@@ -1,7 +1,0 @@
-use Rattle.std.proofs.Common.{◌≡◌}
-use Rattle.std.specs.Prelude.{replicate}
-use Rattle.sv_child.specs.Moves.{new_child}
-use Rattle.sv_core.proofs.machine.new_children.Given as goal
-
-abbrev pub invariant-loop : goal.invariant-loop
-invariant-loop l = l.children.items ≡ replicate l.counter new_child
