@@ -5,8 +5,13 @@ use Rattle.std.specs.Fmt.{decimal}
 use Rattle.std.proofs.lemmas.Fmt.{decimal_by_steps}
 use Rattle.sv_base.specs.Limits.{moment_limit}
 use Rattle.sv_base.specs.declared.ids.Run.{Run}
+use Rattle.sv_base.specs.declared.ids.LinkId.{LinkId}
 use Rattle.sv_base.specs.declared.state.How.{How}
 use Rattle.sv_base.specs.declared.state.How.TheVariants as how_is
+use Rattle.sv_base.specs.declared.state.Stream.{Stream}
+use Rattle.sv_base.specs.declared.state.Stream.TheVariants as stream_is
+use Rattle.sv_base.specs.declared.state.Side.{Side}
+use Rattle.sv_base.specs.declared.state.Side.TheVariants as side_is
 use Rattle.sv_out.specs.declared.input.Input.{Input}
 use Rattle.sv_out.specs.declared.input.Input.TheVariants as input_is
 use Rattle.sv_journal.specs.declared.words.Verb.{Verb}
@@ -19,15 +24,16 @@ use Rattle.sv_journal.specs.declared.words.Ending.TheVariants as ending_is
 use Rattle.sv_journal.specs.declared.words.Answer.{Answer}
 use Rattle.sv_journal.specs.declared.words.Answer.TheVariants as answer_is
 use Rattle.sv_journal.specs.declared.token.Letters.{Letters}
-use Rattle.sv_journal.specs.declared.token.Letters.TheVariants.{OfText}
+use Rattle.sv_journal.specs.declared.token.Letters.TheVariants.{OfText, OfBytes}
 use Rattle.sv_journal.specs.Limits.{number_limit, run_limit}
 use Rattle.sv_journal.specs.Spelling.{token}
-use Rattle.sv_journal.specs.JournalLine.{how_words, FitsHow, input_line, FitsInput}
+use Rattle.sv_journal.specs.JournalLine.{AreBytes, IsPiece, how_words, FitsHow, stream_word, stream_end_word, side_word, input_line, FitsInput}
 use Rattle.sv_journal.specs.Reading.{◌>>=◌, end_at, keyword_at}
-use Rattle.sv_journal.specs.ReadingLines.{verb_word, verbs, told_signal, told_signals, told_word, ending_word, endings, answer_word, answers, word_then, keyword_then, number_then, last_token_then, how_at, exit_at, event_of, event_at, answer_of, answer_at, begins_with_digit, input_at}
+use Rattle.sv_journal.specs.ReadingLines.{verb_word, verbs, told_signal, told_signals, told_word, ending_word, endings, answer_word, answers, sides, word_then, keyword_then, number_then, last_token_then, last_piece_then, how_at, exit_at, out_at, out_end_at, open_at, link_piece_at, link_end_at, event_of, event_at, answer_of, answer_at, begins_with_digit, input_at}
 use Rattle.sv_journal.proofs.LineParts.{end_takes, word_then_takes, keyword_then_takes, number_then_takes, last_token_takes}
-use Rattle.sv_journal.proofs.Names.{good_text, text_good}
+use Rattle.sv_journal.proofs.Names.{good_text, text_good, good_bytes, bytes_good}
 use Rattle.sv_journal.proofs.NumberLaws.{IsLimit, number_again, digit_from}
+use Rattle.sv_journal.proofs.PieceLaws.{PieceTaken, last_piece_takes, end_piece}
 use Rattle.sv_journal.proofs.TokenLaws.{Good, token_again}
 
 pub moment_fits : IsLimit moment_limit
@@ -76,6 +82,13 @@ record Meant (line : List ℕ) (i : Input) : Type 0 where
   same : line ≡ input_line i
   fits : FitsInput i
 
+-- five parts, grouped from the left
+joined_five : (a b c d e : List ℕ) → a ++ (b ++ (c ++ (d ++ e))) ≡ (((a ++ b) ++ c) ++ d) ++ e
+joined_five a b c d e = simp append_assoc
+
+joined_three : (a b c : List ℕ) → a ++ (b ++ c) ≡ (a ++ b) ++ c
+joined_three a b c = sym (append_assoc a b c)
+
 exit_takes : (at : ℕ) (bs : List ℕ) (i : Input) → at ≤ moment_limit → exit_at at bs ≡ Ok i → Meant (decimal at ++ (codes " exit " ++ bs)) i
 unfolding exit_at
 exit_takes at bs i fits e =
@@ -85,12 +98,69 @@ exit_takes at bs i fits e =
     let h = how_takes at (record { 0 = run }) ending rest3 i e in
     let whole : bs ≡ decimal run ++ (codes " " ++ how_words h.how) = taken.same ∙ ap (λ (l : List ℕ). decimal run ++ l) (is2 ∙ ap (λ (l : List ℕ). codes " " ++ l) (is3 ∙ h.same)) in
     record {
-      same = ap (λ (l : List ℕ). decimal at ++ (codes " exit " ++ l)) whole ∙ regroup (decimal at) (codes " exit ") (decimal run) (codes " ") (how_words h.how) ∙ ap input_line (sym h.is);
+      same = ap (λ (l : List ℕ). decimal at ++ (codes " exit " ++ l)) whole ∙ joined_five (decimal at) (codes " exit ") (decimal run) (codes " ") (how_words h.how) ∙ ap input_line (sym h.is);
       fits = subst FitsInput (sym h.is) (fits, taken.high, h.fits);
     })))
-  where
-    regroup : (a b c d e : List ℕ) → a ++ (b ++ (c ++ (d ++ e))) ≡ (((a ++ b) ++ c) ++ d) ++ e
-    regroup a b c d e = simp append_assoc
+
+out_takes : (at : ℕ) (stream : Stream) (bs : List ℕ) (i : Input) → at ≤ moment_limit → out_at at stream bs ≡ Ok i → Meant (decimal at ++ (stream_word stream ++ bs)) i
+unfolding out_at
+out_takes at stream bs i fits e =
+    number_then_takes 0 run_limit (λ run. word_then (codes " ") (last_piece_then (λ bytes. input_is.Out at (record { 0 = run }) stream bytes))) bs i run_fits e (λ run rest taken e.
+    word_then_takes (codes " ") (last_piece_then (λ bytes. input_is.Out at (record { 0 = run }) stream bytes)) rest i e (λ rest2 is2 e.
+    last_piece_takes (λ bytes. input_is.Out at (record { 0 = run }) stream bytes) rest2 i e (λ bytes piece is.
+    let whole : bs ≡ decimal run ++ (codes " " ++ token bytes) = taken.same ∙ ap (λ (l : List ℕ). decimal run ++ l) (is2 ∙ ap (λ (l : List ℕ). codes " " ++ l) piece.same) in
+    record {
+      same = ap (λ (l : List ℕ). decimal at ++ (stream_word stream ++ l)) whole ∙ joined_five (decimal at) (stream_word stream) (decimal run) (codes " ") (token bytes) ∙ ap input_line (sym is);
+      fits = subst FitsInput (sym is) (fits, taken.high, piece.fits);
+    })))
+
+out_end_takes : (at : ℕ) (stream : Stream) (bs : List ℕ) (i : Input) → at ≤ moment_limit → out_end_at at stream bs ≡ Ok i → Meant (decimal at ++ (stream_end_word stream ++ bs)) i
+unfolding out_end_at
+out_end_takes at stream bs i fits e =
+    number_then_takes 0 run_limit (λ run. end_at (input_is.OutEnd at (record { 0 = run }) stream)) bs i run_fits e (λ run rest taken e.
+    let end = end_takes (input_is.OutEnd at (record { 0 = run }) stream) i rest e in
+    let whole : bs ≡ decimal run = taken.same ∙ ap (λ (l : List ℕ). decimal run ++ l) end.0 ∙ append-nil (decimal run) in
+    record {
+      same = ap (λ (l : List ℕ). decimal at ++ (stream_end_word stream ++ l)) whole ∙ joined_three (decimal at) (stream_end_word stream) (decimal run) ∙ ap input_line end.1;
+      fits = subst FitsInput end.1 (fits, taken.high);
+    })
+
+open_takes : (at : ℕ) (bs : List ℕ) (i : Input) → at ≤ moment_limit → open_at at bs ≡ Ok i → Meant (decimal at ++ (codes " open " ++ bs)) i
+unfolding open_at
+open_takes at bs i fits e =
+    number_then_takes 0 run_limit (λ link. word_then (codes " ") (keyword_then side_word sides (λ side. end_at (input_is.Open at (record { 0 = link }) side)))) bs i run_fits e (λ link rest taken e.
+    word_then_takes (codes " ") (keyword_then side_word sides (λ side. end_at (input_is.Open at (record { 0 = link }) side))) rest i e (λ rest2 is2 e.
+    keyword_then_takes side_word sides (λ side. end_at (input_is.Open at (record { 0 = link }) side)) rest2 i e (λ side rest3 is3 e.
+    let end = end_takes (input_is.Open at (record { 0 = link }) side) i rest3 e in
+    let last : rest2 ≡ side_word side = is3 ∙ ap (λ (l : List ℕ). side_word side ++ l) end.0 ∙ append-nil (side_word side) in
+    let whole : bs ≡ decimal link ++ (codes " " ++ side_word side) = taken.same ∙ ap (λ (l : List ℕ). decimal link ++ l) (is2 ∙ ap (λ (l : List ℕ). codes " " ++ l) last) in
+    record {
+      same = ap (λ (l : List ℕ). decimal at ++ (codes " open " ++ l)) whole ∙ joined_five (decimal at) (codes " open ") (decimal link) (codes " ") (side_word side) ∙ ap input_line end.1;
+      fits = subst FitsInput end.1 (fits, taken.high);
+    })))
+
+link_piece_takes : (at : ℕ) (bs : List ℕ) (i : Input) → at ≤ moment_limit → link_piece_at at bs ≡ Ok i → Meant (decimal at ++ (codes " piece " ++ bs)) i
+unfolding link_piece_at
+link_piece_takes at bs i fits e =
+    number_then_takes 0 run_limit (λ link. word_then (codes " ") (last_piece_then (λ bytes. input_is.Piece at (record { 0 = link }) bytes))) bs i run_fits e (λ link rest taken e.
+    word_then_takes (codes " ") (last_piece_then (λ bytes. input_is.Piece at (record { 0 = link }) bytes)) rest i e (λ rest2 is2 e.
+    last_piece_takes (λ bytes. input_is.Piece at (record { 0 = link }) bytes) rest2 i e (λ bytes piece is.
+    let whole : bs ≡ decimal link ++ (codes " " ++ token bytes) = taken.same ∙ ap (λ (l : List ℕ). decimal link ++ l) (is2 ∙ ap (λ (l : List ℕ). codes " " ++ l) piece.same) in
+    record {
+      same = ap (λ (l : List ℕ). decimal at ++ (codes " piece " ++ l)) whole ∙ joined_five (decimal at) (codes " piece ") (decimal link) (codes " ") (token bytes) ∙ ap input_line (sym is);
+      fits = subst FitsInput (sym is) (fits, taken.high, piece.fits);
+    })))
+
+link_end_takes : (at : ℕ) (bs : List ℕ) (i : Input) → at ≤ moment_limit → link_end_at at bs ≡ Ok i → Meant (decimal at ++ (codes " end " ++ bs)) i
+unfolding link_end_at
+link_end_takes at bs i fits e =
+    number_then_takes 0 run_limit (λ link. end_at (input_is.LinkEnd at (record { 0 = link }))) bs i run_fits e (λ link rest taken e.
+    let end = end_takes (input_is.LinkEnd at (record { 0 = link })) i rest e in
+    let whole : bs ≡ decimal link = taken.same ∙ ap (λ (l : List ℕ). decimal link ++ l) end.0 ∙ append-nil (decimal link) in
+    record {
+      same = ap (λ (l : List ℕ). decimal at ++ (codes " end " ++ l)) whole ∙ joined_three (decimal at) (codes " end ") (decimal link) ∙ ap input_line end.1;
+      fits = subst FitsInput end.1 (fits, taken.high);
+    })
 
 told_not_hup : (told : Told) → told_signal told ≢ signal_is.Hup
 told_not_hup told_is.Term = λ e. cc
@@ -109,6 +179,13 @@ event_of_takes at verb_is.Tick bs i fits e =
       fits = subst FitsInput end.1 fits;
     }
 event_of_takes at verb_is.Exit bs i fits e = exit_takes at bs i fits e
+event_of_takes at verb_is.Out bs i fits e = out_takes at stream_is.Out bs i fits e
+event_of_takes at verb_is.Err bs i fits e = out_takes at stream_is.Err bs i fits e
+event_of_takes at verb_is.OutEnd bs i fits e = out_end_takes at stream_is.Out bs i fits e
+event_of_takes at verb_is.ErrEnd bs i fits e = out_end_takes at stream_is.Err bs i fits e
+event_of_takes at verb_is.Open bs i fits e = open_takes at bs i fits e
+event_of_takes at verb_is.Piece bs i fits e = link_piece_takes at bs i fits e
+event_of_takes at verb_is.End bs i fits e = link_end_takes at bs i fits e
 event_of_takes at verb_is.Start bs i fits e =
     last_token_takes OfText (λ name. input_is.Start at name) bs i e (λ name taken is.
     record {
@@ -163,6 +240,18 @@ answer_of_takes answer_is.Refused bs i e =
       same = ap (λ (l : List ℕ). codes "refused " ++ l) (taken.same ∙ append-nil (token reason)) ∙ ap input_line (sym is);
       fits = subst FitsInput (sym is) (text_good reason taken.good);
     })
+answer_of_takes answer_is.Bytes bs i e =
+    last_token_takes OfBytes (λ bytes. input_is.Read bytes) bs i e (λ bytes taken is.
+    record {
+      same = ap (λ (l : List ℕ). codes "bytes " ++ l) (taken.same ∙ append-nil (token bytes)) ∙ ap input_line (sym is);
+      fits = subst FitsInput (sym is) (bytes_good bytes taken.good);
+    })
+answer_of_takes answer_is.Done bs i e =
+    let end = end_takes input_is.Done i bs e in
+    record { same = ap (λ (l : List ℕ). codes "done" ++ l) end.0 ∙ ap input_line end.1; fits = subst FitsInput end.1 tt }
+answer_of_takes answer_is.Missing bs i e =
+    let end = end_takes input_is.Missing i bs e in
+    record { same = ap (λ (l : List ℕ). codes "missing" ++ l) end.0 ∙ ap input_line end.1; fits = subst FitsInput end.1 tt }
 answer_of_takes answer_is.Failed bs i e =
     number_then_takes 0 number_limit (λ number. end_at (input_is.Failed number)) bs i number_fits e (λ number rest taken e.
     let end = end_takes (input_is.Failed number) i rest e in
@@ -195,6 +284,13 @@ input_fits bs i e = (input_means bs i e).fits
 pub verb_again : (verb : Verb) (rest : List ℕ) → keyword_at verb_word verbs (verb_word verb ++ rest) ≡ Ok (verb, rest)
 verb_again verb_is.Tick rest = refl
 verb_again verb_is.Exit rest = refl
+verb_again verb_is.Out rest = refl
+verb_again verb_is.Err rest = refl
+verb_again verb_is.OutEnd rest = refl
+verb_again verb_is.ErrEnd rest = refl
+verb_again verb_is.Open rest = refl
+verb_again verb_is.Piece rest = refl
+verb_again verb_is.End rest = refl
 verb_again verb_is.Start rest = refl
 verb_again verb_is.Stop rest = refl
 verb_again verb_is.Signal rest = refl
@@ -211,11 +307,18 @@ pub ending_again : (ending : Ending) (rest : List ℕ) → keyword_at ending_wor
 ending_again ending_is.Code rest = refl
 ending_again ending_is.Signal rest = refl
 
+pub side_again : (side : Side) (rest : List ℕ) → keyword_at side_word sides (side_word side ++ rest) ≡ Ok (side, rest)
+side_again side_is.Inet rest = refl
+side_again side_is.Unix rest = refl
+
 pub answer_again : (answer : Answer) (rest : List ℕ) → keyword_at answer_word answers (answer_word answer ++ rest) ≡ Ok (answer, rest)
 answer_again answer_is.Pid rest = refl
 answer_again answer_is.NoFile rest = refl
 answer_again answer_is.NotExecutable rest = refl
 answer_again answer_is.Refused rest = refl
+answer_again answer_is.Bytes rest = refl
+answer_again answer_is.Done rest = refl
+answer_again answer_is.Missing rest = refl
 answer_again answer_is.Failed rest = refl
 
 pub decimal_begins : (n : ℕ) (rest : List ℕ) → n < 2 ^ 64 → begins_with_digit (decimal n ++ rest) ≡ true
@@ -260,12 +363,49 @@ exit_again at run how small fits =
     ap (λ (r : Result (ℕ × List ℕ) ℕ). r >>= (λ r. word_then (codes " ") (keyword_then ending_word endings (how_at at (record { 0 = r.0 }))) r.1)) (number_again 0 run_limit run.0 (codes " " ++ how_words how) run_fits (omega arith) (omega arith) small refl)
     ∙ how_again at run how fits
 
+-- a run or a link, and what is read behind it
+numbered_again : (next : ℕ → List ℕ → Result Input ℕ) (n : ℕ) (rest : List ℕ) → n ≤ run_limit → number_then 0 run_limit (λ n. word_then (codes " ") (next n)) (decimal n ++ (codes " " ++ rest)) ≡ next n rest
+numbered_again next n rest small =
+    ap (λ (r : Result (ℕ × List ℕ) ℕ). r >>= (λ r. word_then (codes " ") (next r.0) r.1)) (number_again 0 run_limit n (codes " " ++ rest) run_fits (omega arith) (omega arith) small refl)
+
+out_again : (at : ℕ) (run : Run) (stream : Stream) (bytes : List ℕ) → run.0 ≤ run_limit → IsPiece bytes → out_at at stream (decimal run.0 ++ (codes " " ++ token bytes)) ≡ Ok (input_is.Out at run stream bytes)
+unfolding out_at
+out_again at run stream bytes small piece =
+    numbered_again (λ run. last_piece_then (λ bytes. input_is.Out at (record { 0 = run }) stream bytes)) run.0 (token bytes) small
+    ∙ end_piece (λ bytes. input_is.Out at run stream bytes) bytes piece
+
+out_end_again : (at : ℕ) (run : Run) (stream : Stream) → run.0 ≤ run_limit → out_end_at at stream (decimal run.0) ≡ Ok (input_is.OutEnd at run stream)
+unfolding out_end_at
+out_end_again at run stream small =
+    end_number 0 run_limit run.0 (λ run. input_is.OutEnd at (record { 0 = run }) stream) run_fits (omega arith) (omega arith) small
+
+open_again : (at : ℕ) (link : LinkId) (side : Side) → link.0 ≤ run_limit → open_at at (decimal link.0 ++ (codes " " ++ side_word side)) ≡ Ok (input_is.Open at link side)
+unfolding open_at
+open_again at link side small =
+    numbered_again (λ link. keyword_then side_word sides (λ side. end_at (input_is.Open at (record { 0 = link }) side))) link.0 (side_word side) small
+    ∙ ap (keyword_then side_word sides (λ side. end_at (input_is.Open at link side))) (sym (append-nil (side_word side)))
+    ∙ ap (λ (r : Result (Side × List ℕ) ℕ). r >>= (λ r. end_at (input_is.Open at link r.0) r.1)) (side_again side [])
+
+link_piece_again : (at : ℕ) (link : LinkId) (bytes : List ℕ) → link.0 ≤ run_limit → IsPiece bytes → link_piece_at at (decimal link.0 ++ (codes " " ++ token bytes)) ≡ Ok (input_is.Piece at link bytes)
+unfolding link_piece_at
+link_piece_again at link bytes small piece =
+    numbered_again (λ link. last_piece_then (λ bytes. input_is.Piece at (record { 0 = link }) bytes)) link.0 (token bytes) small
+    ∙ end_piece (λ bytes. input_is.Piece at link bytes) bytes piece
+
+link_end_again : (at : ℕ) (link : LinkId) → link.0 ≤ run_limit → link_end_at at (decimal link.0) ≡ Ok (input_is.LinkEnd at link)
+unfolding link_end_at
+link_end_again at link small =
+    end_number 0 run_limit link.0 (λ link. input_is.LinkEnd at (record { 0 = link })) run_fits (omega arith) (omega arith) small
+
 answer_then : (answer : Answer) (rest : List ℕ) → input_at (answer_word answer ++ rest) ≡ answer_of answer rest
 unfolding input_at answer_at
 answer_then answer_is.Pid rest = refl
 answer_then answer_is.NoFile rest = refl
 answer_then answer_is.NotExecutable rest = refl
 answer_then answer_is.Refused rest = refl
+answer_then answer_is.Bytes rest = refl
+answer_then answer_is.Done rest = refl
+answer_then answer_is.Missing rest = refl
 answer_then answer_is.Failed rest = refl
 
 signal_again : (at : ℕ) (told : Told) → at ≤ moment_limit → input_at (input_line (input_is.Signal at (told_signal told))) ≡ Ok (input_is.Signal at (told_signal told))
@@ -281,6 +421,20 @@ unfolding event_of answer_of
 input_again (input_is.Tick at) fits = event_again at verb_is.Tick [] fits
 input_again (input_is.Exit at run how) fits =
     ap input_at (simp append_assoc) ∙ event_again at verb_is.Exit (decimal run.0 ++ (codes " " ++ how_words how)) fits.0 ∙ exit_again at run how fits.1 fits.2
+input_again (input_is.Out at run stream_is.Out bytes) fits =
+    ap input_at (simp append_assoc) ∙ event_again at verb_is.Out (decimal run.0 ++ (codes " " ++ token bytes)) fits.0 ∙ out_again at run stream_is.Out bytes fits.1 fits.2
+input_again (input_is.Out at run stream_is.Err bytes) fits =
+    ap input_at (simp append_assoc) ∙ event_again at verb_is.Err (decimal run.0 ++ (codes " " ++ token bytes)) fits.0 ∙ out_again at run stream_is.Err bytes fits.1 fits.2
+input_again (input_is.OutEnd at run stream_is.Out) fits =
+    ap input_at (append_assoc (decimal at) (codes " outend ") (decimal run.0)) ∙ event_again at verb_is.OutEnd (decimal run.0) fits.0 ∙ out_end_again at run stream_is.Out fits.1
+input_again (input_is.OutEnd at run stream_is.Err) fits =
+    ap input_at (append_assoc (decimal at) (codes " errend ") (decimal run.0)) ∙ event_again at verb_is.ErrEnd (decimal run.0) fits.0 ∙ out_end_again at run stream_is.Err fits.1
+input_again (input_is.Open at link side) fits =
+    ap input_at (simp append_assoc) ∙ event_again at verb_is.Open (decimal link.0 ++ (codes " " ++ side_word side)) fits.0 ∙ open_again at link side fits.1
+input_again (input_is.Piece at link bytes) fits =
+    ap input_at (simp append_assoc) ∙ event_again at verb_is.Piece (decimal link.0 ++ (codes " " ++ token bytes)) fits.0 ∙ link_piece_again at link bytes fits.1 fits.2
+input_again (input_is.LinkEnd at link) fits =
+    ap input_at (append_assoc (decimal at) (codes " end ") (decimal link.0)) ∙ event_again at verb_is.End (decimal link.0) fits.0 ∙ link_end_again at link fits.1
 input_again (input_is.Start at name) fits =
     ap input_at (append_assoc (decimal at) (codes " start ") (token name)) ∙ event_again at verb_is.Start (token name) fits.0 ∙ end_text (λ name. input_is.Start at name) name fits.1
 input_again (input_is.Stop at name) fits =
@@ -295,6 +449,9 @@ input_again (input_is.Signal at signal_is.Usr2) fits = signal_again at told_is.U
 input_again (input_is.Pid pid) fits = answer_then answer_is.Pid (decimal pid) ∙ end_number 1 run_limit pid (λ pid. input_is.Pid pid) run_fits (omega arith) fits.0 fits.1
 input_again input_is.NoFile fits = answer_then answer_is.NoFile []
 input_again input_is.NotExecutable fits = answer_then answer_is.NotExecutable []
+input_again (input_is.Read bytes) fits = answer_then answer_is.Bytes (token bytes) ∙ end_token OfBytes (λ bytes. input_is.Read bytes) bytes (good_bytes bytes fits)
+input_again input_is.Done fits = answer_then answer_is.Done []
+input_again input_is.Missing fits = answer_then answer_is.Missing []
 input_again (input_is.Failed number) fits = answer_then answer_is.Failed (decimal number) ∙ end_number 0 number_limit number (λ number. input_is.Failed number) number_fits (omega arith) (omega arith) fits
 input_again (input_is.Refused reason) fits = answer_then answer_is.Refused (token reason) ∙ end_text (λ reason. input_is.Refused reason) reason fits
 

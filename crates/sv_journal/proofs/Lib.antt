@@ -7,13 +7,16 @@ pub mod OneMeaning
 pub mod Letters
 pub mod LineParts
 pub mod Lists
+pub mod Marks
 pub mod Names
 pub mod NoLineFeed
 pub mod NumberLaws
+pub mod PieceLaws
 pub mod Results
 pub mod Sharp
 pub mod SharpCodes
 pub mod SharpLines
+pub mod SharpPiece
 pub mod SharpToken
 pub mod Stages
 pub mod TokenLaws

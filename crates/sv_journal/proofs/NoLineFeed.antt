@@ -11,6 +11,10 @@ use Rattle.sv_base.specs.declared.signal.Signal.{Signal}
 use Rattle.sv_base.specs.declared.signal.Signal.TheVariants as signal_is
 use Rattle.sv_base.specs.declared.state.How.{How}
 use Rattle.sv_base.specs.declared.state.How.TheVariants as how_is
+use Rattle.sv_base.specs.declared.state.Stream.{Stream}
+use Rattle.sv_base.specs.declared.state.Stream.TheVariants as stream_is
+use Rattle.sv_base.specs.declared.state.Side.{Side}
+use Rattle.sv_base.specs.declared.state.Side.TheVariants as side_is
 use Rattle.sv_base.specs.declared.state.Autorestart.{Autorestart}
 use Rattle.sv_base.specs.declared.state.Autorestart.TheVariants as autorestart_is
 use Rattle.sv_out.specs.declared.input.Input.{Input}
@@ -19,7 +23,7 @@ use Rattle.sv_journal.specs.declared.header.Header.{Header}
 use Rattle.sv_journal.specs.declared.header.Header.TheVariants as header_is
 use Rattle.sv_journal.specs.declared.header.Program.{Program}
 use Rattle.sv_journal.specs.Spelling.{stands_for_itself, hex_digit, byte_spelling, bytes_spelling, token, comma_list}
-use Rattle.sv_journal.specs.JournalLine.{how_words, FitsHow, input_line, FitsInput, autorestart_word, is_exit_code, header_line, FitsHeader, program_line, FitsProgram}
+use Rattle.sv_journal.specs.JournalLine.{how_words, FitsHow, stream_word, stream_end_word, side_word, input_line, FitsInput, autorestart_word, is_exit_code, header_line, FitsHeader, program_line, FitsProgram}
 use Rattle.sv_journal.proofs.TokenLaws.{spelled_itself, spelled_escaped}
 
 abbrev Plain : List ℕ → Type 0
@@ -89,6 +93,26 @@ signal signal_is.Kill = refl
 signal signal_is.Usr1 = refl
 signal signal_is.Usr2 = refl
 
+stream : (stream : Stream) → Plain (stream_word stream)
+stream stream_is.Out = refl
+stream stream_is.Err = refl
+
+stream_end : (stream : Stream) → Plain (stream_end_word stream)
+stream_end stream_is.Out = refl
+stream_end stream_is.Err = refl
+
+side : (side : Side) → Plain (side_word side)
+side side_is.Inet = refl
+side side_is.Unix = refl
+
+-- a plain front, a space and a plain part
+spaced : (front part : List ℕ) → Plain front → Plain part → Plain (front ++ codes " " ++ part)
+spaced front part p q = joined (front ++ codes " ") part (joined front (codes " ") p refl) q
+
+-- a moment, a plain word and the number of a run or a link
+numbered : (at : ℕ) (word : List ℕ) (n : ℕ) → at < 2 ^ 64 → n < 2 ^ 64 → Plain word → Plain (decimal at ++ word ++ decimal n)
+numbered at word n early small plain = joined (decimal at ++ word) (decimal n) (after_number at word early plain) (number n small)
+
 pub plain_input : (i : Input) → FitsInput i → Plain (input_line i)
 plain_input (input_is.Tick at) fits = after_number at (codes " tick") (omega arith) refl
 plain_input (input_is.Exit at run how_ended) fits =
@@ -98,6 +122,26 @@ plain_input (input_is.Exit at run how_ended) fits =
     (joined (decimal at ++ codes " exit " ++ decimal run.0) (codes " ")
     (joined (decimal at ++ codes " exit ") (decimal run.0) (after_number at (codes " exit ") (omega arith) refl) (number run.0 (omega arith))) refl)
     (how how_ended fits.2)
+plain_input (input_is.Out at run which bytes) fits =
+    let moment = fits.0 in
+    let small = fits.1 in
+    spaced (decimal at ++ stream_word which ++ decimal run.0) (token bytes) (numbered at (stream_word which) run.0 (omega arith) (omega arith) (stream which)) (text bytes)
+plain_input (input_is.OutEnd at run which) fits =
+    let moment = fits.0 in
+    let small = fits.1 in
+    numbered at (stream_end_word which) run.0 (omega arith) (omega arith) (stream_end which)
+plain_input (input_is.Open at link kind) fits =
+    let moment = fits.0 in
+    let small = fits.1 in
+    spaced (decimal at ++ codes " open " ++ decimal link.0) (side_word kind) (numbered at (codes " open ") link.0 (omega arith) (omega arith) refl) (side kind)
+plain_input (input_is.Piece at link bytes) fits =
+    let moment = fits.0 in
+    let small = fits.1 in
+    spaced (decimal at ++ codes " piece " ++ decimal link.0) (token bytes) (numbered at (codes " piece ") link.0 (omega arith) (omega arith) refl) (text bytes)
+plain_input (input_is.LinkEnd at link) fits =
+    let moment = fits.0 in
+    let small = fits.1 in
+    numbered at (codes " end ") link.0 (omega arith) (omega arith) refl
 plain_input (input_is.Start at name) fits =
     let moment = fits.0 in
     joined (decimal at ++ codes " start ") (token name) (after_number at (codes " start ") (omega arith) refl) (text name)
@@ -110,6 +154,9 @@ plain_input (input_is.Signal at told) fits =
 plain_input (input_is.Pid pid) fits = let most = fits.1 in joined (codes "pid ") (decimal pid) refl (number pid (omega arith))
 plain_input input_is.NoFile fits = refl
 plain_input input_is.NotExecutable fits = refl
+plain_input (input_is.Read bytes) fits = joined (codes "bytes ") (token bytes) refl (text bytes)
+plain_input input_is.Done fits = refl
+plain_input input_is.Missing fits = refl
 plain_input (input_is.Failed failed) fits = joined (codes "failed ") (decimal failed) refl (number failed (omega arith))
 plain_input (input_is.Refused reason) fits = joined (codes "refused ") (token reason) refl (text reason)
 
@@ -117,10 +164,6 @@ autorestart : (autorestart : Autorestart) → Plain (autorestart_word autorestar
 autorestart autorestart_is.Never = refl
 autorestart autorestart_is.Unexpected = refl
 autorestart autorestart_is.Always = refl
-
--- a plain front, a space and a plain part
-spaced : (front part : List ℕ) → Plain front → Plain part → Plain (front ++ codes " " ++ part)
-spaced front part p q = joined (front ++ codes " ") part (joined front (codes " ") p refl) q
 
 program : (p : Program) → FitsProgram p → Plain (program_line p)
 program p fits =

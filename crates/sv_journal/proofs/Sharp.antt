@@ -45,7 +45,7 @@ left_of (Err left) = left
 pub err_value : {X : Type 0} (a b : ℕ) → ◌≡◌ {A = Result X ℕ} (Err a) (Err b) → a ≡ b
 err_value {X} a b e = ap (λ (r : Result X ℕ). left_of r) e
 
-cons_head : (a b : ℕ) (xs ys : List ℕ) → a ∷ xs ≡ b ∷ ys → a ≡ b
+pub cons_head : (a b : ℕ) (xs ys : List ℕ) → a ∷ xs ≡ b ∷ ys → a ≡ b
 cons_head a b xs ys e = ap (λ (l : List ℕ). get_or l 0 0) e
 
 pub at_head : {X : Type 0} (h : List ℕ → Result X ℕ) (Q : List ℕ → Bool) (b : ℕ) (bs : List ℕ) (left : ℕ) → left ≡ suc (length bs) → ((other : List ℕ) → h (b ∷ other) ≡ Err (suc (length other)))

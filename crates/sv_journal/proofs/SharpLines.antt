@@ -8,6 +8,9 @@ use Rattle.sv_base.specs.declared.ids.Run.{Run}
 use Rattle.sv_base.specs.declared.signal.Signal.{Signal}
 use Rattle.sv_base.specs.declared.signal.Signal.TheVariants as signal_is
 use Rattle.sv_base.specs.declared.state.How.TheVariants as how_is
+use Rattle.sv_base.specs.declared.state.Stream.{Stream}
+use Rattle.sv_base.specs.declared.state.Stream.TheVariants as stream_is
+use Rattle.sv_base.specs.declared.state.Side.TheVariants as side_is
 use Rattle.sv_base.specs.declared.state.Autorestart.{Autorestart}
 use Rattle.sv_base.specs.declared.state.Autorestart.TheVariants as autorestart_is
 use Rattle.sv_out.specs.declared.input.Input.{Input}
@@ -26,16 +29,17 @@ use Rattle.sv_journal.specs.declared.words.Opening.TheVariants as opening_is
 use Rattle.sv_journal.specs.declared.token.Letters.{Letters}
 use Rattle.sv_journal.specs.declared.token.Letters.TheVariants.{OfText, OfName, OfBytes}
 use Rattle.sv_journal.specs.Limits.{number_limit, run_limit, program_limit}
-use Rattle.sv_journal.specs.JournalLine.{autorestart_word, input_line, FitsInput, header_line, FitsHeader}
+use Rattle.sv_journal.specs.JournalLine.{autorestart_word, side_word, input_line, FitsInput, header_line, FitsHeader}
 use Rattle.sv_journal.specs.Reading.{◌>>=◌, end_at, token_at}
-use Rattle.sv_journal.specs.ReadingLines.{verb_word, verbs, told_signal, told_signals, told_word, ending_word, endings, answer_word, answers, opening_word, openings, signals, autorestarts, word_then, keyword_then, number_then, token_then, last_token_then, how_at, exit_at, event_of, event_at, answer_of, answer_at, begins_with_digit, input_at, codes_at, restart_at, start_at, program_at, env_at, size_at, include_at, header_of, header_at}
+use Rattle.sv_journal.specs.ReadingLines.{verb_word, verbs, told_signal, told_signals, told_word, ending_word, endings, answer_word, answers, sides, opening_word, openings, signals, autorestarts, word_then, keyword_then, number_then, token_then, last_token_then, last_piece_then, how_at, exit_at, out_at, out_end_at, open_at, link_piece_at, link_end_at, event_of, event_at, answer_of, answer_at, begins_with_digit, input_at, codes_at, restart_at, start_at, program_at, env_at, size_at, include_at, header_of, header_at}
 use Rattle.sv_journal.proofs.CommaLaws.{ends_codes}
 use Rattle.sv_journal.proofs.Columns.{Exact}
 use Rattle.sv_journal.proofs.HeaderLaws.{program_fits, header_takes, header_fits, header_again, opening_again, signal_again, autorestart_again}
-use Rattle.sv_journal.proofs.InputLaws.{moment_fits, number_fits, run_fits, told_again, code_fits, signal_fits, verb_again, ending_again, answer_again, decimal_begins, input_takes, input_fits, input_again}
+use Rattle.sv_journal.proofs.InputLaws.{moment_fits, number_fits, run_fits, told_again, code_fits, signal_fits, verb_again, side_again, ending_again, answer_again, decimal_begins, input_takes, input_fits, input_again}
 use Rattle.sv_journal.proofs.NumberLaws.{IsLimit}
 use Rattle.sv_journal.proofs.Sharp.{Failure, Sharp, any, plain, sharp_end, sharp_word, sharp_keyword, sharp_number}
 use Rattle.sv_journal.proofs.SharpCodes.{sharp_codes}
+use Rattle.sv_journal.proofs.SharpPiece.{sharp_piece}
 use Rattle.sv_journal.proofs.SharpToken.{sharp_token}
 use Rattle.sv_journal.proofs.TokenLaws.{ends}
 
@@ -113,10 +117,44 @@ exit_sharp at =
     sharp_word 32 [] (keyword_then ending_word endings (how_at at (record { 0 = run }))) any plain (λ x. refl)
     (sharp_keyword ending_word endings ending_is.Code (how_at at (record { 0 = run })) any ending_again (λ k x. refl) (how_sharp at (record { 0 = run }))))
 
+out_sharp : (at : ℕ) (stream : Stream) → Sharp (out_at at stream) any
+unfolding out_at
+out_sharp at stream =
+    sharp_number 0 run_limit (λ run. word_then (codes " ") (last_piece_then (λ bytes. input_is.Out at (record { 0 = run }) stream bytes))) plain any run_fits (omega arith) plain_no_digit (λ n x h. refl) (λ run.
+    sharp_word 32 [] (last_piece_then (λ bytes. input_is.Out at (record { 0 = run }) stream bytes)) any plain (λ x. refl) (sharp_piece (λ bytes. input_is.Out at (record { 0 = run }) stream bytes)))
+
+out_end_sharp : (at : ℕ) (stream : Stream) → Sharp (out_end_at at stream) any
+unfolding out_end_at
+out_end_sharp at stream = last_number 0 run_limit (λ run. input_is.OutEnd at (record { 0 = run }) stream) run_fits (omega arith)
+
+open_sharp : (at : ℕ) → Sharp (open_at at) any
+unfolding open_at
+open_sharp at =
+    sharp_number 0 run_limit (λ link. word_then (codes " ") (keyword_then side_word sides (λ side. end_at (input_is.Open at (record { 0 = link }) side)))) plain any run_fits (omega arith) plain_no_digit (λ n x h. refl) (λ link.
+    sharp_word 32 [] (keyword_then side_word sides (λ side. end_at (input_is.Open at (record { 0 = link }) side))) any plain (λ x. refl)
+    (sharp_keyword side_word sides side_is.Inet (λ side. end_at (input_is.Open at (record { 0 = link }) side)) any side_again (λ k x. refl) (λ side. weaker (sharp_end (input_is.Open at (record { 0 = link }) side)))))
+
+link_piece_sharp : (at : ℕ) → Sharp (link_piece_at at) any
+unfolding link_piece_at
+link_piece_sharp at =
+    sharp_number 0 run_limit (λ link. word_then (codes " ") (last_piece_then (λ bytes. input_is.Piece at (record { 0 = link }) bytes))) plain any run_fits (omega arith) plain_no_digit (λ n x h. refl) (λ link.
+    sharp_word 32 [] (last_piece_then (λ bytes. input_is.Piece at (record { 0 = link }) bytes)) any plain (λ x. refl) (sharp_piece (λ bytes. input_is.Piece at (record { 0 = link }) bytes)))
+
+link_end_sharp : (at : ℕ) → Sharp (link_end_at at) any
+unfolding link_end_at
+link_end_sharp at = last_number 0 run_limit (λ link. input_is.LinkEnd at (record { 0 = link })) run_fits (omega arith)
+
 event_of_sharp : (at : ℕ) (verb : Verb) → Sharp (event_of at verb) any
 unfolding event_of
 event_of_sharp at verb_is.Tick = weaker (sharp_end (input_is.Tick at))
 event_of_sharp at verb_is.Exit = exit_sharp at
+event_of_sharp at verb_is.Out = out_sharp at stream_is.Out
+event_of_sharp at verb_is.Err = out_sharp at stream_is.Err
+event_of_sharp at verb_is.OutEnd = out_end_sharp at stream_is.Out
+event_of_sharp at verb_is.ErrEnd = out_end_sharp at stream_is.Err
+event_of_sharp at verb_is.Open = open_sharp at
+event_of_sharp at verb_is.Piece = link_piece_sharp at
+event_of_sharp at verb_is.End = link_end_sharp at
 event_of_sharp at verb_is.Start = last_token OfText (λ name. input_is.Start at name)
 event_of_sharp at verb_is.Stop = last_token OfText (λ name. input_is.Stop at name)
 event_of_sharp at verb_is.Signal =
@@ -135,6 +173,9 @@ answer_of_sharp answer_is.Pid = last_number 1 run_limit (λ pid. input_is.Pid pi
 answer_of_sharp answer_is.NoFile = weaker (sharp_end input_is.NoFile)
 answer_of_sharp answer_is.NotExecutable = weaker (sharp_end input_is.NotExecutable)
 answer_of_sharp answer_is.Refused = last_token OfText (λ reason. input_is.Refused reason)
+answer_of_sharp answer_is.Bytes = last_token OfBytes (λ bytes. input_is.Read bytes)
+answer_of_sharp answer_is.Done = weaker (sharp_end input_is.Done)
+answer_of_sharp answer_is.Missing = weaker (sharp_end input_is.Missing)
 answer_of_sharp answer_is.Failed = last_number 0 number_limit (λ number. input_is.Failed number) number_fits (omega arith)
 
 abbrev no_digit : List ℕ → Bool
@@ -145,6 +186,9 @@ answer_begins answer_is.Pid rest = refl
 answer_begins answer_is.NoFile rest = refl
 answer_begins answer_is.NotExecutable rest = refl
 answer_begins answer_is.Refused rest = refl
+answer_begins answer_is.Bytes rest = refl
+answer_begins answer_is.Done rest = refl
+answer_begins answer_is.Missing rest = refl
 answer_begins answer_is.Failed rest = refl
 
 answer_sharp : Sharp answer_at no_digit

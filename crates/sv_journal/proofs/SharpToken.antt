@@ -62,11 +62,11 @@ ending : (letters : Letters) (awaits : Awaits) → IsGood awaits → Ending lett
 ending letters Character g = record { v = []; good = refl }
 ending letters (Continuation low high more) g = end_more letters more low high g.0 g.1 g.2
 
-record Escaped (letters : Letters) (awaits : Awaits) (high : ℕ) : Type 0 where
-  b : ℕ
-  small : b < 256
-  begins : b / 16 ≡ high
-  good : escapes letters awaits b ≡ true
+pub record Escaped (letters : Letters) (awaits : Awaits) (high : ℕ) : Type 0 where
+  pub b : ℕ
+  pub small : b < 256
+  pub begins : b / 16 ≡ high
+  pub good : escapes letters awaits b ≡ true
 
 record Element (f : ℕ → Bool) : Type 0 where
   x : ℕ
@@ -82,7 +82,7 @@ element f (x ∷ xs) s e =
       | inr h ↦ element f xs p.1 h
     ]
 
-escaped : (letters : Letters) (awaits : Awaits) (high : ℕ) → high < 16 → may_begin letters awaits high ≡ true → Escaped letters awaits high
+pub escaped : (letters : Letters) (awaits : Awaits) (high : ℕ) → high < 16 → may_begin letters awaits high ≡ true → Escaped letters awaits high
 escaped letters awaits high h e =
     let k = element (λ (low : ℕ). escapes letters awaits (16 * high + low)) sixteen refl e in
     let s = k.small in
@@ -200,7 +200,7 @@ closed_err : (awaits : Awaits) (bs : List ℕ) (left : ℕ) → closed awaits bs
 closed_err Character bs left e = absurd (never left ([], bs) (sym e))
 closed_err (Continuation low high more) bs left e = (sym (err_value (length bs) left e), tt, λ other. refl)
 
-choose_false : {X : Type 0} (t : Bool) (x y : X) → t ≡ false → cond t x y ≡ y
+pub choose_false : {X : Type 0} (t : Bool) (x y : X) → t ≡ false → cond t x y ≡ y
 choose_false false x y e = refl
 choose_false true x y e = cc e
 

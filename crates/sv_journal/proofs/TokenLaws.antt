@@ -186,13 +186,13 @@ ends_closes letters (b ∷ bs) e =
     neither false a e = refl
     neither true a e = cc e
 
-digit_is_hex : (n : ℕ) → n < 16 → is_hex (hex_digit n) ≡ true
+pub digit_is_hex : (n : ℕ) → n < 16 → is_hex (hex_digit n) ≡ true
 digit_is_hex n h = elim (cases_lt n 10) [
   | inl u ↦ rw (lt-ltb n 10 u, le-leb 48 (48 + n) (omega arith), le-leb (48 + n) 57 (omega arith)) refl
   | inr l ↦ rw (le-ltb n 10 l, le-leb 65 (55 + n) (omega arith), le-leb (55 + n) 70 (omega arith), lt-leb (55 + n) 57 (omega arith), le-leb 48 (55 + n) (omega arith)) refl
 ]
 
-value_of_digit : (n : ℕ) → n < 16 → hex_value (hex_digit n) ≡ n
+pub value_of_digit : (n : ℕ) → n < 16 → hex_value (hex_digit n) ≡ n
 value_of_digit n h = elim (cases_lt n 10) [
   | inl u ↦ rw (lt-ltb n 10 u, le-leb (48 + n) 57 (omega arith)) (omega arith)
   | inr l ↦ rw (le-ltb n 10 l, lt-leb (55 + n) 57 (omega arith)) (omega arith)
@@ -228,7 +228,7 @@ pub choose_true : {X : Type 0} (t : Bool) (x y : X) → t ≡ true → cond t x 
 choose_true true x y e = refl
 choose_true false x y e = absurd (false≢true e)
 
-first_again : (letters : Letters) (awaits : Awaits) (b : ℕ) → b < 256 → escapes letters awaits b ≡ true → is_first_digit letters awaits (hex_digit (b / 16)) ≡ true
+pub first_again : (letters : Letters) (awaits : Awaits) (b : ℕ) → b < 256 → escapes letters awaits b ≡ true → is_first_digit letters awaits (hex_digit (b / 16)) ≡ true
 first_again letters awaits b small e =
     let top : b / 16 < 16 = omega arith in
     let whole : 16 * (b / 16) + b % 16 ≡ b = omega arith in

@@ -2,6 +2,7 @@ pub mod Column
 pub mod JournalLine
 pub mod Limits
 pub mod Outcome
+pub mod Pieces
 pub mod Reading
 pub mod ReadingLines
 pub mod Spelling

@@ -10,6 +10,7 @@ use Rattle.sv_journal.specs.declared.token.Letters.TheVariants.{OfText, OfName, 
 use Rattle.sv_journal.specs.declared.token.Awaits.{Awaits}
 use Rattle.sv_journal.specs.declared.token.Awaits.TheVariants.{Character, Continuation}
 
+-- a reader, and then one that takes what it gave
 infixl 10 ◌>>=◌
 abbrev pub ◌>>=◌ : {A B : Type 0} → Result A ℕ → (A → Result B ℕ) → Result B ℕ
 (Ok x) >>= f = f x
@@ -30,11 +31,13 @@ abbrev pub end_at : {X : Type 0} → X → List ℕ → Result X ℕ
 end_at x [] = Ok x
 end_at x (b ∷ bs) = Err (suc (length bs))
 
+-- this word, and what follows it
 abbrev pub word_at : List ℕ → List ℕ → Result (List ℕ) ℕ
 word_at [] bs = Ok bs
 word_at (w ∷ ws) [] = Err 0
 word_at (w ∷ ws) (b ∷ bs) = if b == w then word_at ws bs else Err (suc (length bs))
 
+-- this word where it was read, else one of the others, and the nearest place at which one of them broke
 abbrev pub keyword_or : {K : Type 0} → K → (ℕ → Result (K × List ℕ) ℕ) → ℕ → Result (List ℕ) ℕ → Result (K × List ℕ) ℕ
 keyword_or k others least (Ok rest) = Ok (k, rest)
 keyword_or k others least (Err left) = others (min least left)
@@ -44,6 +47,7 @@ abbrev pub keyword_from : {K : Type 0} → (K → List ℕ) → List K → ℕ �
 keyword_from spelling [] least bs = Err least
 keyword_from spelling (k ∷ ks) least bs = keyword_or k (λ least. keyword_from spelling ks least bs) least (word_at (spelling k) bs)
 
+-- one of these words, of which none begins another
 abbrev pub keyword_at : {K : Type 0} → (K → List ℕ) → List K → List ℕ → Result (K × List ℕ) ℕ
 keyword_at spelling ks bs = keyword_from spelling ks (length bs) bs
 
@@ -51,6 +55,7 @@ keyword_at spelling ks bs = keyword_from spelling ks (length bs) bs
 abbrev pub goes_on : ℕ → ℕ → ℕ → Bool
 goes_on limit n b = is_ascii_digit b && nat_lt 0 n && nat_le (n * 10 + (b - 48)) limit
 
+-- the further digits of a number, which stops where it would pass the limit
 abbrev pub digits_at : ℕ → ℕ → List ℕ → ℕ × List ℕ
 digits_at limit n [] = (n, [])
 digits_at limit n (b ∷ bs) =
@@ -62,10 +67,12 @@ number_at least limit [] = Err 0
 number_at least limit (b ∷ bs) =
     if is_ascii_digit b && nat_le least (b - 48) then Ok (digits_at limit (b - 48) bs) else Err (suc (length bs))
 
+-- this byte, and then what was read behind it
 abbrev pub with_first : ℕ → Result (List ℕ × List ℕ) ℕ → Result (List ℕ × List ℕ) ℕ
 with_first x (Ok r) = Ok (x ∷ r.0, r.1)
 with_first x (Err left) = Err left
 
+-- these bytes, and then what was read behind them
 abbrev pub with_front : List ℕ → Result (List ℕ × List ℕ) ℕ → Result (List ℕ × List ℕ) ℕ
 with_front xs (Ok r) = Ok (xs ++ r.0, r.1)
 with_front xs (Err left) = Err left
@@ -91,6 +98,7 @@ abbrev pub closed : Awaits → List ℕ → Result (List ℕ × List ℕ) ℕ
 closed Character bs = Ok ([], bs)
 closed (Continuation low high more) bs = Err (length bs)
 
+-- the bytes of a token from this stage on, and what follows it
 abbrev pub token_from : Letters → Stage → List ℕ → Result (List ℕ × List ℕ) ℕ
 token_from letters (Between awaits) [] = closed awaits []
 token_from letters (Between awaits) (b ∷ bs) =
@@ -114,11 +122,13 @@ is_lone OfName bs = false
 is_lone OfBytes [] = true
 is_lone OfBytes (d ∷ bs) = not (is_first_digit OfBytes Character d)
 
+-- no empty token was read, which would be its own bad byte
 abbrev pub nonempty : ℕ → Result (List ℕ × List ℕ) ℕ → Result (List ℕ × List ℕ) ℕ
 nonempty left (Ok ([], rest)) = Err left
 nonempty left (Ok (x ∷ xs, rest)) = Ok (x ∷ xs, rest)
 nonempty left (Err e) = Err e
 
+-- a token: a lone percent sign, or the spelling of some bytes
 abbrev pub token_at : Letters → List ℕ → Result (List ℕ × List ℕ) ℕ
 token_at letters [] = Err 0
 token_at letters (b ∷ bs) =
@@ -131,21 +141,26 @@ first_digit_at letters awaits [] = Err 0
 first_digit_at letters awaits (d ∷ bs) =
     if is_first_digit letters awaits d then Ok (hex_value d, bs) else Err (suc (length bs))
 
+-- the byte whose second digit stands here
 abbrev pub second_digit_at : Letters → Awaits → ℕ → List ℕ → Result (ℕ × List ℕ) ℕ
 second_digit_at letters awaits high [] = Err 0
 second_digit_at letters awaits high (d ∷ bs) =
     if is_second_digit letters awaits high d then Ok (16 * high + hex_value d, bs) else Err (suc (length bs))
 
+-- the byte whose escape goes on here, behind its percent sign
 abbrev pub escape_at : Letters → Awaits → List ℕ → Result (ℕ × List ℕ) ℕ
 escape_at letters awaits bs = first_digit_at letters awaits bs >>= (λ first. second_digit_at letters awaits first.0 first.1)
 
+-- a byte was read
 abbrev pub some_byte : ℕ × List ℕ → Result (Option (ℕ × List ℕ)) ℕ
 some_byte r = Ok (Some r)
 
+-- no byte was read, since the token ends here
 abbrev pub token_end : Awaits → List ℕ → Result (Option (ℕ × List ℕ)) ℕ
 token_end Character bs = Ok None
 token_end (Continuation low high more) bs = Err (length bs)
 
+-- the next byte of a token, or none where it ends
 abbrev pub spelled_byte_at : Letters → Awaits → List ℕ → Result (Option (ℕ × List ℕ)) ℕ
 spelled_byte_at letters awaits [] = token_end awaits []
 spelled_byte_at letters awaits (b ∷ bs) =

@@ -11,10 +11,12 @@ stands_for_itself b = nat_le 33 b && nat_le b 126 && not (b == 37)
 abbrev pub hex_digit : ℕ → ℕ
 hex_digit n = if nat_lt n 10 then 48 + n else 55 + n
 
+-- a byte as it is, or its escape
 abbrev pub byte_spelling : ℕ → List ℕ
 byte_spelling b =
     if stands_for_itself b then b ∷ [] else 37 ∷ hex_digit (b / 16) ∷ hex_digit (b % 16) ∷ []
 
+-- each byte after the other
 abbrev pub bytes_spelling : List ℕ → List ℕ
 bytes_spelling bytes = flat_map byte_spelling bytes
 

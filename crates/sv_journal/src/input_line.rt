@@ -2,18 +2,19 @@
 ghost use Rattle.std.specs.Prelude.{◌≡◌, ◌≤◌};
 ghost use Rattle.sv_base.specs.Limits.{moment_limit};
 ghost use Rattle.sv_journal.specs.Reading.{Gives};
-ghost use Rattle.sv_journal.specs.ReadingLines.{how_at, exit_at, event_of, event_at, answer_of, answer_at, input_at};
+ghost use Rattle.sv_journal.specs.ReadingLines.{how_at, exit_at, out_at, out_end_at, open_at, link_piece_at, link_end_at, event_of, event_at, answer_of, answer_at, input_at};
 
 use crate::number::number;
+use crate::piece::piece_of_line;
 use crate::stop::Stop;
-use crate::token::{Letters, rest_of_line};
+use crate::token::{bytes_of_line, rest_of_line};
 use crate::word::{end, keyword, word};
-use crate::words::{ANSWERS, Answer, ENDINGS, Ending, TOLD_SIGNALS, VERBS, Verb};
+use crate::words::{ANSWERS, Answer, ENDINGS, Ending, SIDES, TOLD_SIGNALS, VERBS, Verb};
 use std::alloc::Global;
-use sv_base::ids::Run;
+use sv_base::ids::{LinkId, Run};
 use sv_base::moment::{MOMENT_LIMIT, Moment};
 use sv_base::number::{ExitSignal, Pid};
-use sv_base::state::How;
+use sv_base::state::{How, Stream};
 use sv_out::input::Input;
 
 /// Reads an input line as the grammar has it, however long it is.
@@ -52,6 +53,13 @@ fn event_of(alloc: Global, at: Moment, verb: Verb, bytes: &[u8]) -> Result<Input
     match verb {
         Verb::Tick => end(Input::Tick { at }, bytes),
         Verb::Exit => exit(at, bytes),
+        Verb::Out => out(alloc, at, Stream::Out, bytes),
+        Verb::Err => out(alloc, at, Stream::Err, bytes),
+        Verb::OutEnd => out_end(at, Stream::Out, bytes),
+        Verb::ErrEnd => out_end(at, Stream::Err, bytes),
+        Verb::Open => open(at, bytes),
+        Verb::Piece => link_piece(alloc, at, bytes),
+        Verb::End => link_end(at, bytes),
         Verb::Start => {
             let name = rest_of_line(alloc, bytes)?;
             Ok(Input::Start { at, name })
@@ -68,6 +76,7 @@ fn event_of(alloc: Global, at: Moment, verb: Verb, bytes: &[u8]) -> Result<Input
     }
 }
 
+/// Reads how a child ended.
 #[tactic(auto, unfolding(crate::specs::ReadingLines::exit_at))]
 fn exit(at: Moment, bytes: &[u8]) -> Result<Input, Stop>
     ensures { Gives (λ x. x) result (exit_at at bytes.now) }
@@ -108,6 +117,66 @@ fn how(at: Moment, run: Run, ending: Ending, bytes: &[u8]) -> Result<Input, Stop
     }
 }
 
+/// Reads what a child wrote to this stream.
+#[tactic(auto, unfolding(crate::specs::ReadingLines::out_at))]
+fn out(alloc: Global, at: Moment, stream: Stream, bytes: &[u8]) -> Result<Input, Stop>
+    ensures { Gives (λ x. x) result (out_at at stream bytes.now) }
+{
+    let (run, rest) = number(0, u64::from(u32::MAX), bytes)?;
+    let rest = word(b" ", rest)?;
+    let bytes = piece_of_line(alloc, rest)?;
+    Ok(Input::Out {
+        at,
+        run: Run(run as u32),
+        stream,
+        bytes,
+    })
+}
+
+/// Reads whose stream ended.
+#[tactic(auto, unfolding(crate::specs::ReadingLines::out_end_at))]
+fn out_end(at: Moment, stream: Stream, bytes: &[u8]) -> Result<Input, Stop>
+    ensures { Gives (λ x. x) result (out_end_at at stream bytes.now) }
+{
+    let (run, rest) = number(0, u64::from(u32::MAX), bytes)?;
+    let run = Run(run as u32);
+    end(Input::OutEnd { at, run, stream }, rest)
+}
+
+/// Reads by which side a client connected.
+#[tactic(auto, unfolding(crate::specs::ReadingLines::open_at))]
+fn open(at: Moment, bytes: &[u8]) -> Result<Input, Stop>
+    ensures { Gives (λ x. x) result (open_at at bytes.now) }
+{
+    let (link, rest) = number(0, u64::from(u32::MAX), bytes)?;
+    let link = LinkId(link as u32);
+    let rest = word(b" ", rest)?;
+    let (side, rest) = keyword(&SIDES, rest)?;
+    end(Input::Open { at, link, side }, rest)
+}
+
+/// Reads what a client sent over its link.
+#[tactic(auto, unfolding(crate::specs::ReadingLines::link_piece_at))]
+fn link_piece(alloc: Global, at: Moment, bytes: &[u8]) -> Result<Input, Stop>
+    ensures { Gives (λ x. x) result (link_piece_at at bytes.now) }
+{
+    let (link, rest) = number(0, u64::from(u32::MAX), bytes)?;
+    let link = LinkId(link as u32);
+    let rest = word(b" ", rest)?;
+    let bytes = piece_of_line(alloc, rest)?;
+    Ok(Input::Piece { at, link, bytes })
+}
+
+/// Reads which link ended.
+#[tactic(auto, unfolding(crate::specs::ReadingLines::link_end_at))]
+fn link_end(at: Moment, bytes: &[u8]) -> Result<Input, Stop>
+    ensures { Gives (λ x. x) result (link_end_at at bytes.now) }
+{
+    let (link, rest) = number(0, u64::from(u32::MAX), bytes)?;
+    let link = LinkId(link as u32);
+    end(Input::LinkEnd { at, link }, rest)
+}
+
 #[tactic(auto, unfolding(crate::specs::ReadingLines::answer_at))]
 fn answer(alloc: Global, bytes: &[u8]) -> Result<Input, Stop>
     ensures { Gives (λ x. x) result (answer_at bytes.now) }
@@ -131,6 +200,12 @@ fn answer_of(alloc: Global, answer: Answer, bytes: &[u8]) -> Result<Input, Stop>
             let reason = rest_of_line(alloc, bytes)?;
             Ok(Input::Refused(reason))
         }
+        Answer::Bytes => {
+            let bytes = bytes_of_line(alloc, bytes)?;
+            Ok(Input::Read(bytes))
+        }
+        Answer::Done => end(Input::Done, bytes),
+        Answer::Missing => end(Input::Missing, bytes),
         Answer::Failed => {
             let (order, rest) = number(0, u64::MAX, bytes)?;
             end(Input::Failed(order), rest)

@@ -10,6 +10,7 @@ mod header_line;
 mod input_line;
 pub mod laws;
 mod number;
+mod piece;
 pub mod read;
 mod stop;
 mod token;

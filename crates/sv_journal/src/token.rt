@@ -24,7 +24,7 @@ pub enum Letters {
 /// What a token goes on with: a character, or a byte within a character, from `low` to `high`, and so many more bytes
 /// after it.
 #[derive(Clone, Copy, Debug, PartialEq, Eq)]
-enum Awaits {
+pub enum Awaits {
     Character,
     Continuation { low: u8, high: u8, more: u8 },
 }
@@ -186,7 +186,7 @@ fn second_digit(
 }
 
 /// Reads what follows the percent sign of an escape, and gives the byte.
-fn escape(letters: Letters, awaits: Awaits, bytes: &[u8]) -> Result<(u8, &[u8]), Stop>
+pub fn escape(letters: Letters, awaits: Awaits, bytes: &[u8]) -> Result<(u8, &[u8]), Stop>
     ensures value { Gives (λ x. (x.0, x.1.now)) result (escape_at letters awaits bytes.now) }
     ensures shorter { IfOk result (λ x. length x.1.now < length bytes.now) }
 {

@@ -1,18 +1,25 @@
 //! The tables of words.
 ghost use Rattle.std.specs.Prelude.{◌≡◌};
 ghost use Rattle.sv_base.specs.Names.{signal_name};
-ghost use Rattle.sv_journal.specs.JournalLine.{autorestart_word};
+ghost use Rattle.sv_journal.specs.JournalLine.{autorestart_word, side_word};
 ghost use Rattle.sv_journal.specs.ReadingLines.{verb_word, told_signal, told_word, ending_word, answer_word, opening_word};
 
 use crate::word::Spelled;
 use sv_base::signal::{DaemonSignal, Signal};
-use sv_base::state::Autorestart;
+use sv_base::state::{Autorestart, Side};
 
 /// What happened, behind the moment of an input line.
 #[derive(Clone, Copy, Debug)]
 pub enum Verb {
     Tick,
     Exit,
+    Out,
+    Err,
+    OutEnd,
+    ErrEnd,
+    Open,
+    Piece,
+    End,
     Start,
     Stop,
     Signal,
@@ -43,6 +50,9 @@ pub enum Answer {
     NoFile,
     NotExecutable,
     Refused,
+    Bytes,
+    Done,
+    Missing,
     Failed,
 }
 
@@ -62,9 +72,16 @@ pub enum Opening {
     Go,
 }
 
-pub const VERBS: [Verb; 5] = [
+pub const VERBS: [Verb; 12] = [
     Verb::Tick,
     Verb::Exit,
+    Verb::Out,
+    Verb::Err,
+    Verb::OutEnd,
+    Verb::ErrEnd,
+    Verb::Open,
+    Verb::Piece,
+    Verb::End,
     Verb::Start,
     Verb::Stop,
     Verb::Signal,
@@ -81,11 +98,16 @@ pub const TOLD_SIGNALS: [Told; 6] = [
 
 pub const ENDINGS: [Ending; 2] = [Ending::Code, Ending::Signal];
 
-pub const ANSWERS: [Answer; 5] = [
+pub const SIDES: [Side; 2] = [Side::Inet, Side::Unix];
+
+pub const ANSWERS: [Answer; 8] = [
     Answer::Pid,
     Answer::NoFile,
     Answer::NotExecutable,
     Answer::Refused,
+    Answer::Bytes,
+    Answer::Done,
+    Answer::Missing,
     Answer::Failed,
 ];
 
@@ -126,6 +148,13 @@ impl Spelled for Verb {
         match self {
             Verb::Tick => "tick",
             Verb::Exit => "exit ",
+            Verb::Out => "out ",
+            Verb::Err => "err ",
+            Verb::OutEnd => "outend ",
+            Verb::ErrEnd => "errend ",
+            Verb::Open => "open ",
+            Verb::Piece => "piece ",
+            Verb::End => "end ",
             Verb::Start => "start ",
             Verb::Stop => "stop ",
             Verb::Signal => "signal ",
@@ -184,6 +213,9 @@ impl Spelled for Answer {
             Answer::NoFile => "nofile",
             Answer::NotExecutable => "notexec",
             Answer::Refused => "refused ",
+            Answer::Bytes => "bytes ",
+            Answer::Done => "done",
+            Answer::Missing => "missing",
             Answer::Failed => "failed ",
         }
     }
@@ -205,6 +237,17 @@ impl Spelled for Opening {
             Opening::Conf => "conf ",
             Opening::Include => "include ",
             Opening::Go => "go ",
+        }
+    }
+}
+
+impl Spelled for Side {
+    ghost spelling_of = { side_word };
+
+    fn spelling(&self) -> &'static str {
+        match self {
+            Side::Inet => "inet",
+            Side::Unix => "unix",
         }
     }
 }

@@ -1,15 +1,18 @@
 //! Writing inputs and orders.
-ghost use Rattle.std.specs.Prelude.{◌≡◌, ◌++◌, ◌<◌, IfOk, OnOk, List, ℕ, string_bytes};
+ghost use Rattle.std.specs.Prelude.{◌≡◌, ◌++◌, ◌<◌, IfOk, OnOk, List, ℕ, codes, string_bytes};
 ghost use Rattle.std.specs.List.{flat_map};
 ghost use Rattle.std.specs.Fmt.{decimal};
+ghost use Rattle.sv_base.specs.Names.{signal_name};
 ghost use Rattle.sv_journal.specs.Spelling.{hex_digit, byte_spelling, bytes_spelling, token};
-ghost use Rattle.sv_journal.specs.JournalLine.{how_words, input_line, then_token, then_pair, spawn_line, order_line, receiver, counted_words, counted_pairs};
+ghost use Rattle.sv_journal.specs.JournalLine.{how_words, stream_word, stream_end_word, side_word, input_line, then_token, then_pair, spawn_line, order_line, receiver, counted_words, counted_pairs};
 
 use crate::token::stands_for_itself;
+use crate::word::Spelled;
 use std::alloc::{AllocError, Global};
+use sv_base::bytes::Bytes;
 use sv_base::moment::Moment;
 use sv_base::signal::Signal;
-use sv_base::state::{How, State};
+use sv_base::state::{How, Side, State, Stream};
 use sv_base::text::Text;
 use sv_out::input::Input;
 use sv_out::order::{Order, SpawnOrder};
@@ -32,44 +35,39 @@ pub fn write_order(alloc: Global, order: &Order) -> Result<Text, AllocError>
     Ok(Text::from_string(line))
 }
 
-#[tactic(auto, using(crate::proofs::Lists::joined))]
 fn put_input(line: &mut String, input: &Input) -> Result<(), AllocError>
     ensures { OnOk result (string_bytes line.new ≡ string_bytes line.old ++ input_line input.now) }
 {
     match input {
         Input::Tick { at } => put_at(line, *at, " tick"),
-        Input::Exit { at, run, how } => {
-            put_at(line, *at, " exit ")?;
-            put_number(line, u64::from(run.0))?;
-            line.push_str(" ")?;
-            put_how(line, *how)
-        }
-        Input::Start { at, name } => {
-            put_at(line, *at, " start ")?;
-            put_token(line, name.as_str().as_bytes())
-        }
-        Input::Stop { at, name } => {
-            put_at(line, *at, " stop ")?;
-            put_token(line, name.as_str().as_bytes())
-        }
-        Input::Signal { at, signal } => {
-            put_at(line, *at, " signal ")?;
-            line.push_str(signal.get().name())
-        }
-        Input::Pid(pid) => {
-            line.push_str("pid ")?;
-            put_number(line, u64::from(pid.get()))
-        }
+        Input::Exit { at, run, how } => put_exit(line, *at, run.0, *how),
+        Input::Out {
+            at,
+            run,
+            stream,
+            bytes,
+        } => put_numbered_token(line, *at, piece_verb(*stream), run.0, bytes.as_slice()),
+        Input::OutEnd { at, run, stream } => put_numbered(line, *at, end_verb(*stream), run.0),
+        Input::Open { at, link, side } => put_open(line, *at, link.0, *side),
+        Input::Piece { at, link, bytes } => put_numbered_token(
+            line,
+            *at,
+            " piece ",
+            link.0,
+            bytes.as_slice(),
+        ),
+        Input::LinkEnd { at, link } => put_numbered(line, *at, " end ", link.0),
+        Input::Start { at, name } => put_named(line, *at, " start ", name),
+        Input::Stop { at, name } => put_named(line, *at, " stop ", name),
+        Input::Signal { at, signal } => put_signal(line, *at, signal.get()),
+        Input::Pid(pid) => put_counted(line, "pid ", u64::from(pid.get())),
         Input::NoFile => line.push_str("nofile"),
         Input::NotExecutable => line.push_str("notexec"),
-        Input::Refused(reason) => {
-            line.push_str("refused ")?;
-            put_token(line, reason.as_str().as_bytes())
-        }
-        Input::Failed(number) => {
-            line.push_str("failed ")?;
-            put_number(line, *number)
-        }
+        Input::Refused(reason) => put_spelled(line, "refused ", reason.as_str().as_bytes()),
+        Input::Read(bytes) => put_spelled(line, "bytes ", bytes.as_slice()),
+        Input::Done => line.push_str("done"),
+        Input::Missing => line.push_str("missing"),
+        Input::Failed(number) => put_counted(line, "failed ", *number),
     }
 }
 
@@ -80,6 +78,104 @@ fn put_at(line: &mut String, at: Moment, verb: &str) -> Result<(), AllocError>
 {
     put_number(line, at.milliseconds())?;
     line.push_str(verb)
+}
+
+/// Adds a moment, what happened then, and to which run or link.
+#[tactic(auto, using(crate::proofs::Lists::joined))]
+fn put_numbered(line: &mut String, at: Moment, verb: &str, number: u32) -> Result<(), AllocError>
+    ensures { OnOk result (string_bytes line.new ≡ string_bytes line.old ++ (decimal at ++ verb.now ++ decimal number)) }
+{
+    put_at(line, at, verb)?;
+    put_number(line, u64::from(number))
+}
+
+/// Adds a moment, what happened then, to which run or link, and these bytes.
+#[tactic(auto, using(crate::proofs::Lists::joined))]
+fn put_numbered_token(
+    line: &mut String,
+    at: Moment,
+    verb: &str,
+    number: u32,
+    bytes: &[u8],
+) -> Result<(), AllocError>
+    ensures { OnOk result (string_bytes line.new ≡ string_bytes line.old ++ (decimal at ++ verb.now ++ decimal number ++ codes " " ++ token bytes.now)) }
+{
+    put_numbered(line, at, verb, number)?;
+    line.push_str(" ")?;
+    put_token(line, bytes)
+}
+
+/// Adds a moment, what is asked for then, and of what.
+#[tactic(auto, using(crate::proofs::Lists::joined))]
+fn put_named(line: &mut String, at: Moment, verb: &str, name: &Text) -> Result<(), AllocError>
+    ensures { OnOk result (string_bytes line.new ≡ string_bytes line.old ++ (decimal at ++ verb.now ++ token name.now)) }
+{
+    put_at(line, at, verb)?;
+    put_token(line, name.as_str().as_bytes())
+}
+
+#[tactic(auto, using(crate::proofs::Lists::joined))]
+fn put_exit(line: &mut String, at: Moment, run: u32, how: How) -> Result<(), AllocError>
+    ensures { OnOk result (string_bytes line.new ≡ string_bytes line.old ++ (decimal at ++ codes " exit " ++ decimal run ++ codes " " ++ how_words how)) }
+{
+    put_numbered(line, at, " exit ", run)?;
+    line.push_str(" ")?;
+    put_how(line, how)
+}
+
+#[tactic(auto, using(crate::proofs::Lists::joined))]
+fn put_open(line: &mut String, at: Moment, link: u32, side: Side) -> Result<(), AllocError>
+    ensures { OnOk result (string_bytes line.new ≡ string_bytes line.old ++ (decimal at ++ codes " open " ++ decimal link ++ codes " " ++ side_word side)) }
+{
+    put_numbered(line, at, " open ", link)?;
+    line.push_str(" ")?;
+    line.push_str(side.spelling())
+}
+
+#[tactic(auto, using(crate::proofs::Lists::joined))]
+fn put_signal(line: &mut String, at: Moment, signal: Signal) -> Result<(), AllocError>
+    ensures { OnOk result (string_bytes line.new ≡ string_bytes line.old ++ (decimal at ++ codes " signal " ++ signal_name signal)) }
+{
+    put_at(line, at, " signal ")?;
+    line.push_str(signal.name())
+}
+
+/// The word of a piece of this stream.
+fn piece_verb(stream: Stream) -> &'static str
+    ensures { result.now ≡ stream_word stream }
+{
+    match stream {
+        Stream::Out => " out ",
+        Stream::Err => " err ",
+    }
+}
+
+/// The word of this stream's end.
+fn end_verb(stream: Stream) -> &'static str
+    ensures { result.now ≡ stream_end_word stream }
+{
+    match stream {
+        Stream::Out => " outend ",
+        Stream::Err => " errend ",
+    }
+}
+
+/// Adds a word and a number.
+#[tactic(auto, using(crate::proofs::Lists::joined))]
+fn put_counted(line: &mut String, word: &str, number: u64) -> Result<(), AllocError>
+    ensures { OnOk result (string_bytes line.new ≡ string_bytes line.old ++ (word.now ++ decimal number)) }
+{
+    line.push_str(word)?;
+    put_number(line, number)
+}
+
+/// Adds a word and a token.
+#[tactic(auto, using(crate::proofs::Lists::joined))]
+fn put_spelled(line: &mut String, word: &str, bytes: &[u8]) -> Result<(), AllocError>
+    ensures { OnOk result (string_bytes line.new ≡ string_bytes line.old ++ (word.now ++ token bytes.now)) }
+{
+    line.push_str(word)?;
+    put_token(line, bytes)
 }
 
 #[tactic(auto, using(crate::proofs::Lists::joined))]
@@ -108,8 +204,26 @@ fn put_order(line: &mut String, order: &Order) -> Result<(), AllocError>
             from,
             to,
         } => put_state(line, group, name, *from, *to),
+        Order::Dropped {
+            pool,
+            serial,
+            poolserial,
+        } => put_text_and_numbers(line, "dropped", pool, *serial, *poolserial),
         Order::Spawn(spawn) => put_spawn(line, spawn),
         Order::Kill { run, signal, group } => put_kill(line, run.0, *signal, *group),
+        Order::Stdin { run, bytes } => put_number_and_bytes(line, "stdin ", run.0, bytes),
+        Order::Append { file, bytes } => put_two_tokens(line, "append", file, bytes.as_slice()),
+        Order::Shift { from, to } => put_two_tokens(line, "shift", from, to.as_str().as_bytes()),
+        Order::Fresh { file } => put_one_token(line, "fresh", file),
+        Order::ReadFile {
+            file,
+            start,
+            length,
+        } => put_text_and_numbers(line, "read", file, *start, *length),
+        Order::ClearFile { file } => put_one_token(line, "clear", file),
+        Order::Send { link, bytes } => put_number_and_bytes(line, "send ", link.0, bytes),
+        Order::More { link } => put_counted(line, "more ", u64::from(link.0)),
+        Order::Close { link } => put_counted(line, "close ", u64::from(link.0)),
         Order::Halt => line.push_str("halt"),
     }
 }
@@ -131,6 +245,61 @@ fn put_state(
     line.push_str(from.name())?;
     line.push_str(" ")?;
     line.push_str(to.name())
+}
+
+/// Adds a word, a text and two numbers.
+#[tactic(auto, using(crate::proofs::Lists::joined))]
+fn put_text_and_numbers(
+    line: &mut String,
+    word: &str,
+    text: &Text,
+    first: u64,
+    second: u64,
+) -> Result<(), AllocError>
+    ensures { OnOk result (string_bytes line.new ≡ string_bytes line.old ++ (word.now ++ then_token text.now ++ codes " " ++ decimal first ++ codes " " ++ decimal second)) }
+{
+    put_one_token(line, word, text)?;
+    line.push_str(" ")?;
+    put_number(line, first)?;
+    line.push_str(" ")?;
+    put_number(line, second)
+}
+
+/// Adds a word, a number and bytes.
+#[tactic(auto, using(crate::proofs::Lists::joined))]
+fn put_number_and_bytes(
+    line: &mut String,
+    word: &str,
+    number: u32,
+    bytes: &Bytes,
+) -> Result<(), AllocError>
+    ensures { OnOk result (string_bytes line.new ≡ string_bytes line.old ++ (word.now ++ decimal number ++ then_token bytes.now)) }
+{
+    put_counted(line, word, u64::from(number))?;
+    put_then_bytes(line, bytes.as_slice())
+}
+
+/// Adds a word and a text.
+#[tactic(auto, using(crate::proofs::Lists::joined))]
+fn put_one_token(line: &mut String, word: &str, text: &Text) -> Result<(), AllocError>
+    ensures { OnOk result (string_bytes line.new ≡ string_bytes line.old ++ (word.now ++ then_token text.now)) }
+{
+    line.push_str(word)?;
+    put_then_token(line, text)
+}
+
+/// Adds a word, a text and bytes.
+#[tactic(auto, using(crate::proofs::Lists::joined))]
+fn put_two_tokens(
+    line: &mut String,
+    word: &str,
+    text: &Text,
+    bytes: &[u8],
+) -> Result<(), AllocError>
+    ensures { OnOk result (string_bytes line.new ≡ string_bytes line.old ++ (word.now ++ then_token text.now ++ then_token bytes.now)) }
+{
+    put_one_token(line, word, text)?;
+    put_then_bytes(line, bytes)
 }
 
 #[tactic(auto, using(crate::proofs::Lists::joined))]
@@ -192,12 +361,20 @@ fn put_pairs(line: &mut String, pairs: &[(Text, Text)]) -> Result<(), AllocError
     Ok(())
 }
 
-#[tactic(auto, using(crate::proofs::Lists::joined))]
+/// Adds a space and a text.
 fn put_then_token(line: &mut String, text: &Text) -> Result<(), AllocError>
     ensures { OnOk result (string_bytes line.new ≡ string_bytes line.old ++ then_token text.now) }
 {
+    put_then_bytes(line, text.as_str().as_bytes())
+}
+
+/// Adds a space and bytes.
+#[tactic(auto, using(crate::proofs::Lists::joined))]
+fn put_then_bytes(line: &mut String, bytes: &[u8]) -> Result<(), AllocError>
+    ensures { OnOk result (string_bytes line.new ≡ string_bytes line.old ++ then_token bytes.now) }
+{
     line.push_str(" ")?;
-    put_token(line, text.as_str().as_bytes())
+    put_token(line, bytes)
 }
 
 fn put_number(line: &mut String, number: u64) -> Result<(), AllocError>

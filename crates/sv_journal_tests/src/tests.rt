@@ -1,8 +1,10 @@
-//! Lines of a journal with the column at which each breaks, and values with their lines.
+//! Lines are read or break at their column, and values have their lines.
 
+use crate::lines::{ANSWERS, FILES, HEADERS, INPUTS, LINKS, LONG_HEADERS, LONG_PIECES, PIECES};
 use std::alloc::Global;
 use std::process::Abort;
-use sv_base::ids::Run;
+use sv_base::bytes::Bytes;
+use sv_base::ids::{LinkId, Run};
 use sv_base::items::Items;
 use sv_base::signal::Signal;
 use sv_base::state::State;
@@ -25,275 +27,6 @@ enum Wanted {
     Conf(&'static [u8]),
     Include(&'static str, &'static [u8]),
 }
-
-/// Input lines, each with the column at which it breaks; a good line has none.
-const INPUTS: [(&str, Option<usize>); 88] = [
-    ("0 tick", None),
-    ("1499 tick", None),
-    ("253000000000000 tick", None),
-    ("253000000000001 tick", Some(14)),
-    ("2530000000000000 tick", Some(15)),
-    ("18446744073709551616 tick", Some(15)),
-    ("00 tick", Some(1)),
-    ("01 tick", Some(1)),
-    ("+1 tick", Some(0)),
-    ("-1 tick", Some(0)),
-    ("", Some(0)),
-    (" 0 tick", Some(0)),
-    ("0", Some(1)),
-    ("0 ", Some(2)),
-    ("0  tick", Some(2)),
-    ("0 tick ", Some(6)),
-    ("0 tic", Some(5)),
-    ("0 tock", Some(3)),
-    ("0 Tick", Some(2)),
-    ("0\ttick", Some(1)),
-    ("tick", Some(0)),
-    ("3600000 tick", None),
-    ("2000 exit 1 code 0", None),
-    ("0 exit 1 code 0", None),
-    ("6800 exit 4 code 1", None),
-    ("0 exit 0 code 255", None),
-    ("0 exit 4294967295 code 7", None),
-    ("0 exit 4294967296 code 7", Some(16)),
-    ("0 exit 1 code 256", Some(16)),
-    ("0 exit 1 code 1000", Some(17)),
-    ("0 exit 1 code 00", Some(15)),
-    ("0 exit 1 code", Some(13)),
-    ("0 exit 1 code -1", Some(14)),
-    ("0 exit 1 code 255 ", Some(17)),
-    ("0 exit 1 code 7 1", Some(15)),
-    ("0 exit  1 code 7", Some(7)),
-    ("0 exit -1 code 7", Some(7)),
-    ("0 exit 01 code 1", Some(8)),
-    ("0 exit 1 signal 1", None),
-    ("5600 exit 1 signal 9", None),
-    ("0 exit 1 signal 64", None),
-    ("0 exit 1 signal 65", Some(17)),
-    ("0 exit 1 signal 0", Some(16)),
-    ("0 exit 1 signal 100", Some(18)),
-    ("0 exit 1 signal 09", Some(16)),
-    ("0 exit 1 Signal 9", Some(9)),
-    ("0 exit 1 stop", Some(10)),
-    ("0 exit 1 sigterm", Some(12)),
-    ("0 exit x", Some(7)),
-    ("0 exist", Some(5)),
-    ("0 end", Some(3)),
-    ("600 stop x", None),
-    ("600 stop x:x", None),
-    ("600 stop x:*", None),
-    ("600 stop x:", None),
-    ("0 start %", None),
-    ("0 start a%20b", None),
-    ("0 start %25", None),
-    ("0 start %C3%A4", None),
-    ("0 start %F4%8F%BF%BF", None),
-    ("0 start", Some(7)),
-    ("0 start ", Some(8)),
-    ("0 start  x", Some(8)),
-    ("0 start a b", Some(9)),
-    ("0 start x ", Some(9)),
-    ("0 stars", Some(6)),
-    ("0 stip", Some(4)),
-    ("0 stap x", Some(5)),
-    ("0 start %41", Some(9)),
-    ("0 start %2e", Some(10)),
-    ("0 start %2F", Some(10)),
-    ("0 start %c3%a4", Some(9)),
-    ("0 start %80", Some(9)),
-    ("0 start %C0%80", Some(10)),
-    ("0 start %C3", Some(11)),
-    ("0 start %C3x", Some(11)),
-    ("0 start %E0%9F%80", Some(12)),
-    ("0 start %ED%A0%80", Some(12)),
-    ("0 start %F5", Some(10)),
-    ("0 start %F4%90", Some(12)),
-    ("0 start x%", Some(10)),
-    ("0 start %%", Some(9)),
-    ("pid 1", None),
-    ("pid 12", None),
-    ("pid 4294967295", None),
-    ("pid 4294967296", Some(13)),
-    ("pid 0", Some(4)),
-    ("pid", Some(3)),
-];
-
-const ANSWERS: [(&str, Option<usize>); 24] = [
-    ("nofile", None),
-    ("notexec", None),
-    ("refused no%20room", None),
-    ("refused %", None),
-    ("refused %00%0A%7F", None),
-    ("refused ~!", None),
-    ("refused %7E", Some(10)),
-    ("refused %FF", Some(10)),
-    ("refused %20%", Some(12)),
-    ("nofil", Some(5)),
-    ("nofile ", Some(6)),
-    ("nofile x", Some(6)),
-    ("notexec ", Some(7)),
-    ("note", Some(4)),
-    ("pid 1 ", Some(5)),
-    ("pid +1", Some(4)),
-    ("notfile", Some(3)),
-    ("none", Some(2)),
-    ("refused", Some(7)),
-    ("refused ", Some(8)),
-    ("refused a b", Some(9)),
-    ("ref x", Some(3)),
-    ("> state x x STOPPED STARTING", Some(0)),
-    ("pid 01", Some(4)),
-];
-
-/// Header lines, in the same way.
-const HEADERS: [(&str, Option<usize>); 63] = [
-    ("supervisor-journal 0", None),
-    ("supervisor-journal 1", None),
-    ("supervisor-journal 2", Some(19)),
-    ("supervisor-journal 00", Some(20)),
-    ("supervisor-journal", Some(18)),
-    ("supervisor-journal 0 ", Some(20)),
-    ("supervisor-journal  0", Some(19)),
-    ("supervisor 0", Some(10)),
-    ("go 0", None),
-    ("go 3600000", None),
-    ("go 253000000000000", None),
-    ("go 253000000000001", Some(17)),
-    ("go", Some(2)),
-    ("go 01", Some(4)),
-    ("go 0 ", Some(4)),
-    ("go -1", Some(3)),
-    ("gone", Some(2)),
-    ("program x 1 3 unexpected 0 TERM 10", None),
-    ("program x 0 3 unexpected 0 TERM 10", None),
-    ("program x 1 3 false 0 TERM 2", None),
-    ("program x 0 0 true 255 KILL 0", None),
-    ("program x 1000000 1000000 false 0,1,255 USR2 1000000", None),
-    ("program x 1 3 false 10 INT 10", None),
-    ("program x 1 3 true 25,6 QUIT 10", None),
-    ("program x 1 3 unexpected 0,0 USR1 10", None),
-    ("program x 1000001 3 true 0 TERM 10", Some(16)),
-    ("program x 1 1000001 true 0 TERM 10", Some(18)),
-    ("program x 1 3 true 0 TERM 1000001", Some(32)),
-    ("program x 1 3 true 256 TERM 10", Some(21)),
-    ("program x 1 3 true  TERM 10", Some(19)),
-    ("program x 1 3 true 0, TERM 10", Some(21)),
-    ("program x 1 3 true ,0 TERM 10", Some(19)),
-    ("program x 1 3 true 0,00 TERM 10", Some(22)),
-    ("program x 1 3 true 0,1,2, TERM 10", Some(25)),
-    ("program x 1 3 unexpect 0 TERM 10", Some(22)),
-    ("program x 1 3 always 0 TERM 10", Some(14)),
-    ("program x 1 3 True 0 TERM 10", Some(14)),
-    ("program x 1 3 true 0 SIGTERM 10", Some(21)),
-    ("program x 1 3 true 0 USR3 10", Some(24)),
-    ("program x 1 3 true 0 term 10", Some(21)),
-    ("program x 1 3 true 0 TERM", Some(25)),
-    ("program x 1 3 true 0 TE 10", Some(23)),
-    ("program x 1 3 true 0 USR1 00", Some(27)),
-    ("program x 1 3 true 0 TERM 10 11", Some(28)),
-    ("program x  3 true 0 TERM 10", Some(10)),
-    ("program x 1 03 true 0 TERM 10", Some(13)),
-    ("program x", Some(9)),
-    ("program x 1 3 true 0 TERM 10 ", Some(28)),
-    ("program x 01 3 true 0 TERM 10", Some(11)),
-    ("program % 1 3 true 0 TERM 10", Some(9)),
-    ("program a%20b 1 3 true 0 TERM 10", Some(11)),
-    ("program a:b 1 3 true 0 TERM 10", Some(9)),
-    ("program a/b 1 3 true 0 TERM 10", Some(9)),
-    ("program a* 1 3 true 0 TERM 10", Some(9)),
-    ("program a%0A 1 3 true 0 TERM 10", Some(10)),
-    ("program %C2%9F 1 3 true 0 TERM 10", Some(12)),
-    ("program %C2%80 1 3 true 0 TERM 10", Some(12)),
-    ("program %C2%A0 1 3 true 0 TERM 10", None),
-    ("program %7F 1 3 true 0 TERM 10", Some(9)),
-    ("program %C3%A4 1 3 true 0 TERM 10", None),
-    ("program %E2%82%AC 0 0 false 0 INT 0", None),
-    ("program a%25b 1 3 unexpected 0 HUP 10", None),
-    ("program  x 1 3 true 0 TERM 10", Some(8)),
-];
-
-/// Lines of a long header, in the same way.
-const LONG_HEADERS: [(&str, Option<usize>); 79] = [
-    ("supervisor-journal 10", Some(20)),
-    ("supervisor-journal 1 ", Some(20)),
-    ("host box", None),
-    ("host %", None),
-    ("host %C3%A4", None),
-    ("host", Some(4)),
-    ("host ", Some(5)),
-    ("host a b", Some(6)),
-    ("host a ", Some(6)),
-    ("host %FF", Some(7)),
-    ("host %80", Some(6)),
-    ("hosts a", Some(4)),
-    ("Host a", Some(0)),
-    ("here .", None),
-    ("here %", None),
-    ("here /etc/a%20b", None),
-    ("here a%41", Some(7)),
-    ("here %ED%A0%80", Some(9)),
-    ("her", Some(3)),
-    ("hi", Some(1)),
-    ("pid 0", None),
-    ("pid 4294967295", None),
-    ("pid 4294967296", Some(13)),
-    ("pid 00", Some(5)),
-    ("pid -1", Some(4)),
-    ("pid 1 ", Some(5)),
-    ("pid", Some(3)),
-    ("env PATH /bin:/usr/bin", None),
-    ("env A %", None),
-    ("env % %", None),
-    ("env A%00 %0A", None),
-    ("env A=b", Some(7)),
-    ("env A", Some(5)),
-    ("env A ", Some(6)),
-    ("env A  b", Some(6)),
-    ("env A b c", Some(7)),
-    ("env A %C3", Some(9)),
-    ("env %FF a", Some(6)),
-    ("size /var/log/x.log 0", None),
-    ("size % 7", None),
-    ("size out.log 18446744073709551615", None),
-    ("size out.log 18446744073709551616", Some(32)),
-    ("size out.log 01", Some(14)),
-    ("size out.log", Some(12)),
-    ("size out.log ", Some(13)),
-    ("size  1", Some(5)),
-    ("size x y", Some(7)),
-    ("size x 1 ", Some(8)),
-    ("conf %", None),
-    ("conf %00%FF", None),
-    ("conf [supervisord]%0Alogfile=NONE%0A", None),
-    ("conf %80%C3%ED%A0%80", None),
-    ("conf %7F%20%25", None),
-    ("conf", Some(4)),
-    ("conf ", Some(5)),
-    ("conf a b", Some(6)),
-    ("conf a ", Some(6)),
-    ("conf %41", Some(6)),
-    ("conf %7E", Some(7)),
-    ("conf %2e", Some(7)),
-    ("conf %ff", Some(6)),
-    ("conf %Ff", Some(7)),
-    ("conf %2", Some(7)),
-    ("conf %%", Some(6)),
-    ("conf a%", Some(7)),
-    ("conf a%g0", Some(7)),
-    ("conf a%3F", Some(7)),
-    ("conf a%2F", Some(8)),
-    ("conf a\n", Some(6)),
-    ("include a.conf [program:x]%0A", None),
-    ("include a.conf %", None),
-    ("include % %FF", None),
-    ("include %FF x", Some(10)),
-    ("include a.conf", Some(14)),
-    ("include a.conf ", Some(15)),
-    ("include a.conf a b", Some(16)),
-    ("include a.conf %C3%5B", Some(19)),
-    ("includes", Some(7)),
-    ("inc", Some(3)),
-];
 
 fn input_column(rt: &impl Abort, alloc: Global, line: &str) -> Option<usize> {
     match read_input(alloc, line.as_bytes()) {
@@ -343,11 +76,57 @@ fn lines_are_read_or_break_at_their_column(rt: HostRuntime) {
         same_column(&rt, line, input_column(&rt, alloc, line), *column);
         written_again(&rt, alloc, line);
     }
+    for (line, column) in &PIECES {
+        same_column(&rt, line, input_column(&rt, alloc, line), *column);
+        written_again(&rt, alloc, line);
+    }
+    for (line, column) in &LINKS {
+        same_column(&rt, line, input_column(&rt, alloc, line), *column);
+        written_again(&rt, alloc, line);
+    }
+    for (line, column) in &FILES {
+        same_column(&rt, line, input_column(&rt, alloc, line), *column);
+        written_again(&rt, alloc, line);
+    }
     for (line, column) in &HEADERS {
         same_column(&rt, line, header_column(&rt, alloc, line), *column);
     }
     for (line, column) in &LONG_HEADERS {
         same_column(&rt, line, header_column(&rt, alloc, line), *column);
+    }
+}
+
+/// A line that begins and ends so, with this spelling so many times between.
+fn long_line(
+    rt: &impl Abort,
+    alloc: Global,
+    begin: &str,
+    unit: &str,
+    count: usize,
+    end: &str,
+) -> String {
+    let mut line = String::new(alloc);
+    if line.push_str(begin).is_err() {
+        panic!(rt; "out of memory")
+    }
+    for _ in 0..count {
+        if line.push_str(unit).is_err() {
+            panic!(rt; "out of memory")
+        }
+    }
+    if line.push_str(end).is_err() {
+        panic!(rt; "out of memory")
+    }
+    line
+}
+
+#[test]
+fn a_piece_has_at_most_65536_bytes(rt: HostRuntime) {
+    let alloc = rt.alloc();
+    for (begin, unit, count, end, column) in &LONG_PIECES {
+        let line = long_line(&rt, alloc, begin, unit, *count, end);
+        same_column(&rt, begin, input_column(&rt, alloc, line.as_str()), *column);
+        written_again(&rt, alloc, line.as_str());
     }
 }
 
@@ -526,6 +305,85 @@ fn spawn_of_x(words: Items<Text>, environment: Items<(Text, Text)>) -> Order {
         words,
         environment,
     })
+}
+
+fn bytes(rt: &impl Abort, alloc: Global, bytes: &[u8]) -> Bytes {
+    let Ok(bytes) = Bytes::from_slice(alloc, bytes) else {
+        panic!(rt; "out of memory")
+    };
+    bytes
+}
+
+#[test]
+fn orders_of_pools_and_streams_are_written(rt: HostRuntime) {
+    let alloc = rt.alloc();
+    let dropped = Order::Dropped {
+        pool: Text::fixed("all events"),
+        serial: u64::MAX,
+        poolserial: 0,
+    };
+    order_is(
+        &rt,
+        alloc,
+        &dropped,
+        "dropped all%20events 18446744073709551615 0",
+    );
+    let stdin = Order::Stdin {
+        run: Run(1),
+        bytes: bytes(&rt, alloc, b"ver:3.0 len:0\n"),
+    };
+    order_is(&rt, alloc, &stdin, "stdin 1 ver:3.0%20len:0%0A");
+    let stdin = Order::Stdin {
+        run: Run(4_294_967_295),
+        bytes: bytes(&rt, alloc, b""),
+    };
+    order_is(&rt, alloc, &stdin, "stdin 4294967295 %");
+    order_is(&rt, alloc, &Order::Halt, "halt");
+}
+
+#[test]
+fn orders_of_files_are_written(rt: HostRuntime) {
+    let alloc = rt.alloc();
+    let append = Order::Append {
+        file: Text::fixed("/var/log/x y.log"),
+        bytes: bytes(&rt, alloc, b"a\x00\xff"),
+    };
+    order_is(&rt, alloc, &append, "append /var/log/x%20y.log a%00%FF");
+    let shift = Order::Shift {
+        from: Text::fixed("x.log"),
+        to: Text::fixed("x.log.1"),
+    };
+    order_is(&rt, alloc, &shift, "shift x.log x.log.1");
+    let fresh = Order::Fresh {
+        file: Text::fixed("x.log"),
+    };
+    order_is(&rt, alloc, &fresh, "fresh x.log");
+    let read = Order::ReadFile {
+        file: Text::fixed("x.log"),
+        start: 18_446_744_073_709_551_615,
+        length: 4_096,
+    };
+    order_is(&rt, alloc, &read, "read x.log 18446744073709551615 4096");
+    let clear = Order::ClearFile {
+        file: Text::fixed(""),
+    };
+    order_is(&rt, alloc, &clear, "clear %");
+}
+
+#[test]
+fn orders_of_links_are_written(rt: HostRuntime) {
+    let alloc = rt.alloc();
+    let send = Order::Send {
+        link: LinkId(7),
+        bytes: bytes(&rt, alloc, b"HTTP/1.1 200 OK\r\n"),
+    };
+    order_is(&rt, alloc, &send, "send 7 HTTP/1.1%20200%20OK%0D%0A");
+    let more = Order::More {
+        link: LinkId(4_294_967_295),
+    };
+    order_is(&rt, alloc, &more, "more 4294967295");
+    let close = Order::Close { link: LinkId(1) };
+    order_is(&rt, alloc, &close, "close 1");
 }
 
 #[test]

@@ -1,25 +1,71 @@
 //! What the machine is told.
 
-use sv_base::ids::Run;
+use sv_base::bytes::{Bytes, Piece};
+use sv_base::ids::{LinkId, Run};
 use sv_base::moment::Moment;
 use sv_base::number::Pid;
 use sv_base::signal::DaemonSignal;
-use sv_base::state::How;
+use sv_base::state::{How, Side, Stream};
 use sv_base::text::Text;
 
 /// One thing that the machine is told: an event of the outside with its moment, or the answer to a question.
 #[derive(Debug, Drop)]
 pub enum Input {
     /// A clock moment.
-    Tick { at: Moment },
+    Tick {
+        at: Moment,
+    },
     /// A child ended.
-    Exit { at: Moment, run: Run, how: How },
+    Exit {
+        at: Moment,
+        run: Run,
+        how: How,
+    },
+    /// A child wrote a piece to one of its output streams.
+    Out {
+        at: Moment,
+        run: Run,
+        stream: Stream,
+        bytes: Piece,
+    },
+    /// One of a child's output streams ended.
+    OutEnd {
+        at: Moment,
+        run: Run,
+        stream: Stream,
+    },
+    /// A client connected on one of the sides at which the daemon listens.
+    Open {
+        at: Moment,
+        link: LinkId,
+        side: Side,
+    },
+    /// A client sent a piece over its link.
+    Piece {
+        at: Moment,
+        link: LinkId,
+        bytes: Piece,
+    },
+    /// A link ended: its client sends nothing more.
+    LinkEnd {
+        at: Moment,
+        link: LinkId,
+    },
     /// The console asks for a start.
-    Start { at: Moment, name: Text },
+    Start {
+        at: Moment,
+        name: Text,
+    },
     /// The console asks for a stop.
-    Stop { at: Moment, name: Text },
+    Stop {
+        at: Moment,
+        name: Text,
+    },
     /// The daemon itself was sent a signal.
-    Signal { at: Moment, signal: DaemonSignal },
+    Signal {
+        at: Moment,
+        signal: DaemonSignal,
+    },
     /// Answers a spawn: the new process's number.
     Pid(Pid),
     /// Answers a spawn: there is no such file.
@@ -28,6 +74,12 @@ pub enum Input {
     NotExecutable,
     /// Answers a spawn: refused, for the reason given.
     Refused(Text),
+    /// Answers a read of a file: its bytes, fewer than were asked for where the file ends before.
+    Read(Bytes),
+    /// Answers a clearing of a file: it is empty now.
+    Done,
+    /// Answers a read or a clearing: there is no such file.
+    Missing,
     /// The order of this number couldn't be carried out. Orders are numbered from 0 over the daemon's life, modulo
     /// 2^64.
     Failed(u64),

@@ -1,6 +1,7 @@
 //! What the machine tells the world.
 
-use sv_base::ids::Run;
+use sv_base::bytes::Bytes;
+use sv_base::ids::{LinkId, Run};
 use sv_base::items::Items;
 use sv_base::signal::Signal;
 use sv_base::state::State;
@@ -36,6 +37,13 @@ pub enum Order {
         from: State,
         to: State,
     },
+    /// Reports that the full buffer of a pool dropped an event: its number among all events, and that in the pool, both
+    /// modulo 2^64.
+    Dropped {
+        pool: Text,
+        serial: u64,
+        poolserial: u64,
+    },
     /// Asks for a process; a question, which is answered by an input.
     Spawn(SpawnOrder),
     /// Sends a signal to the process of a run, or to its process group.
@@ -43,6 +51,48 @@ pub enum Order {
         run: Run,
         signal: Signal,
         group: bool,
+    },
+    /// Writes bytes to the standard input of a run.
+    Stdin {
+        run: Run,
+        bytes: Bytes,
+    },
+    /// Adds bytes at the end of a file, which is made where there is none.
+    Append {
+        file: Text,
+        bytes: Bytes,
+    },
+    /// Gives a file another name; a file of that name is replaced. Nothing happens where there is none.
+    Shift {
+        from: Text,
+        to: Text,
+    },
+    /// Makes a file anew and empty.
+    Fresh {
+        file: Text,
+    },
+    /// Asks for so many bytes of a file from a place on; a question, which is answered by an input.
+    ReadFile {
+        file: Text,
+        start: u64,
+        length: u64,
+    },
+    /// Asks that a file becomes empty; a question, which is answered by an input.
+    ClearFile {
+        file: Text,
+    },
+    /// Sends bytes over a link.
+    Send {
+        link: LinkId,
+        bytes: Bytes,
+    },
+    /// Reads on from a link: one more piece of it is wanted.
+    More {
+        link: LinkId,
+    },
+    /// Closes a link.
+    Close {
+        link: LinkId,
     },
     /// The daemon ends: every group is at rest.
     Halt,
