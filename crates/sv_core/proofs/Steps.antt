@@ -183,6 +183,8 @@ module _ (R : World → World → Type 0) (s : Steps R) where
   kept_applies : (cause : Cause) (w : World) → From R w (applies cause w after_stimulus)
   kept_applies cause_is.Tick w = kept_after_stimulus w
   kept_applies (cause_is.Exit run how) w = kept_sweeps_all (news_is.Exit run how) w after_stimulus kept_after_stimulus
+  kept_applies (cause_is.Stream run) w = kept_after_stimulus w
+  kept_applies cause_is.Link w = kept_after_stimulus w
   kept_applies (cause_is.Start name) w = kept_start (is_running w.course.mood) (span_meant name w.children.roster) w
   kept_applies (cause_is.Stop name) w =
       let v = stops_all (span_meant name w.children.roster) w in

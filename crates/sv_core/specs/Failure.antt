@@ -12,12 +12,22 @@ use Rattle.sv_core.specs.declared.part.Reply.TheVariants.{Refused}
 use Rattle.sv_out.specs.declared.order.Order.{Order}
 use Rattle.sv_out.specs.declared.order.Order.TheVariants as order
 
--- a report and the halt are carried out by nobody; a spawn is a question, and refused where it fails; a signal that
--- doesn't get through changes nothing
+-- a report and the halt are carried out by nobody; a question is refused where it fails; a signal that doesn't get
+-- through changes nothing, and the other orders aren't given yet
 abbrev pub failure_of : Order → Failure
 failure_of (order.State group name from to) = NeverFails
+failure_of (order.Dropped pool serial poolserial) = NeverFails
 failure_of (order.Spawn spawn) = RefusesQuestion
 failure_of (order.Kill run signal group) = ChangesNothing
+failure_of (order.Stdin run bytes) = ChangesNothing
+failure_of (order.Append file bytes) = ChangesNothing
+failure_of (order.Shift from to) = ChangesNothing
+failure_of (order.Fresh file) = ChangesNothing
+failure_of (order.ReadFile file start length) = RefusesQuestion
+failure_of (order.ClearFile file) = RefusesQuestion
+failure_of (order.Send link bytes) = ChangesNothing
+failure_of (order.More link) = ChangesNothing
+failure_of (order.Close link) = ChangesNothing
 failure_of order.Halt = NeverFails
 
 -- there is such an order, and it can fail

@@ -76,9 +76,11 @@ failure_named m number =
 abbrev pub can_be_named : Model → ℕ → Bool
 can_be_named m number = can_fail (failure_named m number) && list_all (λ n. nat_lt n number) m.named
 
--- the run that a cause names was issued
+-- the run that a cause names was issued; no link is
 abbrev pub is_issued : Cause → ℕ → Bool
 is_issued (cause_is.Exit run how) next_run = nat_lt 0 run.0 && nat_lt run.0 next_run
+is_issued (cause_is.Stream run) next_run = nat_lt 0 run.0 && nat_lt run.0 next_run
+is_issued cause_is.Link next_run = false
 is_issued cause next_run = true
 
 -- a turn begins while no question stands, and a run that it names must have been issued; an answer is accepted where it

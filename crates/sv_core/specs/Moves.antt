@@ -12,7 +12,7 @@ use Rattle.sv_children.specs.declared.news.Told.{Told}
 use Rattle.sv_children.specs.declared.news.Told.TheVariants as told
 use Rattle.sv_core.specs.World.{World}
 use Rattle.sv_core.specs.declared.part.Reply.{Reply}
-use Rattle.sv_core.specs.declared.part.Reply.TheVariants.{Started, NoFile, NotExecutable, Refused}
+use Rattle.sv_core.specs.declared.part.Reply.TheVariants.{Started, NoFile, NotExecutable, Refused, OfFile}
 use Rattle.sv_out.specs.declared.order.Order.TheVariants as order
 use Rattle.sv_out.specs.declared.order.SpawnOrder.{SpawnOrder}
 
@@ -47,6 +47,7 @@ told_of (Started pid) = told.Started pid
 told_of NoFile = told.NotStarted (codes "can't find command")
 told_of NotExecutable = told.NotStarted (codes "command is not executable")
 told_of (Refused text) = told.NotStarted text
+told_of OfFile = told.NotStarted (codes "failed")
 
 -- the spawn of a child is answered, after which nothing is to be done
 abbrev pub answered : ℕ → Run → Reply → World → World

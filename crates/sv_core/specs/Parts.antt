@@ -1,4 +1,5 @@
--- What an input is to the machine: it begins a turn, it answers a question, or it says that an order failed.
+-- What an input is to the machine: it begins a turn, it answers a question, or it says that an order failed. What the
+-- streams of a run bring is taken and changes nothing yet; links aren't served yet, and files aren't asked for.
 use Rattle.std.specs.Prelude.{Bool, true, false, Option, Some, None}
 use Rattle.sv_core.specs.declared.part.Cause.TheVariants as cause
 use Rattle.sv_core.specs.declared.part.Part.{Part}
@@ -8,12 +9,17 @@ use Rattle.sv_core.specs.declared.part.Question.TheVariants as question
 use Rattle.sv_core.specs.declared.part.Reply.{Reply}
 use Rattle.sv_core.specs.declared.part.Reply.TheVariants as reply
 use Rattle.sv_out.specs.declared.input.Input.{Input}
-use Rattle.sv_out.specs.declared.input.Input.TheVariants.{Tick, Exit, Start, Stop, Signal, Pid, NoFile, NotExecutable, Refused, Failed}
+use Rattle.sv_out.specs.declared.input.Input.TheVariants.{Tick, Exit, Out, OutEnd, Open, Piece, LinkEnd, Start, Stop, Signal, Pid, NoFile, NotExecutable, Refused, Read, Done, Missing, Failed}
 
 -- the moment and the cause of a turn; an answer; or the number of the order that failed
 abbrev pub part_of : Input → Part
 part_of (Tick at) = Begins at cause.Tick
 part_of (Exit at run how) = Begins at (cause.Exit run how)
+part_of (Out at run stream bytes) = Begins at (cause.Stream run)
+part_of (OutEnd at run stream) = Begins at (cause.Stream run)
+part_of (Open at link side) = Begins at cause.Link
+part_of (Piece at link bytes) = Begins at cause.Link
+part_of (LinkEnd at link) = Begins at cause.Link
 part_of (Start at name) = Begins at (cause.Start name)
 part_of (Stop at name) = Begins at (cause.Stop name)
 part_of (Signal at signal) = Begins at (cause.Signal signal)
@@ -21,6 +27,9 @@ part_of (Pid pid) = Answers (reply.Started pid)
 part_of NoFile = Answers reply.NoFile
 part_of NotExecutable = Answers reply.NotExecutable
 part_of (Refused text) = Answers (reply.Refused text)
+part_of (Read bytes) = Answers reply.OfFile
+part_of Done = Answers reply.OfFile
+part_of Missing = Answers reply.OfFile
 part_of (Failed number) = Fails number
 
 -- an answer fits the question that stands: these four fit a spawn
@@ -29,4 +38,5 @@ fits (Some question.Spawn) (reply.Started pid) = true
 fits (Some question.Spawn) reply.NoFile = true
 fits (Some question.Spawn) reply.NotExecutable = true
 fits (Some question.Spawn) (reply.Refused text) = true
+fits (Some question.Spawn) reply.OfFile = false
 fits None reply = false

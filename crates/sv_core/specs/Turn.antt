@@ -32,6 +32,8 @@ rewinds at w = record w { children = crew_rewound at w.children; moment = at }
 abbrev pub applies : Cause → World → (World → Turn) → Turn
 applies cause_is.Tick w k = k w
 applies (cause_is.Exit run how) w k = sweeps_all (news_is.Exit run how) w k
+applies (cause_is.Stream run) w k = k w
+applies cause_is.Link w k = k w
 applies (cause_is.Start name) w k =
     if is_running w.course.mood then sweeps_over news_is.Start (span_meant name w.children.roster) w k else k w
 applies (cause_is.Stop name) w k = k (stops_all (span_meant name w.children.roster) w)

@@ -20,9 +20,18 @@ pub(crate) fn failure_of(order: &Order) -> Failure
     ensures { result ≡ failure_of order.now }
 {
     match order {
-        Order::State { .. } | Order::Halt => Failure::NeverFails,
-        Order::Spawn(_) => Failure::RefusesQuestion,
-        Order::Kill { .. } => Failure::ChangesNothing,
+        Order::State { .. } | Order::Dropped { .. } | Order::Halt => Failure::NeverFails,
+        Order::Spawn(_) | Order::ReadFile { .. } | Order::ClearFile { .. } => {
+            Failure::RefusesQuestion
+        }
+        Order::Kill { .. }
+        | Order::Stdin { .. }
+        | Order::Append { .. }
+        | Order::Shift { .. }
+        | Order::Fresh { .. }
+        | Order::Send { .. }
+        | Order::More { .. }
+        | Order::Close { .. } => Failure::ChangesNothing,
     }
 }
 

@@ -31,6 +31,8 @@ pub enum Reply {
     NotExecutable,
     /// There is no process, for this reason.
     Refused(Text),
+    /// An answer about a file. No file is asked for yet, so it fits no question.
+    OfFile,
 }
 
 /// What a child is told of this answer.
@@ -42,6 +44,7 @@ pub(crate) fn told_of(reply: Reply) -> Told
         Reply::NoFile => Told::NotStarted(Text::fixed("can't find command")),
         Reply::NotExecutable => Told::NotStarted(Text::fixed("command is not executable")),
         Reply::Refused(text) => Told::NotStarted(text),
+        Reply::OfFile => Told::NotStarted(Text::fixed("failed")),
     }
 }
 
@@ -61,6 +64,10 @@ pub enum Cause {
     Tick,
     /// The process of a run ended.
     Exit(Run, How),
+    /// A stream of a run brought a piece, or ended.
+    Stream(Run),
+    /// A link was opened, brought a piece, or ended. None is served yet.
+    Link,
     /// The console asks for starts.
     Start(Text),
     /// The console asks for stops.
@@ -87,6 +94,12 @@ pub(crate) fn part_of(input: Input) -> Part
     match input {
         Input::Tick { at } => Part::Begins(at, Cause::Tick),
         Input::Exit { at, run, how } => Part::Begins(at, Cause::Exit(run, how)),
+        Input::Out { at, run, .. } | Input::OutEnd { at, run, .. } => {
+            Part::Begins(at, Cause::Stream(run))
+        }
+        Input::Open { at, .. } | Input::Piece { at, .. } | Input::LinkEnd { at, .. } => {
+            Part::Begins(at, Cause::Link)
+        }
         Input::Start { at, name } => Part::Begins(at, Cause::Start(name)),
         Input::Stop { at, name } => Part::Begins(at, Cause::Stop(name)),
         Input::Signal { at, signal } => Part::Begins(at, Cause::Signal(signal)),
@@ -94,6 +107,7 @@ pub(crate) fn part_of(input: Input) -> Part
         Input::NoFile => Part::Answers(Reply::NoFile),
         Input::NotExecutable => Part::Answers(Reply::NotExecutable),
         Input::Refused(text) => Part::Answers(Reply::Refused(text)),
+        Input::Read(_) | Input::Done | Input::Missing => Part::Answers(Reply::OfFile),
         Input::Failed(number) => Part::Fails(number),
     }
 }

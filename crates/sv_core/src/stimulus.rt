@@ -24,7 +24,7 @@ impl Machine {
             applies cause (shown self.old older) k ≡ paused left (shown self.new older) k) }
     {
         match cause {
-            Cause::Tick => Ok(None),
+            Cause::Tick | Cause::Stream(_) | Cause::Link => Ok(None),
             Cause::Exit(run, how) => {
                 let all = self.children.len();
                 self.sweep_over(News::Exit(run, how), 0, all)
