@@ -1,0 +1,5 @@
+pub mod Covering
+pub mod EventPools
+pub mod Offers
+pub mod Listeners
+pub mod StandsFor

@@ -1,0 +1,23 @@
+-- Which pools the code stands for, which keeps only the events that wait or are held.
+use Rattle.std.specs.Prelude.{◌≡◌, List, [], ◌∷◌, ◌^◌, ◌%◌}
+use Rattle.sv_pool.specs.PoolLists as one_pool
+use Rattle.sv_pools.specs.EventPools.{EventPool, EventPools}
+use Rattle.sv_pools.specs.declared.group_pool.GroupPool.{GroupPool}
+use Rattle.sv_pools.specs.declared.pools.Pools.{Pools}
+
+pub record Keeps (x : GroupPool) (p : EventPool) : Type 0 where
+  pub group : x.group ≡ p.group
+  pub kinds : x.kinds ≡ p.kinds
+  pub first : x.first ≡ p.first
+  pub lists : one_pool.StandsFor x.pool p.lists
+
+-- one by one
+abbrev pub AreKept : List GroupPool → List EventPool → Type 0
+AreKept [] [] = Unit {0}
+AreKept [] (p ∷ ps) = ⊥
+AreKept (x ∷ xs) [] = ⊥
+AreKept (x ∷ xs) (p ∷ ps) = Keeps x p × AreKept xs ps
+
+pub record StandsFor (x : Pools) (ps : EventPools) : Type 0 where
+  pub each : AreKept x.each.items ps.each
+  pub drawn : x.next_serial ≡ ps.drawn % 2 ^ 64
