@@ -24,14 +24,7 @@ pub(crate) fn failure_of(order: &Order) -> Failure
         Order::Spawn(_) | Order::ReadFile { .. } | Order::ClearFile { .. } => {
             Failure::RefusesQuestion
         }
-        Order::Kill { .. }
-        | Order::Stdin { .. }
-        | Order::Append { .. }
-        | Order::Shift { .. }
-        | Order::Fresh { .. }
-        | Order::Send { .. }
-        | Order::More { .. }
-        | Order::Close { .. } => Failure::ChangesNothing,
+        _ => Failure::ChangesNothing,
     }
 }
 

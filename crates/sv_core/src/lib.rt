@@ -5,7 +5,6 @@
 
 mod course;
 mod failure;
-mod halt;
 mod hand;
 pub mod laws;
 pub mod machine;
@@ -14,7 +13,6 @@ mod part;
 mod place;
 mod plan;
 mod stimulus;
-mod stopping;
 mod sweeping;
 mod turn;
 

@@ -165,12 +165,11 @@ impl Machine {
                 Input::Exit { run, .. } | Input::Out { run, .. } | Input::OutEnd { run, .. } => {
                     asked.is_none() && self.is_issued(*run)
                 }
-                Input::Open { .. } | Input::Piece { .. } | Input::LinkEnd { .. } => false,
                 Input::Pid(_) | Input::NoFile | Input::NotExecutable | Input::Refused(_) => {
                     matches!(asked, Some(Question::Spawn))
                 }
-                Input::Read(_) | Input::Done | Input::Missing => false,
                 Input::Failed(number) => self.numbers.can_name(*number),
+                _ => false,
             }
     }
 

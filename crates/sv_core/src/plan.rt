@@ -1,15 +1,21 @@
-//! Step 6 of a turn, the stop plan, and the signals that begin it.
+//! Stopping: children that are side by side; step 6 of a turn, the stop plan, and the signals that begin it; and step 8,
+//! the halt.
 ghost use Rattle.std.specs.Prelude.{◌≡◌, OnOk};
 ghost use Rattle.sv_base.specs.declared.signal.Signal.{Signal};
-ghost use Rattle.sv_core.specs.Frames.{Makes, MovesPlan};
+ghost use Rattle.sv_core.specs.Frames.{ChangesCourse, GivesOrders, Makes, MovesChildren, MovesPlan};
 ghost use Rattle.sv_children.specs.Spans.{are_at_rest};
-ghost use Rattle.sv_core.specs.Shutdown.{is_ending, heeds, tells_group, follows_plan};
+ghost use Rattle.sv_core.specs.Shutdown.{is_ending, heeds, tells_group, follows_plan, halts};
+ghost use Rattle.sv_core.specs.Stops.{signals, stops, stops_all};
 ghost use Rattle.sv_groups.specs.StartOrder.{span_of};
 
 use crate::machine::Machine;
 use std::alloc::AllocError;
 use sv_base::signal::{DaemonSignal, Signal};
 use sv_base::state::Mood;
+use sv_child::step::ChildDeed;
+use sv_children::News;
+use sv_groups::Span;
+use sv_out::order::Order;
 
 fn is_ending(signal: Signal) -> bool
     ensures { result ≡ is_ending signal }
@@ -21,6 +27,40 @@ fn is_ending(signal: Signal) -> bool
 }
 
 impl Machine {
+    /// Sends the signal of a stop.
+    fn signal(&mut self, child: usize, deed: Option<ChildDeed>) -> Result<(), AllocError>
+        ensures kept { GivesOrders self.old self.new }
+        ensures signals { OnOk result (Makes (signals deed child) self.old self.new) }
+    {
+        match deed {
+            Some(ChildDeed::Kill(signal, group)) => self.kill(child, signal, group),
+            Some(ChildDeed::Spawn) | None => Ok(()),
+        }
+    }
+
+    /// Stops the child of one place.
+    fn stop(&mut self, child: usize) -> Result<(), AllocError>
+        ensures kept { MovesChildren self.old self.new }
+        ensures stops { OnOk result (Makes (stops child) self.old self.new) }
+    {
+        let deed = self.bring(&News::Stop, child)?;
+        self.signal(child, deed)?;
+        Ok(())
+    }
+
+    /// Stops the children of a span, from the last of the start order to the first.
+    pub(crate) fn stop_all(&mut self, span: Span) -> Result<(), AllocError>
+        ensures kept { MovesChildren self.old self.new }
+        ensures stops { OnOk result (Makes (stops_all span) self.old self.new) }
+    {
+        let mut left = span.to.saturating_sub(span.from);
+        while left > 0 {
+            left -= 1;
+            self.stop(span.from + left)?;
+        }
+        Ok(())
+    }
+
     /// A signal came: the first that ends the daemon begins its shutdown.
     pub(crate) fn heed(&mut self, signal: &DaemonSignal)
         ensures kept { self.new ≡ record self.old { course = self.new.course } }
@@ -73,6 +113,18 @@ impl Machine {
             }
             self.course.left = last;
             self.course.is_told = false;
+        }
+        Ok(())
+    }
+
+    /// Step 8 of a turn: where the daemon ends and no group is left, it halts.
+    pub(crate) fn halt(&mut self) -> Result<(), AllocError>
+        ensures kept { ChangesCourse self.old self.new }
+        ensures halts { OnOk result (Makes halts self.old self.new) }
+    {
+        if self.course.mood != Mood::Running && self.course.left == 0 {
+            self.hand.given.push(Order::Halt)?;
+            self.course.halted = true;
         }
         Ok(())
     }
