@@ -58,8 +58,8 @@ fn written_again(rt: &impl Abort, alloc: Global, line: &str) {
     assert!(rt; written.as_str() == line, "{line}");
 }
 
-fn order_is(rt: &impl Abort, alloc: Global, order: &Order, line: &str) {
-    let Ok(written) = write_order(alloc, order) else {
+fn order_is(rt: &impl Abort, alloc: Global, order: Order, line: &str) {
+    let Ok(written) = write_order(alloc, &order) else {
         panic!(rt; "out of memory")
     };
     assert!(rt; written.as_str() == line, "{line}");
@@ -282,7 +282,7 @@ fn reports_and_kills_are_written(rt: HostRuntime) {
             from: *from,
             to: *to,
         };
-        order_is(&rt, alloc, &state, line);
+        order_is(&rt, alloc, state, line);
     }
     for (run, signal, group, line) in &KILLS {
         let kill = Order::Kill {
@@ -290,7 +290,7 @@ fn reports_and_kills_are_written(rt: HostRuntime) {
             signal: *signal,
             group: *group,
         };
-        order_is(&rt, alloc, &kill, line);
+        order_is(&rt, alloc, kill, line);
     }
 }
 
@@ -325,20 +325,20 @@ fn orders_of_pools_and_streams_are_written(rt: HostRuntime) {
     order_is(
         &rt,
         alloc,
-        &dropped,
+        dropped,
         "dropped all%20events 18446744073709551615 0",
     );
     let stdin = Order::Stdin {
         run: Run(1),
         bytes: bytes(&rt, alloc, b"ver:3.0 len:0\n"),
     };
-    order_is(&rt, alloc, &stdin, "stdin 1 ver:3.0%20len:0%0A");
+    order_is(&rt, alloc, stdin, "stdin 1 ver:3.0%20len:0%0A");
     let stdin = Order::Stdin {
         run: Run(4_294_967_295),
         bytes: bytes(&rt, alloc, b""),
     };
-    order_is(&rt, alloc, &stdin, "stdin 4294967295 %");
-    order_is(&rt, alloc, &Order::Halt, "halt");
+    order_is(&rt, alloc, stdin, "stdin 4294967295 %");
+    order_is(&rt, alloc, Order::Halt, "halt");
 }
 
 #[test]
@@ -348,26 +348,26 @@ fn orders_of_files_are_written(rt: HostRuntime) {
         file: Text::fixed("/var/log/x y.log"),
         bytes: bytes(&rt, alloc, b"a\x00\xff"),
     };
-    order_is(&rt, alloc, &append, "append /var/log/x%20y.log a%00%FF");
+    order_is(&rt, alloc, append, "append /var/log/x%20y.log a%00%FF");
     let shift = Order::Shift {
         from: Text::fixed("x.log"),
         to: Text::fixed("x.log.1"),
     };
-    order_is(&rt, alloc, &shift, "shift x.log x.log.1");
+    order_is(&rt, alloc, shift, "shift x.log x.log.1");
     let fresh = Order::Fresh {
         file: Text::fixed("x.log"),
     };
-    order_is(&rt, alloc, &fresh, "fresh x.log");
+    order_is(&rt, alloc, fresh, "fresh x.log");
     let read = Order::ReadFile {
         file: Text::fixed("x.log"),
         start: 18_446_744_073_709_551_615,
         length: 4_096,
     };
-    order_is(&rt, alloc, &read, "read x.log 18446744073709551615 4096");
+    order_is(&rt, alloc, read, "read x.log 18446744073709551615 4096");
     let clear = Order::ClearFile {
         file: Text::fixed(""),
     };
-    order_is(&rt, alloc, &clear, "clear %");
+    order_is(&rt, alloc, clear, "clear %");
 }
 
 #[test]
@@ -377,20 +377,20 @@ fn orders_of_links_are_written(rt: HostRuntime) {
         link: LinkId(7),
         bytes: bytes(&rt, alloc, b"HTTP/1.1 200 OK\r\n"),
     };
-    order_is(&rt, alloc, &send, "send 7 HTTP/1.1%20200%20OK%0D%0A");
+    order_is(&rt, alloc, send, "send 7 HTTP/1.1%20200%20OK%0D%0A");
     let more = Order::More {
         link: LinkId(4_294_967_295),
     };
-    order_is(&rt, alloc, &more, "more 4294967295");
+    order_is(&rt, alloc, more, "more 4294967295");
     let close = Order::Close { link: LinkId(1) };
-    order_is(&rt, alloc, &close, "close 1");
+    order_is(&rt, alloc, close, "close 1");
 }
 
 #[test]
 fn spawns_are_written(rt: HostRuntime) {
     let alloc = rt.alloc();
     let spawn = spawn_of_x(Items::new(alloc), Items::new(alloc));
-    order_is(&rt, alloc, &spawn, "spawn 1 x x % % % 0 0");
+    order_is(&rt, alloc, spawn, "spawn 1 x x % % % 0 0");
     let environment = [
         ("SUPERVISOR_ENABLED", "1"),
         ("SUPERVISOR_GROUP_NAME", "x"),
@@ -399,7 +399,7 @@ fn spawns_are_written(rt: HostRuntime) {
     let spawn = spawn_of_x(texts(&rt, alloc, &["x"]), pairs(&rt, alloc, &environment));
     let line =
         "spawn 1 x x % % % 1 x 3 SUPERVISOR_ENABLED 1 SUPERVISOR_GROUP_NAME x SUPERVISOR_PROCESS_NAME x";
-    order_is(&rt, alloc, &spawn, line);
+    order_is(&rt, alloc, spawn, line);
     let spawn = Order::Spawn(SpawnOrder {
         run: Run(70),
         group: Text::fixed("g"),
@@ -411,5 +411,5 @@ fn spawns_are_written(rt: HostRuntime) {
         environment: pairs(&rt, alloc, &[("A", "1 2"), ("B", "")]),
     });
     let line = "spawn 70 g web:1 /srv/a%20b 022 nobody 4 /bin/sh -c echo%20100%25 % 2 A 1%202 B %";
-    order_is(&rt, alloc, &spawn, line);
+    order_is(&rt, alloc, spawn, line);
 }
