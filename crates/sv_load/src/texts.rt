@@ -16,7 +16,8 @@ pub(crate) fn text_of<S: Shelf>(
     name: &str,
     shelf: &mut S,
 ) -> Result<Option<Bytes>, LoadFault>
-    ensures text { IfOk result (λ text. ForSome (S.files shelf.old) (λ files. files name.now ≡ text)) }
+    ensures text { IfOk result (λ text. ForSome (S.files shelf.old) (λ files.
+        files name.now ≡ text)) }
     ensures failed { IfErr result (FailsAt name.now) }
     ensures kept { S.files shelf.new ≡ S.files shelf.old }
     ensures cause { RisesWhere (S.faults shelf.old) (S.faults shelf.new) (IsUnreadable result) }
