@@ -23,7 +23,8 @@ pub fn ask<L: Link>(
     client: &ClientSpec,
     call: &Call,
 ) -> Result<Answered, AskFault>
-    ensures asks { Asks (L.told link.old) (L.told link.new) (request_of client.now (call_view call.now)) result }
+    ensures asks { Asks (L.told link.old) (L.told link.new)
+        (request_of client.now (call_view call.now)) result }
     ensures cause { RisesWhere (L.faults link.old) (L.faults link.new) (IsLinkFailure result) }
 {
     let text = request_of(alloc, client, call)?;
