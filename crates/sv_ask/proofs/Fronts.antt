@@ -1,5 +1,5 @@
 -- What follows a front of a text.
-use Rattle.std.proofs.Common.{◌≡◌, ◌≢◌, ◌==◌, ◌++◌, ◌⊎◌, inl, inr, ℕ, List, [], ◌∷◌, Bool, Option, None, Some, true, false, if◌then◌else◌, eqb, refl, sym, ap, ◌∙◌, option_map, Bor}
+use Rattle.std.proofs.Common.{◌≡◌, ◌≢◌, ◌++◌, ◌⊎◌, inl, inr, ℕ, List, [], ◌∷◌, Bool, Option, None, Some, true, false, if◌then◌else◌, eqb, refl, sym, ap, ◌∙◌, option_map, Bor}
 use Rattle.std.specs.Option.{MatchOption}
 use Rattle.std.specs.Str.Pattern.{FindsTextPrefix, StripsPrefix}
 use Rattle.std.proofs.lemmas.Bool.{eq-eqb, eqb-true}

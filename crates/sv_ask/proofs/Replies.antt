@@ -1,6 +1,5 @@
 -- A stream that is to be a reply: its beginning and its limits.
-use Rattle.std.proofs.Common.{◌≡◌, ◌<◌, ◌≤◌, ◌+◌, ◌&&◌, ℕ, List, [], ◌∷◌, ◌++◌, Bool, true, false, Option, None, Some, cond, codes, IsTrue, length, map, refl, sym, ap, ◌∙◌, arith, length-append, append-nil, nat_le, inl, inr}
-use Rattle.std.specs.Prelude.{◌⊎◌}
+use Rattle.std.proofs.Common.{◌≡◌, ◌<◌, ◌≤◌, ◌&&◌, ℕ, List, [], ◌∷◌, Bool, true, false, Option, None, Some, cond, codes, IsTrue, length, map, refl, sym, ap, ◌∙◌, arith, length-append, append-nil, nat_le, inl, inr}
 use Rattle.std.proofs.lemmas.List.Elements.{All-from_recursion, All-nil}
 use Rattle.std.specs.List.{AllByRecursion}
 use Rattle.std.specs.Char.{is_ascii_digit}
@@ -10,7 +9,7 @@ use Rattle.std.proofs.lemmas.Bool.{leb-true, and_parts}
 use Rattle.sv_http.specs.AskTable.{field_limit, reply_limit, is_length, number_of, values_of, has_field}
 use Rattle.sv_http.specs.Authorization.{Field}
 use Rattle.sv_http.specs.RequestStream.{head_limit}
-use Rattle.sv_http.specs.ReplyStream.{Begins, IsReply, IsNoReply, GoesOn, size_behind, body_size, announced}
+use Rattle.sv_http.specs.ReplyStream.{Begins, IsNoReply, GoesOn, size_behind, body_size, announced}
 use Rattle.sv_ask.specs.Hearing.{most_bytes}
 
 -- a head with nothing in it that could be left out

@@ -1,5 +1,5 @@
 -- What a dial tells once a link was given back.
-use Rattle.std.proofs.Common.{◌≡◌, ◌<◌, ◌≤◌, ◌^◌, ◌-◌, ◌+◌, ◌++◌, ◌∷◌, ◌||◌, ℕ, zero, suc, Bool, List, [], Option, Some, None, Result, Ok, Err, min, refl, ap, sym, ◌∙◌, option_map, subst, arith, IfOk}
+use Rattle.std.proofs.Common.{◌≡◌, ◌≤◌, ◌^◌, ◌-◌, ◌++◌, ◌∷◌, ℕ, zero, suc, Bool, List, [], Option, Some, Result, Ok, Err, min, refl, ap, ◌∙◌, option_map, arith, IfOk}
 use Rattle.sv_base.specs.declared.config.ClientSpec.{ClientSpec}
 use Rattle.sv_base.specs.declared.config.Place.{Place}
 use Rattle.sv_http.specs.RequestText.{request_text}

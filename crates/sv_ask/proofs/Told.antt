@@ -1,5 +1,5 @@
 -- What a link tells while a call goes over it.
-use Rattle.std.proofs.Common.{◌≡◌, ◌<◌, ◌≤◌, ◌+◌, ◌-◌, ◌||◌, ◌&&◌, ◌==◌, ◌++◌, ℕ, List, [], false, true, Bool, Option, None, Some, Result, Ok, Err, take, length, nat_lt, refl, sym, ap, ◌∙◌, append_assoc, append-nil, option_map, subst, zero, suc, arith}
+use Rattle.std.proofs.Common.{◌≡◌, ◌<◌, ◌≤◌, ◌+◌, ◌-◌, ◌||◌, ◌==◌, ◌++◌, ℕ, List, [], false, true, Bool, Option, None, Some, Result, Ok, Err, take, length, nat_lt, refl, sym, ap, ◌∙◌, append_assoc, append-nil, option_map, subst, zero, suc, arith}
 use Rattle.std.proofs.Math.Bool.{or-false}
 use Rattle.std.proofs.lemmas.Bool.{lt-ltb, ne_eqb}
 use Rattle.std.proofs.lemmas.List.{length-append, take-append-le}
@@ -10,7 +10,7 @@ use Rattle.sv_out.specs.Exchanges.{heard_more, sent_more, SentFront}
 use Rattle.sv_out.specs.declared.connection.Exchange.{Exchange}
 use Rattle.sv_xmlcall.specs.declared.call.Answered.{Answered}
 use Rattle.sv_ask.proofs.Replies.{empty_goes_on, goes_short}
-use Rattle.sv_ask.specs.Asking.{having_heard, Asks, Listens, Sends, Hears, IsFront}
+use Rattle.sv_ask.specs.Asking.{having_heard, Asks, Listens, Sends, Hears}
 use Rattle.sv_ask.specs.Hearing.{HearsOn, Heard, Comes, most_bytes}
 use Rattle.sv_ask.specs.declared.fault.AskFault.{AskFault}
 use Rattle.sv_ask.specs.declared.fault.AskFault.TheVariants.{Refused, LinkFailed, Ended, BadReply, Status, OutOfMemory}

@@ -1,5 +1,5 @@
 -- Where a server's URL leads: `http://HOST:PORT`, behind which one slash may stand, or `unix://PATH`.
-use Rattle.std.specs.Prelude.{◌≡◌, ◌==◌, ◌&&◌, ◌+◌, ◌-◌, ◌*◌, ◌∷◌, ℕ, List, [], Bool, true, false, not, Option, Some, None, codes, length, take, nat_le, nat_lt, slice_index, if◌then◌else◌}
+use Rattle.std.specs.Prelude.{◌==◌, ◌&&◌, ◌+◌, ◌-◌, ◌*◌, ◌∷◌, ℕ, List, [], Bool, not, Option, Some, None, codes, length, take, nat_le, nat_lt, slice_index, if◌then◌else◌}
 use Rattle.std.specs.Char.{is_ascii_digit}
 use Rattle.std.specs.List.{list_any, before_first, after_first, position_or_len}
 use Rattle.sv_base.specs.declared.config.Place.{Place}
