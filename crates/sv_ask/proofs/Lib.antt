@@ -1,0 +1,4 @@
+mod Fronts
+mod Replies
+mod Servers
+mod Told

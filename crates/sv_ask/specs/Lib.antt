@@ -1,0 +1,3 @@
+pub mod ServerUrl
+pub mod Asking
+pub mod Hearing
