@@ -35,9 +35,11 @@ number_of ProcessGroup = 25
 number_of ProcessGroupAdded = 26
 number_of ProcessGroupRemoved = 27
 
+-- two event types are one
 abbrev pub is_same : Kind → Kind → Bool
 is_same a b = number_of a == number_of b
 
+-- the event type stands right above another, where that one has one above it
 abbrev pub is_parent : Kind → Option Kind → Bool
 is_parent upper None = false
 is_parent upper (Some parent) = is_same upper parent

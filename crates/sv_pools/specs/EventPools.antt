@@ -32,6 +32,7 @@ abbrev pub pool_of : ℕ → GroupSpec → Option PoolSpec → List EventPool
 pool_of first group None = []
 pool_of first group (Some pool) = opened_for first group pool ∷ []
 
+-- the pools of these groups, whose first process has this place
 abbrev pub pools_from : ℕ → List GroupSpec → List EventPool
 pools_from first [] = []
 pools_from first (g ∷ gs) = pool_of first g g.pool ++ pools_from (first + length g.members) gs

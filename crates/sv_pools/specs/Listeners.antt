@@ -25,6 +25,7 @@ may_get place p = nat_le p.first place && may_take (place - p.first) p.lists
 abbrev pub written : List ℕ → Run → List ℕ → Taken → Order
 written server run group taken = order.Stdin run (envelope_of server group taken.poolserial taken.event)
 
+-- and so the pool's, if one waits
 abbrev pub front_written : List ℕ → Run → EventPool → List Order
 front_written server run p = option_to_list (option_map (written server run p.group) (slice_get p.lists.waiting 0))
 
@@ -32,15 +33,19 @@ front_written server run p = option_to_list (option_map (written server run p.gr
 abbrev pub handed_by : ℕ → EventPool → EventPool
 handed_by place p = if may_get place p then record p { lists = took (place - p.first) p.lists } else p
 
+-- the order that goes with it
 abbrev pub orders_to : List ℕ → Run → ℕ → EventPool → List Order
 orders_to server run place p = if may_get place p then front_written server run p else []
 
+-- all pools after it
 abbrev pub handed : ℕ → EventPools → EventPools
 handed place ps = record ps { each = map (handed_by place) ps.each }
 
+-- what is ordered then
 abbrev pub hand_orders : List ℕ → Run → ℕ → EventPools → List Order
 hand_orders server run place ps = flat_map (orders_to server run place) ps.each
 
+-- whether the listener gets one
 abbrev pub is_handed : ℕ → EventPools → Bool
 is_handed place ps = list_any (may_get place) ps.each
 
@@ -49,19 +54,23 @@ abbrev pub acknowledged_by : ℕ → EventPool → EventPool
 acknowledged_by place p =
     if is_holding place p then record p { lists = acknowledged (place - p.first) p.lists } else p
 
+-- all pools after it
 abbrev pub acknowledges : ℕ → EventPools → EventPools
 acknowledges place ps = record ps { each = map (acknowledged_by place) ps.each }
 
--- the event that it holds goes back to the front, and the pool reports what it drops for that
+-- the event that it holds goes back to the front
 abbrev pub rejected_by : ℕ → EventPool → EventPool
 rejected_by place p = if is_holding place p then record p { lists = rejected (place - p.first) p.lists } else p
 
+-- what the pool reports
 abbrev pub reports_of_rejection : ℕ → EventPool → List Order
 reports_of_rejection place p = if is_holding place p then room_reports p else []
 
+-- all pools after it
 abbrev pub rejects : ℕ → EventPools → EventPools
 rejects place ps = record ps { each = map (rejected_by place) ps.each }
 
+-- what they report
 abbrev pub rejection_reports : ℕ → EventPools → List Order
 rejection_reports place ps = flat_map (reports_of_rejection place) ps.each
 

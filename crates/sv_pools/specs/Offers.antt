@@ -25,26 +25,33 @@ room_reports p = option_to_list (option_map (drop_report p.group) (dropped_for_r
 abbrev pub takes : Event → EventPool → Bool
 takes event p = ask_for p.kinds event.kind
 
+-- the pool after it
 abbrev pub offered_to : Event → EventPool → EventPool
 offered_to event p = if takes event p then record p { lists = accepted event p.lists } else p
 
+-- what it reports
 abbrev pub reports_of_offer : Event → EventPool → List Order
 reports_of_offer event p = if takes event p then room_reports p else []
 
--- an event of this type, which tells of this fact; its number is taken modulo 2^64
+-- an event of this type, number and body
+abbrev pub event_with : Kind → ℕ → List ℕ → Event
+event_with kind serial body = record { kind = kind; serial = serial; body = body }
+
+-- one that tells of this fact; its number is taken modulo 2^64
 abbrev pub event_of : Kind → Fact → ℕ → Event
-event_of kind fact drawn = record { kind = kind; serial = drawn % 2 ^ 64; body = body_of fact }
+event_of kind fact drawn = event_with kind (drawn % 2 ^ 64) (body_of fact)
 
 -- some pool takes it: then it gets the next number
 abbrev pub is_asked_for : Kind → List EventPool → Bool
 is_asked_for kind ps = list_any (λ (p : EventPool). ask_for p.kinds kind) ps
 
--- the pools after the offer, and what they report, in the order of the pools
+-- the pools after the offer
 abbrev pub offered : Kind → Fact → EventPools → EventPools
 offered kind fact ps = record {
   each = map (offered_to (event_of kind fact ps.drawn)) ps.each;
   drawn = if is_asked_for kind ps.each then ps.drawn + 1 else ps.drawn;
 }
 
+-- what they report, in the order of the pools
 abbrev pub offer_reports : Kind → Fact → EventPools → List Order
 offer_reports kind fact ps = flat_map (reports_of_offer (event_of kind fact ps.drawn)) ps.each

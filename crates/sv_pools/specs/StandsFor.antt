@@ -5,6 +5,7 @@ use Rattle.sv_pools.specs.EventPools.{EventPool, EventPools}
 use Rattle.sv_pools.specs.declared.group_pool.GroupPool.{GroupPool}
 use Rattle.sv_pools.specs.declared.pools.Pools.{Pools}
 
+-- one pool, of whose lists those that wait or are held are kept
 pub record Keeps (x : GroupPool) (p : EventPool) : Type 0 where
   pub group : x.group ≡ p.group
   pub kinds : x.kinds ≡ p.kinds
@@ -18,6 +19,7 @@ AreKept [] (p ∷ ps) = ⊥
 AreKept (x ∷ xs) [] = ⊥
 AreKept (x ∷ xs) (p ∷ ps) = Keeps x p × AreKept xs ps
 
+-- all pools, and the number of the next event
 pub record StandsFor (x : Pools) (ps : EventPools) : Type 0 where
   pub each : AreKept x.each.items ps.each
   pub drawn : x.next_serial ≡ ps.drawn % 2 ^ 64

@@ -1,11 +1,10 @@
 //! The event pool of one listener group.
 ghost use Rattle.std.specs.Prelude.{◌≡◌, ◌++◌, ◌-◌, ◌≤◌, IfOk, OnOk};
 ghost use Rattle.std.specs.Option.{SomeIff, option_map, option_to_list};
-ghost use Rattle.sv_events.specs.declared.event.Event.{Event};
 ghost use Rattle.sv_pools.specs.Covering.{ask_for, covers};
 ghost use Rattle.sv_pools.specs.EventPools.{EventPool};
 ghost use Rattle.sv_pools.specs.Listeners.{acknowledged_by, handed_by, is_holding, may_get, orders_to, rejected_by, reports_of_rejection};
-ghost use Rattle.sv_pools.specs.Offers.{drop_report, offered_to, reports_of_offer};
+ghost use Rattle.sv_pools.specs.Offers.{drop_report, event_with, offered_to, reports_of_offer};
 ghost use Rattle.sv_pools.specs.StandsFor.{Keeps};
 
 use std::alloc::{AllocError, Global};
@@ -59,9 +58,10 @@ impl GroupPool {
         given: &mut Vec<Order>,
     ) -> Result<(), AllocError>
         ensures kept { OnOk result ((p : EventPool) → Keeps self.old p
-            → Keeps self.new (offered_to (record { kind = kind; serial = serial; body = body.now }) p)) }
-        ensures given { OnOk result ((p : EventPool) → Keeps self.old p → given.new.items ≡ given.old.items
-            ++ reports_of_offer (record { kind = kind; serial = serial; body = body.now }) p) }
+            → Keeps self.new (offered_to (event_with kind serial body.now) p)) }
+        ensures given { OnOk result ((p : EventPool) → Keeps self.old p
+            → given.new.items
+            ≡ given.old.items ++ reports_of_offer (event_with kind serial body.now) p) }
     {
         if !self.asks_for(kind) {
             return Ok(());
@@ -140,7 +140,8 @@ impl GroupPool {
 
     /// The listener is done with the event that it holds, if it holds one of this pool.
     pub(crate) fn acknowledge(&mut self, listener: ChildId)
-        ensures { (p : EventPool) → Keeps self.old p → Keeps self.new (acknowledged_by listener.0 p) }
+        ensures { (p : EventPool) → Keeps self.old p
+            → Keeps self.new (acknowledged_by listener.0 p) }
     {
         match self.seat(listener) {
             Some(seat) if self.pool.is_holding(seat) => self.pool.acknowledged(seat),
@@ -155,7 +156,8 @@ impl GroupPool {
         listener: ChildId,
         given: &mut Vec<Order>,
     ) -> Result<(), AllocError>
-        ensures kept { OnOk result ((p : EventPool) → Keeps self.old p → Keeps self.new (rejected_by listener.0 p)) }
+        ensures kept { OnOk result ((p : EventPool) → Keeps self.old p
+            → Keeps self.new (rejected_by listener.0 p)) }
         ensures given { OnOk result ((p : EventPool) → Keeps self.old p
             → given.new.items ≡ given.old.items ++ reports_of_rejection listener.0 p) }
     {

@@ -1,11 +1,10 @@
 //! All event pools of a daemon.
 ghost use Rattle.std.specs.Prelude.{◌≡◌, ◌++◌, ◌+◌, ◌≤◌, ◌||◌, IfOk, List, OnOk, length, map};
 ghost use Rattle.std.specs.List.{flat_map, list_any};
-ghost use Rattle.sv_events.specs.declared.event.Event.{Event};
 ghost use Rattle.sv_groups.specs.StartOrder.{processes};
 ghost use Rattle.sv_pools.specs.EventPools.{EventPool, EventPools, opened_for, opening, pool_of, pools_from};
 ghost use Rattle.sv_pools.specs.Listeners.{acknowledged_by, acknowledges, hand_orders, handed, handed_by, holds, is_handed, is_holding, may_get, orders_to, rejected_by, rejection_reports, rejects, reports_of_rejection};
-ghost use Rattle.sv_pools.specs.Offers.{is_asked_for, offer_reports, offered, offered_to, reports_of_offer};
+ghost use Rattle.sv_pools.specs.Offers.{event_with, is_asked_for, offer_reports, offered, offered_to, reports_of_offer};
 ghost use Rattle.sv_pools.specs.StandsFor.{AreKept, Keeps, StandsFor};
 
 use crate::group_pool::GroupPool;
@@ -108,7 +107,8 @@ impl Pools {
 
     /// The listener is done with the event that it holds, if it holds one.
     pub fn acknowledge(&mut self, listener: ChildId)
-        ensures { (ps : EventPools) → StandsFor self.old ps → StandsFor self.new (acknowledges listener.0 ps) }
+        ensures { (ps : EventPools) → StandsFor self.old ps
+            → StandsFor self.new (acknowledges listener.0 ps) }
     {
         acknowledge_all(self.each.as_mut_slice(), listener);
     }
@@ -199,7 +199,8 @@ fn some_asks_for(pools: &[GroupPool], kind: Kind) -> bool
 
 /// Whether the listener holds an event of one of these pools.
 fn some_holds(pools: &[GroupPool], listener: ChildId) -> bool
-    ensures { (ps : List EventPool) → AreKept pools.now ps → result ≡ list_any (is_holding listener.0) ps }
+    ensures { (ps : List EventPool) → AreKept pools.now ps
+        → result ≡ list_any (is_holding listener.0) ps }
 {
     match pools {
         [] => false,
@@ -217,9 +218,10 @@ fn offer_all(
     given: &mut Vec<Order>,
 ) -> Result<(), AllocError>
     ensures kept { OnOk result ((ps : List EventPool) → AreKept pools.old ps
-        → AreKept pools.new (map (offered_to (record { kind = kind; serial = serial; body = body.now })) ps)) }
-    ensures given { OnOk result ((ps : List EventPool) → AreKept pools.old ps → given.new.items ≡ given.old.items
-        ++ flat_map (reports_of_offer (record { kind = kind; serial = serial; body = body.now })) ps) }
+        → AreKept pools.new (map (offered_to (event_with kind serial body.now)) ps)) }
+    ensures given { OnOk result ((ps : List EventPool) → AreKept pools.old ps
+        → given.new.items
+        ≡ given.old.items ++ flat_map (reports_of_offer (event_with kind serial body.now)) ps) }
 {
     for place in 0..pools.len() {
         pools[place].offer(alloc, kind, serial, body, given)?;
