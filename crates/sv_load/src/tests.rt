@@ -121,9 +121,11 @@ fn faults_of_the_main_text_are_told_before_any_pattern(rt: HostRuntime) {
     assert_eq!(&rt; text.as_str(), "missing");
 }
 
-/// A shelf that lists a file which is gone when it is read.
+/// A shelf that lists the files of another one, all of which are gone when they are read, but for the main file.
 #[derive(Drop)]
-struct Vanishing;
+struct Vanishing {
+    listed: MapShelf,
+}
 
 impl Shelf for Vanishing {
     ghost files = { λ _. None };
@@ -141,12 +143,11 @@ impl Shelf for Vanishing {
         Err(ShelfFault::Missing)
     }
 
-    fn names(&mut self, alloc: Global, _pattern: &str) -> Result<Vec<Text>, ShelfFault> {
-        let mut names = Vec::new(alloc);
-        names
-            .push(Text::fixed("/d/gone.ini"))
-            .map_err(AllocError::from)?;
-        Ok(names)
+    fn names(&mut self, alloc: Global, pattern: &str) -> Result<Vec<Text>, ShelfFault> {
+        match self.listed.names(alloc, pattern) {
+            Ok(names) => Ok(names),
+            Err(_) => Err(ShelfFault::OutOfMemory),
+        }
     }
 
     fn part(
@@ -174,6 +175,8 @@ impl Shelf for Vanishing {
 
 #[test]
 fn a_listed_file_that_is_gone_is_left_out(rt: HostRuntime) {
-    let text = told(rt.alloc(), &mut Vanishing).expect(&rt, "ample memory");
+    let mut listed = failing_at(&rt, rt.alloc(), 9);
+    add_file(rt.alloc(), &mut listed, "/d/gone.ini", "[gone").expect(&rt, "ample memory");
+    let text = told(rt.alloc(), &mut Vanishing { listed }).expect(&rt, "ample memory");
     assert_eq!(&rt; text.as_str(), "read");
 }
