@@ -1,0 +1,8 @@
+//! The events of a child's edges: of which type each is, and what it tells of the child (the manual's chapter on events).
+#![tactic(auto)]
+
+mod edge_facts;
+#[cfg(test)]
+mod tests;
+
+pub use edge_facts::{fact_at, kind_of, pid_at};
