@@ -1,0 +1,2 @@
+pub mod RunBook
+pub mod StandsFor
