@@ -190,12 +190,12 @@ fn no_log() -> LogSpec {
     }
 }
 
-/// The process p alone in the group g, though it says that it is of another.
-fn one_child(rt: &impl Abort, alloc: Global) -> Children {
+/// The process p, which says that it is of another group than its own.
+fn process(rt: &impl Abort, alloc: Global) -> Spec {
     let mut exitcodes = Items::new(alloc);
     exitcodes.push(0).expect(rt, "memory");
     exitcodes.push(3).expect(rt, "memory");
-    let spec = Spec {
+    Spec {
         group: Text::fixed("other"),
         name: Text::fixed("p"),
         words: Items::new(alloc),
@@ -216,9 +216,13 @@ fn one_child(rt: &impl Abort, alloc: Global) -> Children {
         directory: Text::fixed(""),
         umask: Text::fixed(""),
         user: Text::fixed(""),
-    };
+    }
+}
+
+/// The process p alone in the group g.
+fn one_child(rt: &impl Abort, alloc: Global) -> Children {
     let mut members = Items::new(alloc);
-    members.push(spec).expect(rt, "memory");
+    members.push(process(rt, alloc)).expect(rt, "memory");
     let mut groups = Vec::new(alloc);
     let group = GroupSpec {
         name: Text::fixed("g"),

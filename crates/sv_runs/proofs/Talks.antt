@@ -9,7 +9,7 @@ use Rattle.sv_pipes.specs.TalkPlaces.{StandsFor, Told, state_in}
 use Rattle.sv_pipes.specs.declared.talk.ListenerTalk.{ListenerTalk}
 use Rattle.sv_pipes.specs.declared.tokens.TalkState.TheVariants as state
 use Rattle.sv_pipes.specs.declared.tokens.Token.{Token}
-use Rattle.sv_runs.specs.RunBook.{RunRecord, gets, is_talking, new_run, tokens_more}
+use Rattle.sv_runs.specs.RunBook.{RunRecord, gets, is_listening, new_run, tokens_more}
 use Rattle.sv_runs.specs.StandsFor.{IsHeard, Keeps}
 use Rattle.sv_runs.specs.declared.open_run.OpenRun.{OpenRun}
 
@@ -45,8 +45,8 @@ fed_tells x talk piece told tells stands =
 -- what is kept of a run that waited for an event, after one was sent
 pub sent_keeps : (x : OpenRun) (v w : ListenerTalk) (r : RunRecord) → x.talk ≡ Some v → state_in v ≡ state.Ready → IsRead v (state_in v)
     → Sends v w → Keeps x r → Keeps (record x { talk = Some w }) (gets r)
-sent_keeps x v w r is ready read sends k = by_test (is_talking r) refl (rw is at k.talk) where
-  by_test : (b : Bool) → is_talking r ≡ b → IsHeard (Some v) r.talk b → Keeps (record x { talk = Some w }) (gets r)
+sent_keeps x v w r is ready read sends k = by_test (is_listening r) refl (rw is at k.talk) where
+  by_test : (b : Bool) → is_listening r ≡ b → IsHeard (Some v) r.talk b → Keeps (record x { talk = Some w }) (gets r)
   by_test false e heard = absurd heard
   by_test true e stands =
       let waits_now : talk_state r.talk ≡ state.Ready = sym (read r.talk (talk_tokens r.talk) stands).1 ∙ ready in

@@ -1,5 +1,5 @@
--- The runs of processes and what becomes of them: a run is over where its process and both its pipes ended; what a
--- listener says in its run is heard until then (the manual's chapter on events, "Event Listener States").
+-- The runs of processes and what becomes of them: a run is over where its process and both its pipes ended. A listener is one
+-- until its process ends (the manual's chapter on events, "Event Listener States").
 use Rattle.std.specs.Prelude.{ℕ, List, [], ◌∷◌, ◌++◌, Option, Some, None, Bool, true, false, ◌&&◌, not, ◌==◌, if◌then◌else◌, map, length, drop, replicate, slice_set}
 use Rattle.sv_base.specs.declared.ids.Run.{Run}
 use Rattle.sv_base.specs.declared.state.Stream.{Stream}
@@ -85,18 +85,22 @@ run_of number book = last_of number book.all
 abbrev pub is_over : RunRecord → Bool
 is_over r = r.ended && r.out_ended && r.err_ended
 
--- it is a listener whose process and stdout haven't ended, and to which no write failed
+-- it is a listener whose process hasn't ended, and which no failed write made UNKNOWN
+abbrev pub is_listening : RunRecord → Bool
+is_listening r = r.is_listener && not r.is_lost && not r.ended
+
+-- it is such a listener, and its stdout hasn't ended
 abbrev pub is_talking : RunRecord → Bool
-is_talking r = r.is_listener && not r.is_lost && not r.ended && not r.out_ended
+is_talking r = is_listening r && not r.out_ended
 
 -- whether a talk waits for an event
 abbrev pub waits : TalkState → Bool
 waits state.Ready = true
 waits other = false
 
--- it is talking, and waits for an event
+-- it is such a listener, and waits for an event; that its stdout ended does no harm
 abbrev pub may_get : RunRecord → Bool
-may_get r = is_talking r && waits (talk_state r.talk)
+may_get r = is_listening r && waits (talk_state r.talk)
 
 -- ---- what is asked of a run
 
@@ -127,12 +131,12 @@ teller_of (Some r) = if is_talking r then Some r.child else None
 abbrev pub teller : Run → RunBook → Option ℕ
 teller run book = teller_of (run_of run.0 book)
 
--- whether a record is that of a run that is talking, and waits for an event
+-- whether a record is that of a listener that waits for an event
 abbrev pub is_ready_one : Option RunRecord → Bool
 is_ready_one None = false
 is_ready_one (Some r) = may_get r
 
--- whether a run is talking, and waits for an event
+-- whether a run is a listener that waits for an event
 abbrev pub is_ready : Run → RunBook → Bool
 is_ready run book = is_ready_one (run_of run.0 book)
 

@@ -6,11 +6,11 @@ use Rattle.sv_pipes.specs.Talk.{Mark}
 use Rattle.sv_pipes.specs.TalkCut.{talk_tokens}
 use Rattle.sv_pipes.specs.TalkPlaces.{StandsFor as TalkStandsFor}
 use Rattle.sv_pipes.specs.declared.talk.ListenerTalk.{ListenerTalk}
-use Rattle.sv_runs.specs.RunBook.{RunBook, RunRecord, is_over, is_talking, run_of}
+use Rattle.sv_runs.specs.RunBook.{RunBook, RunRecord, is_listening, is_over, run_of}
 use Rattle.sv_runs.specs.declared.open_run.OpenRun.{OpenRun}
 use Rattle.sv_runs.specs.declared.runs.Runs.{Runs}
 
--- a talk is kept of a run that is talking, and of no other
+-- a talk is kept of a listener, and of no other run
 abbrev pub IsHeard : Option ListenerTalk → List Mark → Bool → Type 0
 IsHeard None talk false = Unit {0}
 IsHeard (Some value) talk true = TalkStandsFor value talk (talk_tokens talk)
@@ -23,7 +23,7 @@ pub record Keeps (x : OpenRun) (r : RunRecord) : Type 0 where
   pub ended : x.ended ≡ r.ended
   pub out_ended : x.out_ended ≡ r.out_ended
   pub err_ended : x.err_ended ≡ r.err_ended
-  pub talk : IsHeard x.talk r.talk (is_talking r)
+  pub talk : IsHeard x.talk r.talk (is_listening r)
 
 -- a run that isn't over
 abbrev pub open_run : Option RunRecord → Option RunRecord

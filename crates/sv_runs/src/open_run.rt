@@ -15,7 +15,7 @@ pub struct OpenRun {
     pub(crate) ended: bool,
     pub(crate) out_ended: bool,
     pub(crate) err_ended: bool,
-    /// What a listener says, as long as it counts.
+    /// What a listener says, as long as it counts as one.
     pub(crate) talk: Option<ListenerTalk>,
 }
 
@@ -79,12 +79,12 @@ impl OpenRun {
         ensures { (r : RunRecord) → Keeps self.now r → result ≡ teller_of (Some r) }
     {
         match &self.talk {
-            None => None,
-            Some(_) => Some(self.child),
+            Some(_) if !self.out_ended => Some(self.child),
+            _ => None,
         }
     }
 
-    /// Whether it is talking and waits for an event.
+    /// Whether it is a listener that waits for an event.
     pub(crate) fn is_ready(&self) -> bool
         ensures { (r : RunRecord) → Keeps self.now r → result ≡ may_get r }
     {
@@ -113,8 +113,8 @@ impl OpenRun {
             → told.items ≡ tokens_by (Some r) piece.now) }
     {
         match &mut self.talk {
-            None => Ok(Vec::new(alloc)),
-            Some(talk) => talk.feed(alloc, piece),
+            Some(talk) if !self.out_ended => talk.feed(alloc, piece),
+            _ => Ok(Vec::new(alloc)),
         }
     }
 
@@ -131,10 +131,7 @@ impl OpenRun {
         ensures { (r : RunRecord) → Keeps self.old r → Keeps self.new (ends_pipe stream r) }
     {
         match stream {
-            Stream::Out => {
-                self.out_ended = true;
-                self.talk = None;
-            }
+            Stream::Out => self.out_ended = true,
             Stream::Err => self.err_ended = true,
         }
     }

@@ -71,7 +71,7 @@ impl Runs {
     }
 
     /// The child of a run that is talking: it is a listener whose process and stdout haven't ended, and no write to it
-    /// failed.
+    /// failed while it held an event.
     pub fn teller(&self, run: Run) -> Option<usize>
         ensures { (b : RunBook) → StandsFor self.now b → result ≡ teller run b }
     {
@@ -81,7 +81,8 @@ impl Runs {
         }
     }
 
-    /// Whether a run is talking and waits for an event.
+    /// Whether a run is a listener that waits for an event: its process hasn't ended, and no write to it failed while it held
+    /// one.
     pub fn is_ready(&self, run: Run) -> bool
         ensures { (b : RunBook) → StandsFor self.now b → result ≡ is_ready run b }
     {

@@ -18,7 +18,7 @@ l1.0 h1=REA h1=DY/:R s1 h1=RESULT_5/FAI h1=LxREADY/:+FAILxR ?1:00r
 l1.0 h1=READY/x:RW ?1:00- s1 ?1:00- h1=READY/ ?1:00-
 l1.0 s1 h1=READY/:R ?1:00r s1 s1 h1=RESULT_0/:+
 l1.0 h1=READY/:R x1 ?1:--- s1 h1=RESULT_2/OK o1 ?1:--- e1 ?1:--- h1=READY/
-l1.0 h1=READY/:R o1 ?1:0-- h1=RESULT_2/OK e1 ?1:0-- x1 ?1:--- x1
+l1.0 h1=READY/:R o1 ?1:0-r h1=RESULT_2/OK e1 ?1:0-r s1 ?1:0-- x1 ?1:--- x1
 l1.0 e1 ?1:00- h1=READY/:R ?1:00r x1 ?1:--- o1 ?1:---
 l1.1 h1=READY/:R s1 u1 ?1:1-- h1=RESULT_2/OK s1 ?1:1-- x1 o1 e1 ?1:---
 l1.0 h1=READY/:R x1 l2.0 ?2:00- ?1:--- h1=RESULT_2/OK h2=READY/:R o1 e1 ?2:00r
