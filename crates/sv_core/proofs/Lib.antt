@@ -1,8 +1,12 @@
+mod Account
+mod Accounts
 mod Moved
 mod Named
 mod NumbersBegin
 mod Reported
+mod Shown
 mod Standing
 mod Steps
 mod Stopped
 mod Sweeps
+mod Told

@@ -7,25 +7,37 @@ use Rattle.sv_base.specs.declared.config.Config.{Config}
 use Rattle.sv_base.specs.declared.config.Host.{Host}
 use Rattle.sv_base.specs.Roster.{is_roster}
 use Rattle.sv_base.specs.declared.spec.GroupSpec.{GroupSpec}
+use Rattle.sv_base.specs.declared.kind.Kind.{Kind}
 use Rattle.sv_base.specs.declared.spec.Spec.{Spec}
+use Rattle.sv_base.specs.declared.state.State.{State}
 use Rattle.sv_child.proofs.Walks.{walk_append}
 use Rattle.sv_child.specs.ChildTable.{Stimulus}
 use Rattle.sv_child.specs.Diagram.{IsWalk}
 use Rattle.sv_child.specs.Moves.{Answer}
 use Rattle.sv_child.specs.declared.child.Child.{Child}
+use Rattle.sv_child.specs.declared.step.Edge.{Edge}
 use Rattle.sv_children.proofs.Walks.{moved_walk, state_new, state_rewound, told_kill}
-use Rattle.sv_children.specs.Orders.{kill_at, reports_at}
+use Rattle.sv_children.specs.Crew.{Crew}
+use Rattle.sv_children.specs.Orders.{kill_at, reports_at, reports_of}
 use Rattle.sv_children.specs.Reported.{edge_told, edges_told, state_at}
 use Rattle.sv_core.proofs.Steps.{Steps, Onward, kept_next, kept_after}
 use Rattle.sv_core.specs.Deeds.{after, deeds}
 use Rattle.sv_core.specs.MachineState.{Model, accepts, hand, next, now, opening, orders}
-use Rattle.sv_core.specs.Moves.{moves, says}
+use Rattle.sv_core.proofs.Told.{IsSilent, parted, reports_more, reports_skip, silent_hand, silent_none, silent_offer, silent_rejection}
+use Rattle.sv_core.specs.Events.{offers, offers_if}
+use Rattle.sv_core.specs.HandingOut.{sends}
+use Rattle.sv_core.specs.Listening.{gives_back, id_of, is_done_with}
+use Rattle.sv_core.specs.Moves.{changed, goes_edges, moves, says}
 use Rattle.sv_core.specs.Path.{ChildrenWalk}
 use Rattle.sv_core.specs.World.{World}
+use Rattle.sv_events.specs.declared.fact.Fact.{Fact}
+use Rattle.sv_facts.specs.EdgeFacts.{fact_at, kind_of, pid_at}
 use Rattle.sv_groups.specs.StartOrder.{pairs_of, processes}
 use Rattle.sv_out.specs.declared.input.Input.{Input}
 use Rattle.sv_out.specs.declared.order.Order.{Order}
 use Rattle.sv_out.specs.declared.order.Order.TheVariants as order
+use Rattle.sv_pools.specs.Listeners.{hand_orders, rejection_reports}
+use Rattle.sv_pools.specs.Offers.{offer_reports}
 
 -- from one world to a later one: the same roster, more orders, and what these report of a child leads from its state in
 -- the one to its state in the other
@@ -54,16 +66,115 @@ follow u v w a b = record {
       (b.walk place p (ap is_roster a.kept ∙ roster) (ap (λ (gs : List GroupSpec). slice_get (pairs_of gs) place) a.kept ∙ is)));
 }
 
+-- what is offered changes the orders alone, and reports no child
+record Adds (w v : World) : Type 0 where
+  crew : v.children ≡ w.children
+  more : List Order
+  added : v.given ≡ w.given ++ more
+  silent : IsSilent more
+
+adds_goes : (w v : World) → Adds w v → Goes w v
+adds_goes w v a = record {
+  kept = ap (λ (crew : Crew). crew.roster) a.crew;
+  more = a.more;
+  added = a.added;
+  walk = λ place p roster is.
+      subst (λ (crew : Crew). IsWalk (state_at w.children place) (edges_told p.0.name p.1.name a.more) (state_at crew place)) (sym a.crew)
+      (a.silent p.0.name p.1.name (state_at w.children place));
+}
+
+adds_nothing : (w v : World) → v.children ≡ w.children → v.given ≡ w.given → Adds w v
+adds_nothing w v crew given =
+    record { crew = crew; more = []; added = given ∙ sym (append-nil w.given); silent = silent_none }
+
+offered : (kind : Kind) (fact : Fact) (w : World) → Adds w (offers kind fact w)
+offered kind fact w = record {
+  crew = refl;
+  more = offer_reports kind fact w.pools;
+  added = refl;
+  silent = silent_offer kind fact w.pools;
+}
+
+offered_if : (kind : Kind) (fact : Option Fact) (w : World) → Adds w (offers_if kind fact w)
+offered_if kind None w = adds_nothing w w refl refl
+offered_if kind (Some fact) w = offered kind fact w
+
+-- the reports of a child's edges, with those of what their events drop between them
+record Tells (c : ℕ) (edges : List (Option Edge)) (w v : World) : Type 0 where
+  crew : v.children ≡ w.children
+  more : List Order
+  added : v.given ≡ w.given ++ more
+  walk : (group name : List ℕ) (from to : State) → IsWalk from (edges_told group name (reports_at w.children c edges)) to
+      → IsWalk from (edges_told group name more) to
+
+no_reports : (crew : Crew) (c : ℕ) → reports_at crew c [] ≡ []
+no_reports crew c = by_pair (slice_get (pairs_of crew.roster) c) where
+  by_pair : (pair : Option (GroupSpec × Spec)) → reports_of pair [] ≡ []
+  by_pair None = refl
+  by_pair (Some pair) = refl
+
+joined_walk : (group name : List ℕ) (from between to : State) (one other : List Order) → IsWalk from (edges_told group name one) between
+    → IsWalk between (edges_told group name other) to → IsWalk from (edges_told group name (one ++ other)) to
+joined_walk group name from between to one other first second =
+    subst (λ told. IsWalk from told to) (sym (map-append (edge_told group name) one other))
+    (walk_append from between to (edges_told group name one) (edges_told group name other) first second)
+
+told_edges : (c pid : ℕ) (edges : List (Option Edge)) (w : World) → Tells c edges w (goes_edges c pid edges w)
+told_edges c pid [] w = record {
+  crew = refl;
+  more = [];
+  added = sym (append-nil w.given);
+  walk = λ group name from to walk. subst (λ orders. IsWalk from (edges_told group name orders) to) (no_reports w.children c) walk;
+}
+told_edges c pid (None ∷ edges) w =
+    let rest = told_edges c pid edges w in
+    record {
+      crew = rest.crew;
+      more = rest.more;
+      added = rest.added;
+      walk = λ group name from to walk.
+          rest.walk group name from to
+          (subst (λ orders. IsWalk from (edges_told group name orders) to) (reports_skip w.children c edges) walk);
+    }
+told_edges c pid (Some edge ∷ edges) w =
+    let own = reports_at w.children c (Some edge ∷ []) in
+    let told = record w { given = w.given ++ own } in
+    let fact = fact_at w.children c pid edge in
+    let a = offered_if (kind_of edge.to) fact told in
+    let v = offers_if (kind_of edge.to) fact told in
+    let rest = told_edges c pid edges v in
+    record {
+      crew = rest.crew ∙ a.crew;
+      more = own ++ (a.more ++ rest.more);
+      added = rest.added ∙ ap (λ given. given ++ rest.more) a.added
+          ∙ append_assoc (w.given ++ own) a.more rest.more ∙ append_assoc w.given own (a.more ++ rest.more);
+      walk = λ group name from to walk.
+          let both = subst (λ orders. IsWalk from (edges_told group name orders) to) (reports_more w.children c edge edges) walk in
+          let two = parted from (edges_told group name own) (edges_told group name (reports_at w.children c edges)) to
+          (subst (λ told. IsWalk from told to) (map-append (edge_told group name) own (reports_at w.children c edges)) both) in
+          let last = rest.walk group name two.between to
+          (subst (λ (crew : Crew). IsWalk two.between (edges_told group name (reports_at crew c edges)) to) (sym a.crew) two.second) in
+          joined_walk group name from two.between to own (a.more ++ rest.more) two.first
+          (joined_walk group name two.between two.between to a.more rest.more (a.silent group name two.between) last);
+    }
+
 -- the table says something to a child, or nothing
 moved : (stimulus : Child → Option Stimulus) (c : ℕ) (w : World) (answer : Option Answer) → says stimulus c w ≡ answer
     → Goes w (moves c answer w)
 moved stimulus c w None is = same w
-moved stimulus c w (Some answer) is = record {
-  kept = refl;
-  more = reports_at w.children c answer.step.edges;
-  added = refl;
-  walk = λ place p roster at. moved_walk stimulus w.course.mood w.moment w.children c place answer p is roster at;
-}
+moved stimulus c w (Some answer) is =
+    let after = changed c (Some answer) w in
+    let t = told_edges c (pid_at w.children c) answer.step.edges after in
+    record {
+      kept = ap (λ (crew : Crew). crew.roster) t.crew;
+      more = t.more;
+      added = t.added;
+      walk = λ place p roster at.
+          t.walk p.0.name p.1.name (state_at w.children place) _
+          (subst (λ (crew : Crew). IsWalk (state_at w.children place) (edges_told p.0.name p.1.name (reports_at w.children c answer.step.edges))
+          (state_at crew place)) (sym t.crew)
+          (moved_walk stimulus w.course.mood w.moment w.children c place answer p is roster at));
+    }
 
 pub goes_steps : Steps Goes
 goes_steps = record {
@@ -75,7 +186,7 @@ goes_steps = record {
     added = sym (append-nil w.given);
     walk = λ place p roster is. sym (state_rewound at (processes w.children.roster) w.children.all place);
   };
-  moved = λ stimulus c w. moved stimulus c w (says stimulus c w) refl;
+  came = λ stimulus c w. moved stimulus c w (says stimulus c w) refl;
   killed = λ c signal group w. record {
     kept = refl;
     more = kill_at w.children c signal group;
@@ -90,6 +201,22 @@ goes_steps = record {
   };
   steered = λ course w. record { kept = refl; more = []; added = sym (append-nil w.given); walk = λ place p roster is. refl };
   ended = λ w. record { kept = refl; more = order.Halt ∷ []; added = refl; walk = λ place p roster is. refl };
+  offered = λ kind fact w. adds_goes w (offers kind fact w) (offered kind fact w);
+  clocked = λ clock w. adds_goes w (record w { clock = clock }) (adds_nothing w (record w { clock = clock }) refl refl);
+  booked = λ runs w. adds_goes w (record w { runs = runs }) (adds_nothing w (record w { runs = runs }) refl refl);
+  done = λ c w. adds_goes w (is_done_with c w) (adds_nothing w (is_done_with c w) refl refl);
+  returned = λ c w. adds_goes w (gives_back c w) (record {
+    crew = refl;
+    more = rejection_reports (id_of c) w.pools;
+    added = refl;
+    silent = silent_rejection (id_of c) w.pools;
+  });
+  sent = λ run c w. adds_goes w (sends run c w) (record {
+    crew = refl;
+    more = hand_orders w.config.identifier run (id_of c) w.pools;
+    added = refl;
+    silent = silent_hand w.config.identifier run (id_of c) w.pools;
+  });
 }
 
 -- ---- all inputs

@@ -1,18 +1,23 @@
 -- The machine and the state that it stands for go on together.
-use Rattle.std.proofs.Common.{◌≡◌, ℕ, List, [], ◌∷◌, ◌++◌, Option, Some, None, Bool, true, false, ◌&&◌, length, refl, sym, ap, ◌∙◌, append-nil, ◌-◌}
+use Rattle.std.proofs.Common.{◌≡◌, ℕ, List, [], ◌∷◌, ◌++◌, Option, Some, None, Bool, true, false, ◌&&◌, length, refl, subst, sym, ap, ◌∙◌, append-nil, ◌-◌}
 use Rattle.std.specs.Prelude.{codes, is_some, nat_lt, not}
 use Rattle.std.specs.List.{list_all}
 use Rattle.std.proofs.Math.Seq.{drop-append_seam}
 use Rattle.sv_core.proofs.Named.{names_fresh, names_failed}
+use Rattle.sv_core.proofs.Shown.{at_same}
+use Rattle.sv_core.specs.Events.{announces}
+use Rattle.sv_base.specs.declared.ids.Run.{Run}
 use Rattle.sv_core.specs.Failure.{can_fail, failures_told}
+use Rattle.sv_core.specs.Listening.{loses_stdin}
 use Rattle.sv_core.specs.MachineState.{Model, can_be_named, failure_named, hand, is_accepted, now, accepts, next, next_part, orders, turn_of}
 use Rattle.sv_core.specs.Parts.{part_of}
-use Rattle.sv_core.specs.StandsFor.{StandsFor, Takes, Names, Notes, asked_by, can_name, failure_kept, has_halted, is_above, paused, question_of, rest, swept, shown, turn_after, is_fitting}
+use Rattle.sv_core.specs.StandsFor.{At, Shows, StandsFor, Takes, Names, Notes, asked_by, can_name, failure_kept, has_halted, is_above, paused, question_of, rest, swept, shown, turn_after, is_fitting}
 use Rattle.sv_core.specs.Sweeps.{Turn, asks, sweeps}
+use Rattle.sv_core.specs.Sweeps.Turn.{Done}
 use Rattle.sv_core.specs.Turn.{applies, asked_of, come, came, after_pass, after_stimulus, turn, rewinds, world_of, is_asking}
 use Rattle.sv_core.specs.Moves.{answered}
 use Rattle.sv_core.specs.World.{World}
-use Rattle.sv_core.specs.declared.failure.Failure.TheVariants.{NeverFails, ChangesNothing, RefusesQuestion}
+use Rattle.sv_core.specs.declared.failure.Failure.TheVariants.{NeverFails, ChangesNothing, LosesStdin, RefusesQuestion}
 use Rattle.sv_core.specs.declared.machine.Machine.{Machine}
 use Rattle.sv_core.specs.declared.numbers.Numbers.{Numbers}
 use Rattle.sv_core.specs.declared.part.Cause.{Cause}
@@ -28,6 +33,10 @@ use Rattle.sv_core.specs.declared.place.Place.{Place}
 use Rattle.sv_core.specs.declared.place.Place.TheVariants.{Stimulus, Pass}
 use Rattle.sv_out.specs.declared.input.Input.{Input}
 use Rattle.sv_out.specs.declared.order.Order.{Order}
+use Rattle.sv_pools.specs.StandsFor as kept_pools
+use Rattle.sv_pools.specs.declared.pools.Pools.{Pools}
+use Rattle.sv_runs.specs.StandsFor as kept_runs
+use Rattle.sv_runs.specs.declared.runs.Runs.{Runs}
 
 pub world_of_rest : (place : Option Place) (w : World) → world_of (rest place w) ≡ w
 unfolding rest paused swept asks
@@ -54,9 +63,12 @@ hand_after_part x m (Fails number) same =
     came_more (turn_of m.begun m.base) m.followed (failures_told (failure_named m number))
     ∙ ap (λ found. came (hand m) (failures_told found)) (sym (same number))
 
--- the world of the state is the one that the machine shows
-pub now_is : (x : Machine) (m : Model) (s : StandsFor x m) → now m ≡ shown x s.older
-now_is x m s = ap world_of s.hand_is ∙ world_of_rest x.hand.place (shown x s.older)
+-- the world of the state is one that the machine shows
+now_at : (x : Machine) (m : Model) (s : StandsFor x m) → now m ≡ s.hand_at.world
+now_at x m s = ap world_of s.hand_at.is ∙ world_of_rest x.hand.place s.hand_at.world
+
+now_is : (x : Machine) (m : Model) (s : StandsFor x m) → now m ≡ shown x s.older s.hand_at.shows.pools s.hand_at.shows.runs
+now_is x m s = now_at x m s ∙ s.hand_at.shows.is
 
 pub given_is : (x : Machine) (m : Model) (s : StandsFor x m) → (now m).given ≡ s.older
 given_is x m s = ap (λ (w : World). w.given) (now_is x m s) ∙ rw s.idle (append-nil s.older)
@@ -65,10 +77,11 @@ pub failure_is : (x : Machine) (m : Model) (s : StandsFor x m) (number : ℕ) �
 failure_is x m s number = rw (given_is x m s, s.names.failures, s.names.first) refl
 
 hand_next : (x y : Machine) (m : Model) (input : Input) (given : List Order) (s : StandsFor x m) → Takes x input given y
-    → hand (next m input) ≡ rest y.hand.place (shown y (s.older ++ given))
+    → At y (s.older ++ given) (hand (next m input)) (rest y.hand.place)
 hand_next x y m input given s takes =
-    hand_after_part x.numbers m (part_of input) (failure_is x m s)
-    ∙ ap (turn_after x.numbers (part_of input)) s.hand_is ∙ takes.turn s.older s.idle
+    at_same y (s.older ++ given) (hand (next m input)) _ (rest y.hand.place)
+    (hand_after_part x.numbers m (part_of input) (failure_is x m s) ∙ ap (turn_after x.numbers (part_of input)) s.hand_at.is)
+    (takes.turn s.older s.hand_at.world s.idle s.hand_at.shows)
 
 -- a number that can be named is above those that were
 named_above : (x : Machine) (m : Model) (number : ℕ) → StandsFor x m → can_be_named m number ≡ true → is_above x.numbers.last number ≡ true
@@ -96,15 +109,16 @@ step_stands x y m input given s accepted takes = record {
   whole = takes.whole ∙ s.whole;
   idle = takes.idle;
   older = s.older ++ given;
-  hand_is = hand_next x y m input given s takes;
+  hand_at = hand_next x y m input given s takes;
   names = names_next x y m (part_of input) given s (behind_not _ _ accepted) takes.notes;
 }
 
 pub step_orders : (x y : Machine) (m : Model) (input : Input) (given : List Order) → StandsFor x m → Takes x input given y
     → given ≡ orders m input
 step_orders x y m input given s takes =
+    let at = hand_next x y m input given s takes in
     let behind : (now (next m input)).given ≡ s.older ++ given =
-    ap (λ (w : World). w.given) (ap world_of (hand_next x y m input given s takes) ∙ world_of_rest y.hand.place (shown y (s.older ++ given)))
+    ap (λ (w : World). w.given) (ap world_of at.is ∙ world_of_rest y.hand.place at.world ∙ at.shows.is)
     ∙ rw takes.idle (append-nil (s.older ++ given)) in
     rw (given_is x m s, behind) (sym (drop-append_seam s.older given))
 
@@ -121,7 +135,7 @@ can_name_is x m number s = rw (failure_is x m s number, s.names.above number) re
 pub accepts_is : (x : Machine) (m : Model) (input : Input) → StandsFor x m → is_fitting x input ≡ accepts m input
 accepts_is x m input s =
     let asked : asked_of (hand m) ≡ question_of x.hand.place =
-    ap asked_of s.hand_is ∙ asked_of_rest x.hand.place (shown x s.older) in
+    ap asked_of s.hand_at.is ∙ asked_of_rest x.hand.place s.hand_at.world in
     rw (s.whole, asked, now_is x m s)
     (ap (λ b. not x.course.halted && b)
     (accepted_same (part_of input) (question_of x.hand.place) x.numbers.next_run (can_name x.numbers) (can_be_named m) (λ number. can_name_is x m number s)))
@@ -133,17 +147,58 @@ fitting_accepted x m input s fits = sym (accepts_is x m input s) ∙ fits
 pub awaits_is : (x : Machine) (m : Model) → StandsFor x m → is_some (asked_by x) ≡ is_asking (hand m)
 awaits_is x m s =
     let asked : asked_of (hand m) ≡ question_of x.hand.place =
-    ap asked_of s.hand_is ∙ asked_of_rest x.hand.place (shown x s.older) in
+    ap asked_of s.hand_at.is ∙ asked_of_rest x.hand.place s.hand_at.world in
     rw (s.whole, asked) refl
 
 pub halted_is : (x : Machine) (m : Model) → StandsFor x m → has_halted x ≡ (now m).course.halted
 halted_is x m s = rw (s.whole, now_is x m s) refl
 
+-- where a turn was left is no part of the world
+pub left_there : (y : Machine) (older : List Order) (place : Option Place) (w : World) → Shows y older w
+    → Shows (record y { hand = record y.hand { place = place } }) older w
+left_there y older place w s = record { pools = s.pools; runs = s.runs; is = s.is; pools_kept = s.pools_kept; runs_kept = s.runs_kept }
+
 -- a turn begins
-pub turn_begun : (cause : Cause) (at : ℕ) (place : Option Place) (w v : World) (t : Turn) → v ≡ rewinds at w
-    → applies cause v after_stimulus ≡ t → turn cause at (world_of (rest place w)) ≡ t
-turn_begun cause at place w v t is_v goes =
-    ap (turn cause at) (world_of_rest place w) ∙ ap (λ u. applies cause u after_stimulus) (sym is_v) ∙ goes
+pub turn_begun : (cause : Cause) (at : ℕ) (place : Option Place) (w : World)
+    → turn cause at (world_of (rest place w)) ≡ applies cause (rewinds at (announces w)) after_stimulus
+turn_begun cause at place w = ap (turn cause at) (world_of_rest place w)
+
+-- a step that stopped at a question: the turn is left there
+pub left_in_stimulus : (y : Machine) (older : List Order) (t : Turn) (found : Option Paused) (p : Paused) → found ≡ Some p
+    → At y older t (paused found after_stimulus)
+    → At (record y { hand = record y.hand { place = Some (Stimulus p) } }) older t (rest (Some (Stimulus p)))
+unfolding rest
+left_in_stimulus y older t found p is at = record {
+  world = at.world;
+  shows = left_there y older (Some (Stimulus p)) at.world at.shows;
+  is = at.is ∙ ap (λ o. paused o after_stimulus at.world) is;
+}
+
+pub left_in_pass : (y : Machine) (older : List Order) (t : Turn) (found : Option Paused) (p : Paused) → found ≡ Some p
+    → At y older t (paused found after_pass)
+    → At (record y { hand = record y.hand { place = Some (Pass p) } }) older t (rest (Some (Pass p)))
+unfolding rest
+left_in_pass y older t found p is at = record {
+  world = at.world;
+  shows = left_there y older (Some (Pass p)) at.world at.shows;
+  is = at.is ∙ ap (λ o. paused o after_pass at.world) is;
+}
+
+-- a step that didn't stop: the turn goes on with the next one, from the world that is shown then
+pub gone_on : (y z : Machine) (older : List Order) (t : Turn) (found : Option Paused) (next f : World → Turn) → found ≡ None
+    → (at : At y older t (paused found next)) → At z older (next at.world) f → At z older t f
+unfolding paused
+gone_on y z older t found next f is at then = record {
+  world = then.world;
+  shows = then.shows;
+  is = at.is ∙ ap (λ o. paused o next at.world) is ∙ then.is;
+}
+
+-- the turn is done
+pub done_there : (y : Machine) (older : List Order) (w : World) → Shows y older w
+    → At (record y { hand = record y.hand { place = None } }) older (Done w) (rest None)
+unfolding rest
+done_there y older w s = record { world = w; shows = left_there y older None w s; is = refl }
 
 -- step 2 goes on with the answer of its question
 pub stimulus_answered : (p : Paused) (reply : Reply) (w : World)
@@ -163,6 +218,11 @@ pass_answered p reply w = refl
 pub nothing_answered : (reply : Reply) (w : World) → come (rest None w) (followed.Answered reply) ≡ rest None w
 unfolding rest
 nothing_answered reply w = refl
+
+pub nothing_answered_at : (x : Machine) (older : List Order) (reply : Reply) (w : World) → Shows x older w
+    → At (record x { hand = record x.hand { place = None } }) older (come (rest None w) (followed.Answered reply)) (rest None)
+nothing_answered_at x older reply w s =
+    record { world = w; shows = left_there x older None w s; is = nothing_answered reply w }
 
 -- a question that is refused is answered by its refusal
 pub refused_is : (place : Option Place) (w : World)
@@ -184,3 +244,28 @@ unfolding rest paused swept asks
 never_failed None w = refl
 never_failed (Some (Stimulus p)) w = refl
 never_failed (Some (Pass p)) w = refl
+
+-- a write that failed
+pub stdin_failed : (place : Option Place) (run : Run) (w : World)
+    → come (rest place w) (followed.Failed (LosesStdin run)) ≡ rest place (loses_stdin run w)
+unfolding rest paused swept asks
+stdin_failed None run w = refl
+stdin_failed (Some (Stimulus p)) run w = refl
+stdin_failed (Some (Pass p)) run w = refl
+
+-- the orders of an input are handed over
+pub taken_there : (x y : Machine) (older given : List Order) (w : World)
+    → y ≡ record x { numbers = record x.numbers { failures = y.numbers.failures }; hand = record x.hand { given = y.hand.given } }
+    → y.hand.given.items ≡ [] → given ≡ x.hand.given.items → Shows x older w → Shows y (older ++ given) w
+taken_there x y older given w same none is s =
+    let all : older ++ x.hand.given.items ≡ (older ++ given) ++ y.hand.given.items =
+    ap (λ (orders : List Order). older ++ orders) (sym is) ∙ sym (append-nil (older ++ given))
+    ∙ ap (λ (orders : List Order). (older ++ given) ++ orders) (sym none) in
+    record {
+      pools = s.pools;
+      runs = s.runs;
+      is = s.is ∙ ap (λ (orders : List Order). record (shown x older s.pools s.runs) { given = orders }) all
+          ∙ ap (λ (m : Machine). shown m (older ++ given) s.pools s.runs) (sym same);
+      pools_kept = subst (λ (pools : Pools). kept_pools.StandsFor pools s.pools) (sym (ap (λ (m : Machine). m.pools) same)) s.pools_kept;
+      runs_kept = subst (λ (runs : Runs). kept_runs.StandsFor runs s.runs) (sym (ap (λ (m : Machine). m.runs) same)) s.runs_kept;
+    }

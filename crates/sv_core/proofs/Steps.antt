@@ -1,8 +1,14 @@
 -- One walk through the turn, for a relation between two worlds that each of its small steps keeps.
 use Rattle.std.proofs.Common.{ℕ, zero, suc, ◌+◌, ◌++◌, List, [], ◌∷◌, Bool, true, false, ◌&&◌, ◌||◌, Option, Some, None, subst, sym, if◌then◌else◌}
-use Rattle.std.specs.Prelude.{◌-◌, length, nat_le, codes}
+use Rattle.std.specs.Prelude.{◌-◌, length, nat_le, codes, slice_get}
+use Rattle.std.specs.Str.{bytes_eq}
 use Rattle.sv_base.specs.declared.ids.Run.{Run}
+use Rattle.sv_base.specs.declared.kind.Kind.{Kind}
+use Rattle.sv_base.specs.declared.kind.Kind.TheVariants as kind
 use Rattle.sv_base.specs.declared.signal.Signal.{Signal}
+use Rattle.sv_base.specs.declared.state.How.{How}
+use Rattle.sv_base.specs.declared.state.Stream.{Stream}
+use Rattle.sv_base.specs.declared.state.Stream.TheVariants.{Out, Err}
 use Rattle.sv_base.specs.declared.state.Mood.TheVariants as mood_is
 use Rattle.sv_child.specs.ChildTable.{Stimulus}
 use Rattle.sv_child.specs.Moves.{is_running}
@@ -16,19 +22,22 @@ use Rattle.sv_children.specs.declared.news.News.{News}
 use Rattle.sv_children.specs.declared.news.News.TheVariants as news_is
 use Rattle.sv_core.proofs.Standing.{came_more}
 use Rattle.sv_core.specs.Deeds.{after}
-use Rattle.sv_core.specs.Failure.{failures_told, refusal}
+use Rattle.sv_core.specs.Events.{announces, offers, offers_change, offers_tick, ticks}
+use Rattle.sv_core.specs.HandingOut.{hands_from, hands_out, hands_to, ready_of, sends, sends_to}
+use Rattle.sv_core.specs.Listening.{ends_pipe, exits, exits_of, gives_back, hears, hears_on, id_of, is_done_with, loses_of, loses_stdin, takes_result, tells, tells_all, tells_by}
+use Rattle.sv_core.specs.Failure.{failed, failures_told, refusal}
 use Rattle.sv_core.specs.MachineState.{Model, hand, failure_named, now, next, next_part, turn_of, accepts}
-use Rattle.sv_core.specs.Moves.{answered, fails, kills, moves, orders_spawn, says, told_of}
+use Rattle.sv_core.specs.Moves.{answered, begins_as, comes, fails, kills, moves, orders_spawn, says, started_as, told_of}
 use Rattle.sv_core.specs.Parts.{part_of}
 use Rattle.sv_core.specs.Shutdown.{drops_group, follows_plan, halts, halts_after, has_come_to_rest, heeds, in_mood, is_ending, moves_on, tells_group}
 use Rattle.sv_core.specs.Stops.{signals, stops, stops_from, stops_all}
-use Rattle.sv_core.specs.Sweeps.{Turn, asks, does, meets, spawns, spawns_as, sweeps, sweeps_all, sweeps_over}
+use Rattle.sv_core.specs.Sweeps.{Turn, asks, carries_out, does, meets, spawns, spawns_as, sweeps, sweeps_all, sweeps_over}
 use Rattle.sv_core.specs.Sweeps.Turn.{Done, Ask}
 use Rattle.sv_core.specs.Turn.{after_pass, after_stimulus, applies, came, come, failed_at, rewinds, turn, world_of}
 use Rattle.sv_core.specs.World.{World}
 use Rattle.sv_core.specs.declared.course.Course.{Course}
 use Rattle.sv_core.specs.declared.failure.Failure.{Failure}
-use Rattle.sv_core.specs.declared.failure.Failure.TheVariants.{NeverFails, ChangesNothing, RefusesQuestion}
+use Rattle.sv_core.specs.declared.failure.Failure.TheVariants.{NeverFails, ChangesNothing, LosesStdin, RefusesQuestion}
 use Rattle.sv_core.specs.declared.part.Cause.{Cause}
 use Rattle.sv_core.specs.declared.part.Cause.TheVariants as cause_is
 use Rattle.sv_core.specs.declared.part.Followed.{Followed}
@@ -38,11 +47,18 @@ use Rattle.sv_core.specs.declared.part.Part.TheVariants.{Begins, Answers, Fails}
 use Rattle.sv_core.specs.declared.part.Question.{Question}
 use Rattle.sv_core.specs.declared.part.Reply.{Reply}
 use Rattle.sv_core.specs.declared.part.Reply.TheVariants.{Refused}
+use Rattle.sv_events.specs.TickSlice.{tick}
+use Rattle.sv_events.specs.declared.fact.Fact.{Fact}
+use Rattle.sv_events.specs.declared.fact.Fact.TheVariants as fact
 use Rattle.sv_groups.specs.StartOrder.{span_of}
 use Rattle.sv_groups.specs.declared.order.Span.{Span}
 use Rattle.sv_out.specs.declared.input.Input.{Input}
 use Rattle.sv_out.specs.declared.order.Order.TheVariants as order
 use Rattle.sv_out.specs.declared.order.SpawnOrder.{SpawnOrder}
+use Rattle.sv_pipes.specs.declared.tokens.Token.{Token}
+use Rattle.sv_pipes.specs.declared.tokens.Token.TheVariants as token
+use Rattle.sv_pools.specs.Listeners.{holds}
+use Rattle.sv_runs.specs.RunBook.{RunBook, heard, living, lost, new_tokens, process_ended, stdin_lost, teller}
 
 -- each answer leads to a stop that is related to the world in which it came
 abbrev pub Onward : (World → World → Type 0) → Turn → Type 0
@@ -58,18 +74,36 @@ pub record Steps (R : World → World → Type 0) : Type 0 where
   pub same : (w : World) → R w w
   pub follow : (u v w : World) → R u v → R v w → R u w
   pub rewound : (at : ℕ) (w : World) → R w (rewinds at w)
-  pub moved : (stimulus : Child → Option Stimulus) (c : ℕ) (w : World) → R w (moves c (says stimulus c w) w)
+  pub came : (stimulus : Child → Option Stimulus) (c : ℕ) (w : World) → R w (comes stimulus c w)
   pub killed : (c : ℕ) (signal : Signal) (group : Bool) (w : World) → R w (kills c signal group w)
   pub ordered : (spawning : SpawnOrder) (w : World) → R w (orders_spawn spawning w)
   pub steered : (course : Course) (w : World) → R w (record w { course = course })
   pub ended : (w : World) → R w (record w { given = w.given ++ order.Halt ∷ [] })
+  pub offered : (kind : Kind) (fact : Fact) (w : World) → R w (offers kind fact w)
+  pub clocked : (clock : ℕ) (w : World) → R w (record w { clock = clock })
+  pub booked : (runs : RunBook) (w : World) → R w (record w { runs = runs })
+  pub done : (c : ℕ) (w : World) → R w (is_done_with c w)
+  pub returned : (c : ℕ) (w : World) → R w (gives_back c w)
+  pub sent : (run : Run) (c : ℕ) (w : World) → R w (sends run c w)
 
 module _ (R : World → World → Type 0) (s : Steps R) where
   pub leads : (w v : World) (t : Turn) → R w v → From R v t → From R w t
   leads w v t r f = (s.follow w v (world_of t) r f.0, f.1)
 
+  -- a test, and either way the relation holds
+  by_test : (b : Bool) (w one other : World) → R w one → R w other → R w (if b then one else other)
+  by_test true w one other yes_holds no_holds = yes_holds
+  by_test false w one other yes_holds no_holds = no_holds
+
+  kept_begins : (c : ℕ) (run : Run) (started : Option ℕ) (w : World) → R w (begins_as c run started w)
+  kept_begins c run None w = s.same w
+  kept_begins c run (Some pid) w = s.booked (begins_as c run (Some pid) w).runs w
+
   pub kept_answered : (c : ℕ) (run : Run) (reply : Reply) (w : World) → R w (answered c run reply w)
-  kept_answered c run reply w = s.moved (stimulus_told run (told_of reply)) c w
+  kept_answered c run reply w =
+      let v = comes (stimulus_told run (told_of reply)) c w in
+      s.follow w v (begins_as c run (started_as reply) v) (s.came (stimulus_told run (told_of reply)) c w)
+      (kept_begins c run (started_as reply) v)
 
   pub kept_asks : (c : ℕ) (run : Run) (w : World) (k : World → Turn) → ((v : World) → From R v (k v)) → From R w (asks c run w k)
   unfolding asks
@@ -88,33 +122,119 @@ module _ (R : World → World → Type 0) (s : Steps R) where
     by_number true = kept_spawns_as (spawn_at w.children c w.next_run) c w k goes
     by_number false = leads w (fails c w) (k (fails c w)) (kept_answered c (record { 0 = 0 }) (Refused (codes "failed")) w) (goes (fails c w))
 
+  kept_carries_out : (deed : ChildDeed) (c : ℕ) (w : World) (k : World → Turn) → ((v : World) → From R v (k v)) → From R w (carries_out deed c w k)
+  kept_carries_out (Kill signal group) c w k goes =
+      leads w (kills c signal group w) (k (kills c signal group w)) (s.killed c signal group w) (goes (kills c signal group w))
+  kept_carries_out Spawn c w k goes = kept_spawns c w k goes
+
   pub kept_does : (deed : Option ChildDeed) (c : ℕ) (w : World) (k : World → Turn) → ((v : World) → From R v (k v)) → From R w (does deed c w k)
   kept_does None c w k goes = goes w
-  kept_does (Some (Kill signal group)) c w k goes =
-      leads w (kills c signal group w) (k (kills c signal group w)) (s.killed c signal group w) (goes (kills c signal group w))
-  kept_does (Some Spawn) c w k goes = kept_spawns c w k goes
+  kept_does (Some deed) c w k goes = kept_carries_out deed c w k goes
 
   pub kept_meets : (news : News) (c : ℕ) (w : World) (k : World → Turn) → ((v : World) → From R v (k v)) → From R w (meets news c w k)
   kept_meets news c w k goes =
       let answer = says (stimulus_of news) c w in
       let deed = deed_of (step_of answer) in
-      leads w (moves c answer w) (does deed c (moves c answer w) k) (s.moved (stimulus_of news) c w) (kept_does deed c (moves c answer w) k goes)
+      leads w (moves c answer w) (does deed c (moves c answer w) k) (s.came (stimulus_of news) c w) (kept_does deed c (moves c answer w) k goes)
 
   pub kept_sweeps : (news : News) (left place : ℕ) (w : World) (k : World → Turn) → ((v : World) → From R v (k v)) → From R w (sweeps news left place w k)
   kept_sweeps news zero place w k goes = goes w
   kept_sweeps news (suc left) place w k goes =
       kept_meets news place w (λ v. sweeps news left (place + 1) v k) (λ v. kept_sweeps news left (place + 1) v k goes)
 
+  pub kept_change : (kind : Kind) (w : World) → R w (offers_change kind w)
+  kept_change kind w = s.offered kind fact.Supervisor w
+
+  kept_announces : (w : World) → R w (announces w)
+  kept_announces w =
+      let course : Course = record w.course { announced = true } in
+      let told = record w { course = course } in
+      by_test w.course.announced w w (offers_change kind.SupervisorStateChangeRunning told) (s.same w)
+      (s.follow w told (offers_change kind.SupervisorStateChangeRunning told) (s.steered course w)
+      (kept_change kind.SupervisorStateChangeRunning told))
+
+  kept_tick : (kind : Kind) (when : Option ℕ) (w : World) → R w (offers_tick kind when w)
+  kept_tick kind None w = s.same w
+  kept_tick kind (Some when) w = s.offered kind (fact.Tick when) w
+
+  kept_ticks : (w : World) → R w (ticks w)
+  kept_ticks w =
+      let old = w.clock in
+      let new = w.moment in
+      let a = record w { clock = new } in
+      let b = offers_tick kind.Tick5 (tick 5 old new) a in
+      let d = offers_tick kind.Tick60 (tick 60 old new) b in
+      s.follow w a (ticks w) (s.clocked new w)
+      (s.follow a b (ticks w) (kept_tick kind.Tick5 (tick 5 old new) a)
+      (s.follow b d (ticks w) (kept_tick kind.Tick60 (tick 60 old new) b)
+      (kept_tick kind.Tick3600 (tick 3600 old new) d)))
+
+  -- ---- listeners
+
+  kept_result : (c : ℕ) (body : List ℕ) (w : World) → R w (takes_result c body w)
+  kept_result c body w = by_test (bytes_eq body (codes "OK")) w (is_done_with c w) (gives_back c w) (s.done c w) (s.returned c w)
+
+  kept_tells : (c : ℕ) (t : Token) (w : World) → R w (tells c t w)
+  kept_tells c token.Ready w = s.same w
+  kept_tells c (token.Result body) w = kept_result c body w
+  kept_tells c token.Wrong w = s.returned c w
+
+  kept_tells_all : (c : ℕ) (ts : List Token) (w : World) → R w (tells_all c ts w)
+  kept_tells_all c [] w = s.same w
+  kept_tells_all c (t ∷ ts) w = s.follow w (tells c t w) (tells_all c ts (tells c t w)) (kept_tells c t w) (kept_tells_all c ts (tells c t w))
+
+  kept_tells_by : (teller : Option ℕ) (ts : List Token) (w : World) → R w (tells_by teller ts w)
+  kept_tells_by None ts w = s.same w
+  kept_tells_by (Some c) ts w = kept_tells_all c ts w
+
+  kept_hears : (run : Run) (bytes : List ℕ) (w : World) → R w (hears run bytes w)
+  kept_hears run bytes w =
+      let book = heard run bytes w.runs in
+      s.follow w (record w { runs = book }) (hears run bytes w) (s.booked book w)
+      (kept_tells_by (teller run w.runs) (new_tokens run bytes w.runs) (record w { runs = book }))
+
+  kept_hears_on : (stream : Stream) (run : Run) (bytes : List ℕ) (w : World) → R w (hears_on stream run bytes w)
+  kept_hears_on Out run bytes w = kept_hears run bytes w
+  kept_hears_on Err run bytes w = s.same w
+
+  kept_exits_of : (child : Option ℕ) (run : Run) (how : How) (w : World) → R w (exits_of child run how w)
+  kept_exits_of None run how w = s.same w
+  kept_exits_of (Some c) run how w =
+      let v = comes (stimulus_of (news_is.Exit run how)) c w in
+      let u = record v { runs = process_ended run v.runs } in
+      s.follow w v (gives_back c u) (s.came (stimulus_of (news_is.Exit run how)) c w)
+      (s.follow v u (gives_back c u) (s.booked (process_ended run v.runs) v) (s.returned c u))
+
+  kept_loses_of : (child : Option ℕ) (run : Run) (w : World) → R w (loses_of child run w)
+  kept_loses_of None run w = s.same w
+  kept_loses_of (Some c) run w =
+      let u = record w { runs = lost run w.runs } in
+      by_test (holds (id_of c) w.pools) w (gives_back c u) w
+      (s.follow w u (gives_back c u) (s.booked (lost run w.runs) w) (s.returned c u)) (s.same w)
+
+  pub kept_loses : (run : Run) (w : World) → R w (loses_stdin run w)
+  kept_loses run w =
+      let u = record w { runs = stdin_lost run w.runs } in
+      s.follow w u (loses_of (living run w.runs) run u) (s.booked (stdin_lost run w.runs) w) (kept_loses_of (living run w.runs) run u)
+
+  kept_sends : (run : Option Run) (c : ℕ) (w : World) → R w (sends_to run c w)
+  kept_sends None c w = s.same w
+  kept_sends (Some run) c w = s.sent run c w
+
+  kept_hands_from : (left c : ℕ) (w : World) → R w (hands_from left c w)
+  kept_hands_from zero c w = s.same w
+  kept_hands_from (suc left) c w =
+      s.follow w (hands_to c w) (hands_from left (c + 1) (hands_to c w))
+      (kept_sends (ready_of (slice_get w.children.all c) w.runs) c w) (kept_hands_from left (c + 1) (hands_to c w))
+
+  kept_hands_out : (w : World) → R w (hands_out w)
+  kept_hands_out w = kept_hands_from (length w.children.all - 0) 0 w
+
   pub kept_sweeps_all : (news : News) (w : World) (k : World → Turn) → ((v : World) → From R v (k v)) → From R w (sweeps_all news w k)
   kept_sweeps_all news w k goes = kept_sweeps news (length w.children.all - 0) 0 w k goes
 
   pub kept_done : (w : World) → From R w (Done w)
   kept_done w = (s.same w, tt)
-
-  -- a test, and either way the relation holds
-  by_test : (b : Bool) (w one other : World) → R w one → R w other → R w (if b then one else other)
-  by_test true w one other yes_holds no_holds = yes_holds
-  by_test false w one other yes_holds no_holds = no_holds
 
   kept_signals : (deed : Option ChildDeed) (c : ℕ) (w : World) → R w (signals deed c w)
   kept_signals (Some (Kill signal group)) c w = s.killed c signal group w
@@ -124,7 +244,7 @@ module _ (R : World → World → Type 0) (s : Steps R) where
   kept_stops : (c : ℕ) (w : World) → R w (stops c w)
   kept_stops c w =
       let answer = says (stimulus_of news_is.Stop) c w in
-      s.follow w (moves c answer w) (stops c w) (s.moved (stimulus_of news_is.Stop) c w)
+      s.follow w (moves c answer w) (stops c w) (s.came (stimulus_of news_is.Stop) c w)
       (kept_signals (deed_of (step_of answer)) c (moves c answer w))
 
   kept_stops_from : (from left : ℕ) (w : World) → R w (stops_from from left w)
@@ -166,14 +286,22 @@ module _ (R : World → World → Type 0) (s : Steps R) where
 
   kept_heeds : (signal : Signal) (w : World) → R w (heeds signal w)
   kept_heeds signal w =
-      by_test (is_ending signal && is_running w.course.mood) w (in_mood mood_is.Shutdown w) w
-      (s.steered (record w.course { mood = mood_is.Shutdown }) w) (s.same w)
+      let ending = in_mood mood_is.Shutdown w in
+      by_test (is_ending signal && is_running w.course.mood) w (offers_change kind.SupervisorStateChangeStopping ending) w
+      (s.follow w ending (offers_change kind.SupervisorStateChangeStopping ending) (s.steered (record w.course { mood = mood_is.Shutdown }) w)
+      (kept_change kind.SupervisorStateChangeStopping ending)) (s.same w)
 
   kept_after_pass : (w : World) → From R w (after_pass w)
-  kept_after_pass w = (s.follow w (follows_plan w) (halts (follows_plan w)) (kept_follows_plan w) (kept_halts (follows_plan w)), tt)
+  kept_after_pass w =
+      let v = follows_plan w in (
+        s.follow w v (halts (hands_out v)) (kept_follows_plan w)
+            (s.follow v (hands_out v) (halts (hands_out v)) (kept_hands_out v) (kept_halts (hands_out v))),
+        tt,
+      )
 
   kept_after_stimulus : (w : World) → From R w (after_stimulus w)
-  kept_after_stimulus w = kept_sweeps_all news_is.Time w after_pass kept_after_pass
+  kept_after_stimulus w =
+      leads w (ticks w) (after_stimulus w) (kept_ticks w) (kept_sweeps_all news_is.Time (ticks w) after_pass kept_after_pass)
 
   kept_start : (b : Bool) (span : Span) (w : World)
       → From R w (if b then sweeps_over news_is.Start span w after_stimulus else after_stimulus w)
@@ -182,8 +310,13 @@ module _ (R : World → World → Type 0) (s : Steps R) where
 
   kept_applies : (cause : Cause) (w : World) → From R w (applies cause w after_stimulus)
   kept_applies cause_is.Tick w = kept_after_stimulus w
-  kept_applies (cause_is.Exit run how) w = kept_sweeps_all (news_is.Exit run how) w after_stimulus kept_after_stimulus
-  kept_applies (cause_is.Stream run) w = kept_after_stimulus w
+  kept_applies (cause_is.Exit run how) w =
+      leads w (exits run how w) (after_stimulus (exits run how w)) (kept_exits_of (living run w.runs) run how w)
+      (kept_after_stimulus (exits run how w))
+  kept_applies (cause_is.Heard run stream bytes) w =
+      let v = hears_on stream run bytes w in leads w v (after_stimulus v) (kept_hears_on stream run bytes w) (kept_after_stimulus v)
+  kept_applies (cause_is.PipeEnd run stream) w =
+      let v = ends_pipe run stream w in leads w v (after_stimulus v) (s.booked v.runs w) (kept_after_stimulus v)
   kept_applies cause_is.Link w = kept_after_stimulus w
   kept_applies (cause_is.Start name) w = kept_start (is_running w.course.mood) (span_meant name w.children.roster) w
   kept_applies (cause_is.Stop name) w =
@@ -193,17 +326,27 @@ module _ (R : World → World → Type 0) (s : Steps R) where
       leads w (heeds signal w) (after_stimulus (heeds signal w)) (kept_heeds signal w) (kept_after_stimulus (heeds signal w))
 
   kept_turn : (cause : Cause) (at : ℕ) (w : World) → From R w (turn cause at w)
-  kept_turn cause at w = leads w (rewinds at w) (turn cause at w) (s.rewound at w) (kept_applies cause (rewinds at w))
+  kept_turn cause at w =
+      let v = announces w in
+      leads w v (turn cause at w) (kept_announces w)
+      (leads v (rewinds at v) (turn cause at w) (s.rewound at v) (kept_applies cause (rewinds at v)))
+
+  pub kept_failure : (failure : Failure) (w : World) → R w (failed failure w)
+  kept_failure (LosesStdin run) w = kept_loses run w
+  kept_failure RefusesQuestion w = s.same w
+  kept_failure ChangesNothing w = s.same w
+  kept_failure NeverFails w = s.same w
 
   kept_failed : (failure : Failure) (w : World) (q : Question) (k : World → Reply → Turn) → Onward R (Ask w q k)
       → From R w (failed_at failure w q k)
   kept_failed RefusesQuestion w q k goes = goes w (refusal q)
   kept_failed ChangesNothing w q k goes = (s.same w, goes)
+  kept_failed (LosesStdin run) w q k goes = (kept_loses run w, goes)
   kept_failed NeverFails w q k goes = (s.same w, goes)
 
   pub kept_come : (t : Turn) (f : Followed) → Onward R t → From R (world_of t) (come t f)
   kept_come (Done w) (followed.Answered reply) goes = kept_done w
-  kept_come (Done w) (followed.Failed failure) goes = kept_done w
+  kept_come (Done w) (followed.Failed failure) goes = (kept_failure failure w, tt)
   kept_come (Ask w q k) (followed.Answered reply) goes = goes w reply
   kept_come (Ask w q k) (followed.Failed failure) goes = kept_failed failure w q k goes
 

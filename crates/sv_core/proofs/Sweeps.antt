@@ -1,32 +1,76 @@
 -- A sweep, one place after the other.
-use Rattle.std.proofs.Common.{◌≡◌, ℕ, suc, Some, None, ◌+◌, ◌-◌, ◌<◌, ◌≤◌, arith, ap, ◌∙◌}
+use Rattle.std.proofs.Common.{◌≡◌, ℕ, suc, List, Option, Some, None, ◌+◌, ◌-◌, ◌<◌, ◌≤◌, length, arith, ap, sym, ◌∙◌}
 use Rattle.sv_children.specs.declared.news.News.{News}
-use Rattle.sv_core.specs.StandsFor.{stopped, swept}
-use Rattle.sv_core.specs.Sweeps.{Turn, sweeps, meets}
+use Rattle.sv_core.specs.StandsFor.{At, Shows, paused, stopped, swept}
+use Rattle.sv_core.specs.Sweeps.{Turn, sweeps, sweeps_all, meets}
 use Rattle.sv_core.specs.World.{World}
+use Rattle.sv_core.specs.declared.machine.Machine.{Machine}
 use Rattle.sv_core.specs.declared.place.Asked.{Asked}
+use Rattle.sv_core.specs.declared.place.Stop.{Stop}
+use Rattle.sv_out.specs.declared.order.Order.{Order}
 
-pub sweep_next : (news : News) (n place : ℕ) (w : World) (k : World → Turn) → place < n
+sweep_next : (news : News) (n place : ℕ) (w : World) (k : World → Turn) → place < n
     → sweeps news (n - place) place w k ≡ meets news place w (λ v. sweeps news (n - (place + 1)) (place + 1) v k)
 sweep_next news n place w k below =
     let left : n - place ≡ suc (n - (place + 1)) = omega arith in ap (λ count. sweeps news count place w k) left
 
-pub sweep_done : (news : News) (n place : ℕ) (w : World) (k : World → Turn) → n ≤ place → sweeps news (n - place) place w k ≡ k w
-sweep_done news n place w k past =
+no_place_left : (news : News) (n place : ℕ) (w : World) (k : World → Turn) → n ≤ place → sweeps news (n - place) place w k ≡ k w
+no_place_left news n place w k past =
     let left : n - place ≡ 0 = omega arith in ap (λ count. sweeps news count place w k) left
 
+pub sweep_done : (y : Machine) (older : List Order) (news : News) (n place : ℕ) (t : Turn) (k : World → Turn) → n ≤ place
+    → At y older t (λ v. sweeps news (n - place) place v k)
+    → At y older t (swept news n None k)
+unfolding swept
+sweep_done y older news n place t k past at =
+    record { world = at.world; shows = at.shows; is = at.is ∙ no_place_left news n place at.world k past }
+
 -- the child of a place asks: the sweep stops there, and goes on in the next place
-pub sweep_stopped : (news : News) (n place : ℕ) (w v : World) (asked : Asked) (k : World → Turn) → place < n
-    → ((next : World → Turn) → meets news place w next ≡ stopped (Some asked) v next)
-    → sweeps news (n - place) place w k ≡ swept news n (Some (record { next = place + 1; asked = asked })) v k
+pub sweep_stopped : (y z : Machine) (older : List Order) (news : News) (n place : ℕ) (t : Turn) (found : Option Asked) (asked : Asked)
+    (k : World → Turn) → place < n → found ≡ Some asked
+    → (at : At y older t (λ v. sweeps news (n - place) place v k))
+    → At z older (meets news place at.world (λ v. sweeps news (n - (place + 1)) (place + 1) v k))
+    (stopped found (λ v. sweeps news (n - (place + 1)) (place + 1) v k))
+    → At z older t (swept news n (Some (record { next = place + 1; asked = asked })) k)
 unfolding stopped swept
-sweep_stopped news n place w v asked k below visited =
-    sweep_next news n place w k below ∙ visited (λ u. sweeps news (n - (place + 1)) (place + 1) u k)
+sweep_stopped y z older news n place t found asked k below is at met = record {
+  world = met.world;
+  shows = met.shows;
+  is = at.is ∙ sweep_next news n place at.world k below ∙ met.is
+      ∙ ap (λ o. stopped o (λ v. sweeps news (n - (place + 1)) (place + 1) v k) met.world) is;
+}
 
 -- it doesn't ask: the sweep goes on
-pub sweep_went_on : (news : News) (n place : ℕ) (w v : World) (k : World → Turn) → place < n
-    → ((next : World → Turn) → meets news place w next ≡ stopped None v next)
-    → sweeps news (n - place) place w k ≡ sweeps news (n - (place + 1)) (place + 1) v k
+pub sweep_went_on : (y z : Machine) (older : List Order) (news : News) (n place : ℕ) (t : Turn) (found : Option Asked)
+    (k : World → Turn) → place < n → found ≡ None
+    → (at : At y older t (λ v. sweeps news (n - place) place v k))
+    → At z older (meets news place at.world (λ v. sweeps news (n - (place + 1)) (place + 1) v k))
+    (stopped found (λ v. sweeps news (n - (place + 1)) (place + 1) v k))
+    → At z older t (λ v. sweeps news (n - (place + 1)) (place + 1) v k)
 unfolding stopped
-sweep_went_on news n place w v k below visited =
-    sweep_next news n place w k below ∙ visited (λ u. sweeps news (n - (place + 1)) (place + 1) u k)
+sweep_went_on y z older news n place t found k below is at met = record {
+  world = met.world;
+  shows = met.shows;
+  is = at.is ∙ sweep_next news n place at.world k below ∙ met.is
+      ∙ ap (λ o. stopped o (λ v. sweeps news (n - (place + 1)) (place + 1) v k) met.world) is;
+}
+
+-- what is left of a sweep that stopped is kept
+pub sweep_kept : (y : Machine) (older : List Order) (news : News) (to : ℕ) (t : Turn) (found : Option Stop) (stop : Stop)
+    (k : World → Turn) → found ≡ Some stop
+    → At y older t (swept news to found k) → At y older t (paused (Some (record { news = news; to = to; stop = stop })) k)
+unfolding paused
+sweep_kept y older news to t found stop k is at =
+    record { world = at.world; shows = at.shows; is = at.is ∙ ap (λ o. swept news to o k at.world) is }
+
+pub sweep_over : (y : Machine) (older : List Order) (news : News) (to : ℕ) (t : Turn) (found : Option Stop) (k : World → Turn)
+    → found ≡ None → At y older t (swept news to found k) → At y older t (paused None k)
+unfolding paused swept
+sweep_over y older news to t found k is at =
+    record { world = at.world; shows = at.shows; is = at.is ∙ ap (λ o. swept news to o k at.world) is }
+
+-- a sweep over all children of the machine
+pub all_swept : (y : Machine) (older : List Order) (news : News) (n : ℕ) (w : World) (k : World → Turn) → Shows y older w
+    → n ≡ length y.children.all → sweeps_all news w k ≡ sweeps news (n - 0) 0 w k
+all_swept y older news n w k s is =
+    ap (λ (m : ℕ). sweeps news (m - 0) 0 w k) (ap (λ (v : World). length v.children.all) s.is ∙ sym is)

@@ -1,8 +1,9 @@
 -- What it means that an order couldn't be carried out.
 use Rattle.std.specs.Prelude.{ℕ, List, [], ◌∷◌, Option, Some, None, Bool, true, false, ◌+◌, ◌-◌, ◌^◌, ◌%◌, codes}
+use Rattle.sv_core.specs.Listening.{loses_stdin}
 use Rattle.sv_core.specs.World.{World}
 use Rattle.sv_core.specs.declared.failure.Failure.{Failure}
-use Rattle.sv_core.specs.declared.failure.Failure.TheVariants.{NeverFails, ChangesNothing, RefusesQuestion}
+use Rattle.sv_core.specs.declared.failure.Failure.TheVariants.{NeverFails, ChangesNothing, LosesStdin, RefusesQuestion}
 use Rattle.sv_core.specs.declared.part.Followed.{Followed}
 use Rattle.sv_core.specs.declared.part.Followed.TheVariants as followed
 use Rattle.sv_core.specs.declared.part.Question.{Question}
@@ -12,14 +13,14 @@ use Rattle.sv_core.specs.declared.part.Reply.TheVariants.{Refused}
 use Rattle.sv_out.specs.declared.order.Order.{Order}
 use Rattle.sv_out.specs.declared.order.Order.TheVariants as order
 
--- a report and the halt are carried out by nobody; a question is refused where it fails; a signal that doesn't get
--- through changes nothing, and the other orders aren't given yet
+-- a report and the halt are carried out by nobody; a question is refused where it fails; a write that fails closes the
+-- stdin of its run; a signal that doesn't get through changes nothing, and the other orders aren't given yet
 abbrev pub failure_of : Order → Failure
 failure_of (order.State group name from to) = NeverFails
 failure_of (order.Dropped pool serial poolserial) = NeverFails
 failure_of (order.Spawn spawn) = RefusesQuestion
 failure_of (order.Kill run signal group) = ChangesNothing
-failure_of (order.Stdin run bytes) = ChangesNothing
+failure_of (order.Stdin run bytes) = LosesStdin run
 failure_of (order.Append file bytes) = ChangesNothing
 failure_of (order.Shift from to) = ChangesNothing
 failure_of (order.Fresh file) = ChangesNothing
@@ -33,6 +34,7 @@ failure_of order.Halt = NeverFails
 -- there is such an order, and it can fail
 abbrev pub can_fail : Option Failure → Bool
 can_fail (Some ChangesNothing) = true
+can_fail (Some (LosesStdin run)) = true
 can_fail (Some RefusesQuestion) = true
 can_fail other = false
 
@@ -40,8 +42,9 @@ can_fail other = false
 abbrev pub refusal : Question → Reply
 refusal question.Spawn = Refused (codes "failed")
 
--- what the failure of an order that asks nothing changes: no such order changes anything yet
+-- what the failure of an order that asks nothing changes
 abbrev pub failed : Failure → World → World
+failed (LosesStdin run) w = loses_stdin run w
 failed failure w = w
 
 -- what followed the input of a turn where an order failed, if it is one that can be named

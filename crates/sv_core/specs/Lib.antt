@@ -1,6 +1,9 @@
 pub mod Sizes
 pub mod World
+pub mod Events
 pub mod Moves
+pub mod Listening
+pub mod HandingOut
 pub mod Stops
 pub mod Sweeps
 pub mod Shutdown
@@ -12,4 +15,5 @@ pub mod Deeds
 pub mod StandsFor
 pub mod Frames
 pub mod Path
+pub mod Account
 pub mod WorkedJournals

@@ -19,8 +19,11 @@ use Rattle.sv_core.specs.declared.part.Followed.TheVariants as followed
 use Rattle.sv_core.specs.declared.part.Part.{Part}
 use Rattle.sv_core.specs.declared.part.Part.TheVariants.{Begins, Answers, Fails}
 use Rattle.sv_core.specs.declared.part.Question.{Question}
+use Rattle.sv_groups.specs.StartOrder.{processes}
 use Rattle.sv_out.specs.declared.input.Input.{Input}
 use Rattle.sv_out.specs.declared.order.Order.{Order}
+use Rattle.sv_pools.specs.EventPools as all_pools
+use Rattle.sv_runs.specs.RunBook as all_runs
 
 -- what begins a turn: its moment and its cause
 pub record Begin : Type 0 where
@@ -60,10 +63,19 @@ opening config sizes host = resting (record {
   config = config;
   pid = host.pid;
   children = new_crew config.groups;
-  course = record { mood = mood_is.Running; left = length config.groups; is_told = false; halted = false };
+  course = record {
+    mood = mood_is.Running;
+    announced = false;
+    left = length config.groups;
+    is_told = false;
+    halted = false;
+  };
   next_run = 1;
   moment = host.start;
+  clock = host.start;
   sizes = sizes;
+  pools = all_pools.opening config.groups;
+  runs = all_runs.opening (length (processes config.groups));
   given = [];
 })
 
@@ -79,7 +91,8 @@ can_be_named m number = can_fail (failure_named m number) && list_all (λ n. nat
 -- the run that a cause names was issued; no link is
 abbrev pub is_issued : Cause → ℕ → Bool
 is_issued (cause_is.Exit run how) next_run = nat_lt 0 run.0 && nat_lt run.0 next_run
-is_issued (cause_is.Stream run) next_run = nat_lt 0 run.0 && nat_lt run.0 next_run
+is_issued (cause_is.Heard run stream bytes) next_run = nat_lt 0 run.0 && nat_lt run.0 next_run
+is_issued (cause_is.PipeEnd run stream) next_run = nat_lt 0 run.0 && nat_lt run.0 next_run
 is_issued cause_is.Link next_run = false
 is_issued cause next_run = true
 

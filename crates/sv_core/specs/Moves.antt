@@ -1,20 +1,25 @@
 -- What becomes of one child in a turn, and which orders that gives (the manual's chapter on subprocesses).
-use Rattle.std.specs.Prelude.{ℕ, [], ◌∷◌, ◌++◌, Option, Some, None, Bool, ◌+◌, codes}
+use Rattle.std.specs.Prelude.{ℕ, List, [], ◌∷◌, ◌++◌, Option, Some, None, Bool, false, is_some, ◌+◌, codes}
 use Rattle.sv_base.specs.declared.ids.Run.{Run}
 use Rattle.sv_base.specs.declared.signal.Signal.{Signal}
 use Rattle.sv_child.specs.ChildTable.{Stimulus}
 use Rattle.sv_child.specs.Moves.{Answer}
 use Rattle.sv_child.specs.declared.child.Child.{Child}
+use Rattle.sv_child.specs.declared.step.Edge.{Edge}
 use Rattle.sv_child.specs.declared.step.Step.{Step}
+use Rattle.sv_children.specs.Crew.{Member, member_at}
 use Rattle.sv_children.specs.News.{moved, said_at, step_of, stimulus_told}
 use Rattle.sv_children.specs.Orders.{kill_at, reports_at}
 use Rattle.sv_children.specs.declared.news.Told.{Told}
 use Rattle.sv_children.specs.declared.news.Told.TheVariants as told
+use Rattle.sv_core.specs.Events.{offers_if}
 use Rattle.sv_core.specs.World.{World}
 use Rattle.sv_core.specs.declared.part.Reply.{Reply}
 use Rattle.sv_core.specs.declared.part.Reply.TheVariants.{Started, NoFile, NotExecutable, Refused, OfFile}
+use Rattle.sv_facts.specs.EdgeFacts.{fact_at, kind_of, pid_at}
 use Rattle.sv_out.specs.declared.order.Order.TheVariants as order
 use Rattle.sv_out.specs.declared.order.SpawnOrder.{SpawnOrder}
+use Rattle.sv_runs.specs.RunBook.{begun}
 
 -- what the table says to the child of a place, at the moment and in the mood of the turn
 abbrev pub says : (Child → Option Stimulus) → ℕ → World → Option Answer
@@ -24,14 +29,34 @@ says stimulus c w = said_at stimulus c w.course.mood w.moment w.children
 abbrev pub changed : ℕ → Option Answer → World → World
 changed c answer w = record w { children = moved c answer w.children }
 
--- the edges that it took are reported
-abbrev pub reported : ℕ → Option Step → World → World
-reported c None w = w
-reported c (Some step) w = record w { given = w.given ++ reports_at w.children c step.edges }
+-- an edge that it took is reported, and then its event offered; the process had this number before
+abbrev pub goes_edge : ℕ → ℕ → Edge → World → World
+goes_edge c pid edge w =
+    let told = record w { given = w.given ++ reports_at w.children c (Some edge ∷ []) } in
+    offers_if (kind_of edge.to) (fact_at w.children c pid edge) told
 
--- the child is past its step, and its edges are reported
+-- if it took one
+abbrev pub goes_edge_if : ℕ → ℕ → Option Edge → World → World
+goes_edge_if c pid None w = w
+goes_edge_if c pid (Some edge) w = goes_edge c pid edge w
+
+-- and so edge by edge
+abbrev pub goes_edges : ℕ → ℕ → List (Option Edge) → World → World
+goes_edges c pid [] w = w
+goes_edges c pid (edge ∷ edges) w = goes_edges c pid edges (goes_edge_if c pid edge w)
+
+-- the edges of the step that it took, if it took one
+abbrev pub reported : ℕ → ℕ → Option Step → World → World
+reported c pid None w = w
+reported c pid (Some step) w = goes_edges c pid step.edges w
+
+-- the child is past its step, and its edges are reported, with their events
 abbrev pub moves : ℕ → Option Answer → World → World
-moves c answer w = reported c (step_of answer) (changed c answer w)
+moves c answer w = reported c (pid_at w.children c) (step_of answer) (changed c answer w)
+
+-- a stimulus comes to the child of a place, if it concerns it
+abbrev pub comes : (Child → Option Stimulus) → ℕ → World → World
+comes stimulus c w = moves c (says stimulus c w) w
 
 -- the run of a child is sent a signal
 abbrev pub kills : ℕ → Signal → Bool → World → World
@@ -49,9 +74,25 @@ told_of NotExecutable = told.NotStarted (codes "command is not executable")
 told_of (Refused text) = told.NotStarted text
 told_of OfFile = told.NotStarted (codes "failed")
 
+-- the process of a place is a listener
+abbrev pub is_listener_of : Option Member → Bool
+is_listener_of None = false
+is_listener_of (Some m) = is_some m.group.pool
+
+-- the number of the process that a spawn started
+abbrev pub started_as : Reply → Option ℕ
+started_as (Started pid) = Some pid
+started_as reply = None
+
+-- its run begins
+abbrev pub begins_as : ℕ → Run → Option ℕ → World → World
+begins_as c run None w = w
+begins_as c run (Some pid) w =
+    record w { runs = begun run c pid (is_listener_of (member_at w.children c)) w.runs }
+
 -- the spawn of a child is answered, after which nothing is to be done
 abbrev pub answered : ℕ → Run → Reply → World → World
-answered c run reply w = moves c (says (stimulus_told run (told_of reply)) c w) w
+answered c run reply w = begins_as c run (started_as reply) (comes (stimulus_told run (told_of reply)) c w)
 
 -- no number is left for a run: the spawn fails by itself
 abbrev pub fails : ℕ → World → World

@@ -1,5 +1,5 @@
--- What an input is to the machine: it begins a turn, it answers a question, or it says that an order failed. What the
--- streams of a run bring is taken and changes nothing yet; links aren't served yet, and files aren't asked for.
+-- What an input is to the machine: it begins a turn, it answers a question, or it says that an order failed. Links aren't
+-- served yet, and files aren't asked for.
 use Rattle.std.specs.Prelude.{Bool, true, false, Option, Some, None}
 use Rattle.sv_core.specs.declared.part.Cause.TheVariants as cause
 use Rattle.sv_core.specs.declared.part.Part.{Part}
@@ -15,8 +15,8 @@ use Rattle.sv_out.specs.declared.input.Input.TheVariants.{Tick, Exit, Out, OutEn
 abbrev pub part_of : Input → Part
 part_of (Tick at) = Begins at cause.Tick
 part_of (Exit at run how) = Begins at (cause.Exit run how)
-part_of (Out at run stream bytes) = Begins at (cause.Stream run)
-part_of (OutEnd at run stream) = Begins at (cause.Stream run)
+part_of (Out at run stream bytes) = Begins at (cause.Heard run stream bytes)
+part_of (OutEnd at run stream) = Begins at (cause.PipeEnd run stream)
 part_of (Open at link side) = Begins at cause.Link
 part_of (Piece at link bytes) = Begins at cause.Link
 part_of (LinkEnd at link) = Begins at cause.Link

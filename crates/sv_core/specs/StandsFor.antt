@@ -24,41 +24,63 @@ use Rattle.sv_core.specs.declared.place.Place.TheVariants.{Stimulus, Pass}
 use Rattle.sv_core.specs.declared.place.Stop.{Stop}
 use Rattle.sv_out.specs.declared.input.Input.{Input}
 use Rattle.sv_out.specs.declared.order.Order.{Order}
+use Rattle.sv_pools.specs.EventPools.{EventPools}
+use Rattle.sv_pools.specs.StandsFor as kept_pools
+use Rattle.sv_runs.specs.RunBook.{RunBook}
+use Rattle.sv_runs.specs.StandsFor as kept_runs
 
--- the world that the machine's fields show, after these older orders
-abbrev pub shown : Machine → List Order → World
-shown x older = record {
+-- the world that the machine's fields show, after these older orders and with these pools and runs
+abbrev pub shown : Machine → List Order → EventPools → RunBook → World
+shown x older pools runs = record {
   config = x.config;
   pid = x.pid;
   children = x.children;
   course = x.course;
   next_run = x.numbers.next_run;
   moment = x.hand.moment;
+  clock = x.clock;
   sizes = x.sizes.items;
+  pools = pools;
+  runs = runs;
   given = older ++ x.hand.given.items;
 }
 
+-- the machine shows this world, after these older orders: of its pools it keeps the events that wait or are held, and of
+-- its runs those that aren't over
+pub record Shows (x : Machine) (older : List Order) (w : World) : Type 0 where
+  pub pools : EventPools
+  pub runs : RunBook
+  pub is : w ≡ shown x older pools runs
+  pub pools_kept : kept_pools.StandsFor x.pools pools
+  pub runs_kept : kept_runs.StandsFor x.runs runs
+
+-- a turn goes on from a world that the machine shows
+pub record At (x : Machine) (older : List Order) (t : Turn) (f : World → Turn) : Type 0 where
+  pub world : World
+  pub shows : Shows x older world
+  pub is : t ≡ f world
+
 -- a step that stopped at a question, or went on
-unfoldable pub stopped : Option Asked → World → (World → Turn) → Turn
-stopped None w k = k w
-stopped (Some asked) w k = asks asked.child asked.run w k
+unfoldable pub stopped : Option Asked → (World → Turn) → World → Turn
+stopped None k w = k w
+stopped (Some asked) k w = asks asked.child asked.run w k
 
 -- what is left of a sweep up to before this place, that stopped at a question, or that is done
-unfoldable pub swept : News → ℕ → Option Stop → World → (World → Turn) → Turn
-swept news to None w k = k w
-swept news to (Some stop) w k =
+unfoldable pub swept : News → ℕ → Option Stop → (World → Turn) → World → Turn
+swept news to None k w = k w
+swept news to (Some stop) k w =
     asks stop.asked.child stop.asked.run w (λ v. sweeps news (to - stop.next) stop.next v k)
 
 -- the same of a sweep that was kept
-unfoldable pub paused : Option Paused → World → (World → Turn) → Turn
-paused None w k = k w
-paused (Some p) w k = swept p.news p.to (Some p.stop) w k
+unfoldable pub paused : Option Paused → (World → Turn) → World → Turn
+paused None k w = k w
+paused (Some p) k w = swept p.news p.to (Some p.stop) k w
 
 -- what is left of the turn
 unfoldable pub rest : Option Place → World → Turn
 rest None w = Done w
-rest (Some (Stimulus p)) w = paused (Some p) w after_stimulus
-rest (Some (Pass p)) w = paused (Some p) w after_pass
+rest (Some (Stimulus p)) w = paused (Some p) after_stimulus w
+rest (Some (Pass p)) w = paused (Some p) after_pass w
 
 -- the question that stands: each step that asks yet asks for spawns
 abbrev pub question_of : Option Place → Option Question
@@ -95,7 +117,7 @@ pub record StandsFor (x : Machine) (m : Model) : Type 0 where
   pub whole : x.broken ≡ false
   pub idle : x.hand.given.items ≡ []
   pub older : List Order
-  pub hand_is : hand m ≡ rest x.hand.place (shown x older)
+  pub hand_at : At x older (hand m) (rest x.hand.place)
   pub names : Names x.numbers m.since m.named older
 
 -- what the machine knows of the order of this number
@@ -131,17 +153,16 @@ pub record Notes (x y : Numbers) (part : Part) (given : List Order) : Type 0 whe
 
 -- the turn in hand goes on from one machine to the next
 abbrev pub GoesOnWith : Machine → Part → Machine → Type 0
-GoesOnWith x part y = (older : List Order)
-    → turn_after x.numbers part (rest x.hand.place (shown x older)) ≡ rest y.hand.place (shown y older)
+GoesOnWith x part y = (older : List Order) (w : World) → Shows x older w
+    → At y older (turn_after x.numbers part (rest x.hand.place w)) (rest y.hand.place)
 
 -- what a machine does with an input, and which orders that gives
 pub record Takes (x : Machine) (input : Input) (given : List Order) (y : Machine) : Type 0 where
   pub whole : y.broken ≡ x.broken
   pub idle : y.hand.given.items ≡ []
   pub notes : Notes x.numbers y.numbers (part_of input) given
-  pub turn : (older : List Order) → x.hand.given.items ≡ []
-      → turn_after x.numbers (part_of input) (rest x.hand.place (shown x older))
-      ≡ rest y.hand.place (shown y (older ++ given))
+  pub turn : (older : List Order) (w : World) → x.hand.given.items ≡ [] → Shows x older w
+      → At y (older ++ given) (turn_after x.numbers (part_of input) (rest x.hand.place w)) (rest y.hand.place)
 
 -- the order of this number can be named now
 abbrev pub can_name : Numbers → ℕ → Bool

@@ -33,11 +33,15 @@ abbrev pub spawns : ℕ → World → (World → Turn) → Turn
 spawns c w k =
     if nat_le w.next_run 4294967295 then spawns_as (spawn_at w.children c w.next_run) c w k else k (fails c w)
 
+-- a signal is sent, or the spawn ordered
+abbrev pub carries_out : ChildDeed → ℕ → World → (World → Turn) → Turn
+carries_out (Kill signal group) c w k = k (kills c signal group w)
+carries_out Spawn c w k = spawns c w k
+
 -- what is to be done for a child after its step
 abbrev pub does : Option ChildDeed → ℕ → World → (World → Turn) → Turn
 does None c w k = k w
-does (Some (Kill signal group)) c w k = k (kills c signal group w)
-does (Some Spawn) c w k = spawns c w k
+does (Some deed) c w k = carries_out deed c w k
 
 -- news come to the child of a place: it takes its step, and what is to be done is done
 abbrev pub meets : News → ℕ → World → (World → Turn) → Turn

@@ -5,24 +5,23 @@ use Rattle.sv_child.specs.Moves.{is_running}
 use Rattle.sv_children.specs.Rewound.{crew_rewound}
 use Rattle.sv_children.specs.Spans.{span_meant}
 use Rattle.sv_children.specs.declared.news.News.TheVariants as news_is
+use Rattle.sv_core.specs.Events.{announces, ticks}
 use Rattle.sv_core.specs.Failure.{failed, refusal}
+use Rattle.sv_core.specs.HandingOut.{hands_out}
+use Rattle.sv_core.specs.Listening.{ends_pipe, exits, hears_on}
 use Rattle.sv_core.specs.Shutdown.{heeds, follows_plan, halts}
 use Rattle.sv_core.specs.Stops.{stops_all}
 use Rattle.sv_core.specs.Sweeps.{Turn, sweeps_all, sweeps_over}
 use Rattle.sv_core.specs.Sweeps.Turn.{Done, Ask}
 use Rattle.sv_core.specs.World.{World}
 use Rattle.sv_core.specs.declared.failure.Failure.{Failure}
-use Rattle.sv_core.specs.declared.failure.Failure.TheVariants.{NeverFails, ChangesNothing, RefusesQuestion}
+use Rattle.sv_core.specs.declared.failure.Failure.TheVariants.{NeverFails, ChangesNothing, LosesStdin, RefusesQuestion}
 use Rattle.sv_core.specs.declared.part.Cause.{Cause}
 use Rattle.sv_core.specs.declared.part.Cause.TheVariants as cause_is
 use Rattle.sv_core.specs.declared.part.Followed.{Followed}
 use Rattle.sv_core.specs.declared.part.Followed.TheVariants as followed
 use Rattle.sv_core.specs.declared.part.Question.{Question}
 use Rattle.sv_core.specs.declared.part.Reply.{Reply}
-
--- step 0, in the first turn the event that the daemon runs: no pool is built yet
-abbrev pub announces : World → World
-announces w = w
 
 -- step 1, the turn's moment has come: all children are rewound to it
 abbrev pub rewinds : ℕ → World → World
@@ -31,17 +30,14 @@ rewinds at w = record w { children = crew_rewound at w.children; moment = at }
 -- step 2, the stimulus: what began the turn is applied. While the daemon ends, the console starts nothing.
 abbrev pub applies : Cause → World → (World → Turn) → Turn
 applies cause_is.Tick w k = k w
-applies (cause_is.Exit run how) w k = sweeps_all (news_is.Exit run how) w k
-applies (cause_is.Stream run) w k = k w
+applies (cause_is.Exit run how) w k = k (exits run how w)
+applies (cause_is.Heard run stream bytes) w k = k (hears_on stream run bytes w)
+applies (cause_is.PipeEnd run stream) w k = k (ends_pipe run stream w)
 applies cause_is.Link w k = k w
 applies (cause_is.Start name) w k =
     if is_running w.course.mood then sweeps_over news_is.Start (span_meant name w.children.roster) w k else k w
 applies (cause_is.Stop name) w k = k (stops_all (span_meant name w.children.roster) w)
 applies (cause_is.Signal signal) w k = k (heeds signal w)
-
--- step 3, the ticks of the clock: no pool is built yet
-abbrev pub ticks : World → World
-ticks w = w
 
 -- step 4, one pass over all children, for which time goes on
 abbrev pub passes : World → (World → Turn) → Turn
@@ -50,10 +46,6 @@ passes w k = sweeps_all news_is.Time w k
 -- step 5, the links: none is built yet
 abbrev pub serves_links : World → World
 serves_links w = w
-
--- step 7, the pools hand out: none is built yet
-abbrev pub hands_out : World → World
-hands_out w = w
 
 -- steps 5 to 8, after the pass: the links, the stop plan, the pools, and the halt
 abbrev pub after_pass : World → Turn
@@ -71,6 +63,7 @@ turn cause at w = applies cause (rewinds at (announces w)) after_stimulus
 abbrev pub failed_at : Failure → World → Question → (World → Reply → Turn) → Turn
 failed_at RefusesQuestion w q k = k w (refusal q)
 failed_at ChangesNothing w q k = Ask (failed ChangesNothing w) q k
+failed_at (LosesStdin run) w q k = Ask (failed (LosesStdin run) w) q k
 failed_at NeverFails w q k = Ask (failed NeverFails w) q k
 
 -- what followed comes to a turn: an answer goes on with it, a failed order changes the world

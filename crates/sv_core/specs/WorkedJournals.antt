@@ -1,6 +1,6 @@
 -- Journals of one program that were worked out by hand, one line for each input, and what the daemon then does.
 -- Moments are in milliseconds; startsecs, startretries, autorestart and stopwaitsecs stand behind `program spec`.
-use Rattle.std.specs.Prelude.{◌≡◌, ℕ, List, [], ◌∷◌, codes, length}
+use Rattle.std.specs.Prelude.{◌≡◌, ℕ, List, [], ◌∷◌, None, true, codes, length}
 use Rattle.sv_base.specs.declared.config.Config.{Config}
 use Rattle.sv_base.specs.declared.config.Host.{Host}
 use Rattle.sv_base.specs.declared.ids.Run.{Run}
@@ -36,11 +36,16 @@ x_of rest startsecs startretries autorestart stopwaitsecs =
 
 -- the configuration of this program alone
 abbrev pub alone : Rest → Spec → Config
-alone rest spec = record rest.config { groups = record rest.group { name = codes "x"; members = spec ∷ [] } ∷ [] }
+alone rest spec =
+    record rest.config { groups = record rest.group { name = codes "x"; members = spec ∷ []; pool = None } ∷ [] }
 
--- what the daemon does for x and these inputs
+-- the daemon starts at moment 0
+abbrev pub host_of : Rest → Host
+host_of rest = record rest.host { start = 0 }
+
+-- what it does for x and these inputs
 abbrev pub done : Rest → Spec → List Input → List Order
-done rest spec inputs = deeds (opening (alone rest spec) rest.sizes rest.host) inputs
+done rest spec inputs = deeds (opening (alone rest spec) rest.sizes (host_of rest)) inputs
 
 -- the run of this number
 abbrev pub run : ℕ → Run
@@ -146,8 +151,10 @@ abbrev pub GroupsStopOneByOne : Rest → Type 0
 GroupsStopOneByOne rest =
     let a = lone rest (codes "a") in
     let b = lone rest (codes "b") in
-    let groups = record rest.group { name = codes "a"; members = a ∷ [] } ∷ record rest.group { name = codes "b"; members = b ∷ [] } ∷ [] in
-    deeds (opening (record rest.config { groups = groups }) rest.sizes rest.host)
+    let plain = record rest.group { pool = None } in
+    let groups =
+    record plain { name = codes "a"; members = a ∷ [] } ∷ record plain { name = codes "b"; members = b ∷ [] } ∷ [] in
+    deeds (opening (record rest.config { groups = groups }) rest.sizes (host_of rest))
     (Tick 0 ∷ Pid 1 ∷ Pid 2
     ∷ Tick 1000
     ∷ Told 5000 signal_is.Term
@@ -162,7 +169,7 @@ GroupsStopOneByOne rest =
 -- the world in which the daemon begins, but that so many runs were numbered already
 abbrev pub numbered : Rest → Spec → ℕ → Model
 numbered rest spec next_run =
-    let w = (opening (alone rest spec) rest.sizes rest.host).base in resting (record w { next_run = next_run })
+    let w = (opening (alone rest spec) rest.sizes (host_of rest)).base in resting (record w { next_run = next_run })
 
 -- all numbers of runs but the last are taken: the last spawn gets it, and each further one fails by itself
 abbrev pub NoRunNumberLeft : Rest → Type 0
@@ -176,10 +183,11 @@ NoRunNumberLeft rest =
     ∷ took Backoff Starting ∷ took Starting Backoff
     ∷ took Backoff Starting ∷ took Starting Backoff ∷ []
 
--- the world in which the daemon begins, but that these orders were given already
+-- the world in which the daemon begins, but that it said that it runs, and these orders were given already
 abbrev pub ordered : Rest → Spec → List Order → Model
 ordered rest spec older =
-    let w = (opening (alone rest spec) rest.sizes rest.host).base in resting (record w { given = older })
+    let w = (opening (alone rest spec) rest.sizes (host_of rest)).base in
+    resting (record w { given = older; course = record w.course { announced = true } })
 
 -- one number of orders is left before they begin again: the report has the number 18446744073709551615 and can't fail, and
 -- the spawn behind it has the number 0; the number 1 isn't given yet

@@ -4,10 +4,13 @@ use Rattle.sv_base.specs.declared.config.Config.{Config}
 use Rattle.sv_children.specs.Crew.{Crew}
 use Rattle.sv_core.specs.declared.course.Course.{Course}
 use Rattle.sv_out.specs.declared.order.Order.{Order}
+use Rattle.sv_pools.specs.EventPools.{EventPools}
+use Rattle.sv_runs.specs.RunBook.{RunBook}
 
 -- the configuration, and the daemon's process number; the groups with their children, both in start order; what the
--- daemon is about; the number that the next run gets; the moment of the turn; the known sizes of the log files, by their
--- names; and all orders that were given since the beginning
+-- daemon is about; the number that the next run gets; the moment of the turn, and that at which the clock's ticks were
+-- last looked at; the known sizes of the log files, by their names; the event pools; the runs of the processes; and all
+-- orders that were given since the beginning
 pub record World : Type 0 where
   pub config : Config
   pub pid : ℕ
@@ -15,5 +18,8 @@ pub record World : Type 0 where
   pub course : Course
   pub next_run : ℕ
   pub moment : ℕ
+  pub clock : ℕ
   pub sizes : List (List ℕ × ℕ)
+  pub pools : EventPools
+  pub runs : RunBook
   pub given : List Order

@@ -2,6 +2,7 @@
 ghost use Rattle.std.specs.Prelude.{◌≡◌};
 ghost use Rattle.sv_core.specs.Failure.{failure_of, can_fail};
 
+use sv_base::ids::Run;
 use sv_out::order::Order;
 
 /// What it means that an order couldn't be carried out.
@@ -11,6 +12,8 @@ pub enum Failure {
     NeverFails,
     /// A signal that didn't get through.
     ChangesNothing,
+    /// A write to a run: its stdin is closed.
+    LosesStdin(Run),
     /// A question: it is answered by a refusal.
     RefusesQuestion,
 }
@@ -24,6 +27,7 @@ pub(crate) fn failure_of(order: &Order) -> Failure
         Order::Spawn(_) | Order::ReadFile { .. } | Order::ClearFile { .. } => {
             Failure::RefusesQuestion
         }
+        Order::Stdin { run, .. } => Failure::LosesStdin(*run),
         _ => Failure::ChangesNothing,
     }
 }
@@ -33,7 +37,7 @@ pub(crate) fn can_fail(failure: Option<Failure>) -> bool
     ensures { result ≡ can_fail failure }
 {
     match failure {
-        Some(Failure::ChangesNothing) | Some(Failure::RefusesQuestion) => true,
         Some(Failure::NeverFails) | None => false,
+        Some(_) => true,
     }
 }

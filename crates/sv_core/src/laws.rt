@@ -1,7 +1,8 @@
 //! Laws over all lists of inputs, and journals that were worked out by hand.
-ghost use Rattle.std.specs.Prelude.{◌≡◌, List, ℕ};
+ghost use Rattle.std.specs.Prelude.{◌≡◌, ◌≤◌, List, ℕ, IfSome};
 ghost use Rattle.sv_base.specs.declared.config.Config.{Config};
 ghost use Rattle.sv_base.specs.declared.config.Host.{Host};
+ghost use Rattle.sv_core.specs.Account.{HoldSome, PoolsAreAccountedFor, PoolsHaveAHistory};
 ghost use Rattle.sv_core.specs.Deeds.{after, deeds};
 ghost use Rattle.sv_core.specs.MachineState.{now, opening};
 ghost use Rattle.sv_core.specs.Path.{ChildrenWalk};
@@ -9,6 +10,7 @@ ghost use Rattle.sv_core.specs.WorkedJournals.{ClockGoesBack, GroupsStopOneByOne
 ghost use Rattle.sv_out.specs.declared.input.Input.{Input};
 
 use sv_base::config::Config;
+use sv_base::spec::{GroupSpec, PoolSpec};
 
 /// Whatever the machine is told, what it reports of each child of the configuration is a path through the diagram of
 /// states: the first edge leads from STOPPED, each further one from where the one before ended, the last to where the
@@ -19,6 +21,43 @@ pub fn reports_are_a_path(config: &Config)
         (deeds (opening config.now sizes host) inputs) }
 {
     let _groups = config.groups.as_slice();
+}
+
+/// Whatever the machine is told, no event pool of the configuration loses an event: as long as a pool took fewer than
+/// 2^64 of them, each waits, is held by one of its listeners, was acknowledged, dropped or given up, and stands there once.
+/// What it dropped is what the deeds report of it, in order, by the name of its group, which no other pool shares. Each
+/// event that a listener got is the one that waited first, and is written to its run in its envelope; nothing else is.
+pub fn each_event_is_accounted_for(config: &Config)
+    ensures places { (sizes : List (List ℕ × ℕ)) (host : Host) (inputs : List Input) →
+        PoolsAreAccountedFor config.now (after (opening config.now sizes host) inputs)
+        (deeds (opening config.now sizes host) inputs) }
+    ensures history { (sizes : List (List ℕ × ℕ)) (host : Host) (inputs : List Input) →
+        PoolsHaveAHistory config.now (after (opening config.now sizes host) inputs)
+        (deeds (opening config.now sizes host) inputs) }
+{
+    have_room(config.groups.as_slice());
+}
+
+/// The pool of each of these groups has room for an event.
+fn have_room(groups: &[GroupSpec])
+    ensures { HoldSome groups.now }
+{
+    match groups {
+        [] => {}
+        [group, rest @ ..] => {
+            has_room(&group.pool);
+            have_room(rest);
+        }
+    }
+}
+
+/// A pool has room for an event.
+fn has_room(pool: &Option<PoolSpec>)
+    ensures { IfSome pool.now (λ pool. 1 ≤ pool.buffer) }
+{
+    if let Some(pool) = pool {
+        let _room = pool.buffer.get();
+    }
 }
 
 /// The orders are only ever added to: the deeds of the inputs are all that was given in the end.

@@ -4,9 +4,12 @@
 #![tactic(auto)]
 
 mod course;
+mod events;
 mod failure;
 mod hand;
+mod handing_out;
 pub mod laws;
+mod listening;
 pub mod machine;
 mod numbers;
 mod part;

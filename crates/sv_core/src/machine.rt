@@ -13,12 +13,17 @@ use sv_base::ids::Run;
 use sv_base::state::Mood;
 use sv_base::text::Text;
 use sv_children::Children;
+use sv_events::Ticks;
 use sv_out::input::Input;
 use sv_out::order::Order;
+use sv_pools::Pools;
+use sv_runs::Runs;
 
 /// The daemon's machine.
-#[derive(Debug, Drop)]
+#[derive(Drop)]
 pub struct Machine {
+    /// Where it takes its memory.
+    pub(crate) alloc: Global,
     /// The configuration.
     pub(crate) config: Config,
     /// The daemon's own process number.
@@ -29,6 +34,12 @@ pub struct Machine {
     pub(crate) course: Course,
     /// The numbers that are given out.
     pub(crate) numbers: Numbers,
+    /// The clock of the ticks.
+    pub(crate) clock: Ticks,
+    /// The event pools.
+    pub(crate) pools: Pools,
+    /// The runs of the processes.
+    pub(crate) runs: Runs,
     /// The known size of each log file, in bytes.
     pub(crate) sizes: Vec<(Text, u64)>,
     /// The turn in hand.
@@ -55,13 +66,17 @@ impl Machine {
         ensures { IfOk result (λ x. StandsFor x (opening config sizes.items host.now)) }
     {
         let children = Children::new(alloc, &config)?;
+        let pools = Pools::new(alloc, children.roster())?;
+        let runs = Runs::new(alloc, children.len())?;
         let course = Course {
             mood: Mood::Running,
+            announced: false,
             left: children.roster().groups().len(),
             is_told: false,
             halted: false,
         };
         Ok(Machine {
+            alloc,
             config,
             pid: host.pid,
             children,
@@ -72,6 +87,9 @@ impl Machine {
                 failures: Vec::new(alloc),
                 last: None,
             },
+            clock: Ticks::new(host.start),
+            pools,
+            runs,
             sizes,
             hand: Hand {
                 moment: host.start,

@@ -1,14 +1,15 @@
 //! What an input is to the machine.
 ghost use Rattle.std.specs.Prelude.{◌≡◌};
-ghost use Rattle.sv_core.specs.Moves.{told_of};
+ghost use Rattle.sv_core.specs.Moves.{started_as, told_of};
 ghost use Rattle.sv_core.specs.Parts.{part_of};
 
 use crate::failure::Failure;
+use sv_base::bytes::Piece;
 use sv_base::ids::Run;
 use sv_base::moment::Moment;
 use sv_base::number::Pid;
 use sv_base::signal::DaemonSignal;
-use sv_base::state::How;
+use sv_base::state::{How, Stream};
 use sv_base::text::Text;
 use sv_children::Told;
 use sv_out::input::Input;
@@ -48,6 +49,16 @@ pub(crate) fn told_of(reply: Reply) -> Told
     }
 }
 
+/// The number of the process that a spawn started.
+pub(crate) fn started_as(reply: &Reply) -> Option<u32>
+    ensures { result ≡ started_as reply.now }
+{
+    match reply {
+        Reply::Started(pid) => Some(pid.get()),
+        _ => None,
+    }
+}
+
 /// What followed the input that began a turn.
 #[derive(Debug, Drop)]
 pub enum Followed {
@@ -64,8 +75,10 @@ pub enum Cause {
     Tick,
     /// The process of a run ended.
     Exit(Run, How),
-    /// A stream of a run brought a piece, or ended.
-    Stream(Run),
+    /// A stream of a run brought a piece.
+    Heard(Run, Stream, Piece),
+    /// A stream of a run ended.
+    PipeEnd(Run, Stream),
     /// A link was opened, brought a piece, or ended. None is served yet.
     Link,
     /// The console asks for starts.
@@ -94,9 +107,13 @@ pub(crate) fn part_of(input: Input) -> Part
     match input {
         Input::Tick { at } => Part::Begins(at, Cause::Tick),
         Input::Exit { at, run, how } => Part::Begins(at, Cause::Exit(run, how)),
-        Input::Out { at, run, .. } | Input::OutEnd { at, run, .. } => {
-            Part::Begins(at, Cause::Stream(run))
-        }
+        Input::Out {
+            at,
+            run,
+            stream,
+            bytes,
+        } => Part::Begins(at, Cause::Heard(run, stream, bytes)),
+        Input::OutEnd { at, run, stream } => Part::Begins(at, Cause::PipeEnd(run, stream)),
         Input::Open { at, .. } | Input::Piece { at, .. } | Input::LinkEnd { at, .. } => {
             Part::Begins(at, Cause::Link)
         }

@@ -10,6 +10,7 @@ ghost use Rattle.sv_groups.specs.StartOrder.{span_of};
 
 use crate::machine::Machine;
 use std::alloc::AllocError;
+use sv_base::kind::Kind;
 use sv_base::signal::{DaemonSignal, Signal};
 use sv_base::state::Mood;
 use sv_child::step::ChildDeed;
@@ -61,14 +62,16 @@ impl Machine {
         Ok(())
     }
 
-    /// A signal came: the first that ends the daemon begins its shutdown.
-    pub(crate) fn heed(&mut self, signal: &DaemonSignal)
-        ensures kept { self.new ≡ record self.old { course = self.new.course } }
-        ensures heeds { Makes (heeds signal.now) self.old self.new }
+    /// A signal came: the first that ends the daemon begins its shutdown, and the daemon says that it is about to stop.
+    pub(crate) fn heed(&mut self, signal: &DaemonSignal) -> Result<(), AllocError>
+        ensures kept { ChangesCourse self.old self.new }
+        ensures heeds { OnOk result (Makes (heeds signal.now) self.old self.new) }
     {
         if is_ending(signal.get()) && self.course.mood == Mood::Running {
             self.course.mood = Mood::Shutdown;
+            self.offer_change(Kind::SupervisorStateChangeStopping)?;
         }
+        Ok(())
     }
 
     /// Whether the group of this place is at rest; what isn't there is.

@@ -1,11 +1,8 @@
 //! Step 2 of a turn.
-ghost use Rattle.std.specs.Prelude.{◌≡◌, List, IfOk};
-ghost use Rattle.sv_core.specs.Frames.{MovesOn};
-ghost use Rattle.sv_core.specs.StandsFor.{paused, shown};
-ghost use Rattle.sv_core.specs.Sweeps.{Turn};
+ghost use Rattle.std.specs.Prelude.{◌≡◌, IfOk};
+ghost use Rattle.sv_core.specs.Frames.{MovesOn, Stops};
+ghost use Rattle.sv_core.specs.StandsFor.{paused};
 ghost use Rattle.sv_core.specs.Turn.{applies};
-ghost use Rattle.sv_core.specs.World.{World};
-ghost use Rattle.sv_out.specs.declared.order.Order.{Order};
 
 use crate::machine::Machine;
 use crate::part::Cause;
@@ -20,14 +17,22 @@ impl Machine {
     #[tactic(auto, unfolding(crate::specs::StandsFor::paused))]
     pub(crate) fn apply(&mut self, cause: Cause) -> Result<Option<Paused>, AllocError>
         ensures kept { MovesOn self.old self.new }
-        ensures applies { IfOk result (λ left. (older : List Order) (k : World → Turn) →
-            applies cause (shown self.old older) k ≡ paused left (shown self.new older) k) }
+        ensures applies { IfOk result (λ left.
+            Stops (applies cause) (paused left) self.old self.new) }
     {
         match cause {
-            Cause::Tick | Cause::Stream(_) | Cause::Link => Ok(None),
+            Cause::Tick | Cause::Link => Ok(None),
             Cause::Exit(run, how) => {
-                let all = self.children.len();
-                self.sweep_over(News::Exit(run, how), 0, all)
+                self.exit(run, how)?;
+                Ok(None)
+            }
+            Cause::Heard(run, stream, piece) => {
+                self.hear_on(stream, run, &piece)?;
+                Ok(None)
+            }
+            Cause::PipeEnd(run, stream) => {
+                self.end_pipe(run, stream);
+                Ok(None)
             }
             Cause::Start(name) if self.course.mood == Mood::Running => {
                 let span = self.children.meant(&name);
@@ -40,7 +45,7 @@ impl Machine {
                 Ok(None)
             }
             Cause::Signal(signal) => {
-                self.heed(&signal);
+                self.heed(&signal)?;
                 Ok(None)
             }
         }

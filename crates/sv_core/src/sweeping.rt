@@ -1,40 +1,46 @@
 //! News on their way over children, up to a question.
 ghost use Rattle.std.specs.Prelude.{◌≡◌, ◌-◌, List, IfOk, OnOk};
-ghost use Rattle.sv_children.specs.News.{deed_of, step_of, stimulus_of};
-ghost use Rattle.sv_core.specs.Frames.{GivesOrders, Makes, MovesChildren, StartsRuns};
-ghost use Rattle.sv_core.specs.Moves.{answered, kills, moves, reported, says};
-ghost use Rattle.sv_core.specs.StandsFor.{paused, shown, stopped, swept};
-ghost use Rattle.sv_core.specs.Sweeps.{Turn, spawns, does, meets, sweeps};
+ghost use Rattle.sv_children.specs.Crew.{member_at};
+ghost use Rattle.sv_children.specs.News.{deed_of, step_of, stimulus_of, stimulus_told};
+ghost use Rattle.sv_core.specs.Frames.{GivesOrders, Makes, MovesChildren, StartsRuns, Stops};
+ghost use Rattle.sv_core.specs.Moves.{answered, begins_as, comes, is_listener_of, kills, reported, says};
+ghost use Rattle.sv_core.specs.StandsFor.{Shows, paused, stopped, swept};
+ghost use Rattle.sv_core.specs.Sweeps.{carries_out, spawns, does, meets, sweeps};
 ghost use Rattle.sv_core.specs.World.{World};
 ghost use Rattle.sv_out.specs.declared.order.Order.{Order};
 
 use crate::machine::Machine;
-use crate::part::{Reply, told_of};
+use crate::part::{Reply, started_as, told_of};
 use crate::place::{Asked, Paused, Stop};
 use std::alloc::AllocError;
 use sv_base::ids::Run;
 use sv_base::signal::Signal;
 use sv_base::text::Text;
 use sv_child::step::{ChildDeed, Step};
-use sv_children::News;
+use sv_children::{News, Told};
+use sv_facts::pid_at;
 use sv_out::order::Order;
 
 /// The last number of a run.
 const LAST_RUN: u64 = 4_294_967_295;
 
 impl Machine {
-    /// Reports the edges that a child took, if it took a step, and answers what is to be done for it.
-    #[tactic(auto, using(crate::proofs::Moved::reported_there))]
-    fn report(&mut self, child: usize, step: Option<Step>) -> Result<Option<ChildDeed>, AllocError>
+    /// Reports the edges that a child took, if it took a step, with their events, and answers what is to be done for it.
+    /// Its process had this number before.
+    fn report(
+        &mut self,
+        child: usize,
+        pid: u32,
+        step: Option<Step>,
+    ) -> Result<Option<ChildDeed>, AllocError>
         ensures kept { GivesOrders self.old self.new }
-        ensures reports { OnOk result (Makes (reported child step) self.old self.new) }
+        ensures reports { OnOk result (Makes (reported child pid step) self.old self.new) }
         ensures deed { IfOk result (λ deed. deed ≡ deed_of step) }
     {
         match step {
             None => Ok(None),
             Some(step) => {
-                self.children
-                    .report(child, &step.edges, &mut self.hand.given)?;
+                self.go_edges(child, pid, &step.edges)?;
                 Ok(step.deed)
             }
         }
@@ -47,33 +53,73 @@ impl Machine {
         child: usize,
     ) -> Result<Option<ChildDeed>, AllocError>
         ensures kept { MovesChildren self.old self.new }
-        ensures moves { OnOk result ((older : List Order) → let w = shown self.old older in
-            shown self.new older ≡ moves child (says (stimulus_of news.now) child w) w) }
-        ensures deed { IfOk result (λ deed. (older : List Order) → let w = shown self.old older in
-            deed ≡ deed_of (step_of (says (stimulus_of news.now) child w))) }
+        ensures moves { OnOk result
+            (Makes (comes (stimulus_of news.now) child) self.old self.new) }
+        ensures deed { IfOk result (λ deed. (older : List Order) (w : World) → Shows self.old older w
+            → deed ≡ deed_of (step_of (says (stimulus_of news.now) child w))) }
     {
+        let pid = pid_at(&self.children, child);
         let step = self
             .children
             .bring(child, news, self.course.mood, self.hand.moment);
-        let deed = self.report(child, step)?;
+        let deed = self.report(child, pid, step)?;
         Ok(deed)
     }
 
     /// The spawn of a child is answered.
     pub(crate) fn answer(&mut self, asked: Asked, reply: Reply) -> Result<(), AllocError>
-        ensures kept { MovesChildren self.old self.new }
+        ensures kept { StartsRuns self.old self.new }
         ensures answered { OnOk result
             (Makes (answered asked.child asked.run reply) self.old self.new) }
     {
-        let step = self
-            .children
-            .answer(asked.child, asked.run, told_of(reply), self.hand.moment);
-        self.report(asked.child, step)?;
+        let started = started_as(&reply);
+        self.tell_child(asked, told_of(reply))?;
+        self.begin_run(asked, started)?;
         Ok(())
     }
 
+    /// A child is told of its spawn.
+    fn tell_child(&mut self, asked: Asked, told: Told) -> Result<(), AllocError>
+        ensures kept { MovesChildren self.old self.new }
+        ensures told { OnOk result
+            (Makes (comes (stimulus_told asked.run told) asked.child) self.old self.new) }
+    {
+        let pid = pid_at(&self.children, asked.child);
+        let step = self
+            .children
+            .answer(asked.child, asked.run, told, self.hand.moment);
+        self.report(asked.child, pid, step)?;
+        Ok(())
+    }
+
+    /// Whether the process of a place is a listener.
+    fn is_listener(&self, child: usize) -> bool
+        ensures { result ≡ is_listener_of (member_at self.now.children child) }
+    {
+        match self.children.member(child) {
+            None => false,
+            Some(member) => member.group.pool.is_some(),
+        }
+    }
+
+    /// The run of a process begins, where the number of its process was told.
+    fn begin_run(&mut self, asked: Asked, started: Option<u32>) -> Result<(), AllocError>
+        ensures kept { self.new ≡ record self.old { runs = self.new.runs } }
+        ensures begins { OnOk result
+            (Makes (begins_as asked.child asked.run started) self.old self.new) }
+    {
+        match started {
+            None => Ok(()),
+            Some(pid) => {
+                let is_listener = self.is_listener(asked.child);
+                self.runs
+                    .begin(self.alloc, asked.run, asked.child, pid, is_listener)?;
+                Ok(())
+            }
+        }
+    }
+
     /// The run of a child is sent a signal.
-    #[tactic(auto, using(crate::proofs::Moved::killed_there))]
     pub(crate) fn kill(
         &mut self,
         child: usize,
@@ -89,11 +135,10 @@ impl Machine {
     }
 
     /// Orders the spawn of a child, which is a question; where no number is left for a run, the spawn fails.
-    #[tactic(auto, unfolding(crate::specs::StandsFor::stopped))]
     fn spawn(&mut self, child: usize) -> Result<Option<Asked>, AllocError>
         ensures kept { StartsRuns self.old self.new }
-        ensures spawns { IfOk result (λ asked. (older : List Order) (k : World → Turn) →
-            spawns child (shown self.old older) k ≡ stopped asked (shown self.new older) k) }
+        ensures spawns { IfOk result (λ asked.
+            Stops (spawns child) (stopped asked) self.old self.new) }
     {
         if self.numbers.next_run > LAST_RUN {
             let nobody = Asked { child, run: Run(0) };
@@ -112,27 +157,43 @@ impl Machine {
     }
 
     /// Does what is to be done for a child after its step.
-    #[tactic(auto, unfolding(crate::specs::StandsFor::stopped))]
     fn act(&mut self, child: usize, deed: Option<ChildDeed>) -> Result<Option<Asked>, AllocError>
         ensures kept { StartsRuns self.old self.new }
-        ensures does { IfOk result (λ asked. (older : List Order) (k : World → Turn) →
-            does deed child (shown self.old older) k ≡ stopped asked (shown self.new older) k) }
+        ensures does { IfOk result (λ asked.
+            Stops (does deed child) (stopped asked) self.old self.new) }
     {
         match deed {
             None => Ok(None),
-            Some(ChildDeed::Kill(signal, group)) => {
+            Some(deed) => {
+                let asked = self.carry_out(child, deed)?;
+                Ok(asked)
+            }
+        }
+    }
+
+    /// A signal is sent, or the spawn is ordered.
+    fn carry_out(&mut self, child: usize, deed: ChildDeed) -> Result<Option<Asked>, AllocError>
+        ensures kept { StartsRuns self.old self.new }
+        ensures does { IfOk result (λ asked.
+            Stops (carries_out deed child) (stopped asked) self.old self.new) }
+    {
+        match deed {
+            ChildDeed::Kill(signal, group) => {
                 self.kill(child, signal, group)?;
                 Ok(None)
             }
-            Some(ChildDeed::Spawn) => self.spawn(child),
+            ChildDeed::Spawn => {
+                let asked = self.spawn(child)?;
+                Ok(asked)
+            }
         }
     }
 
     /// News come to the child of a place, and what is then to be done for it is done.
     fn meet(&mut self, news: &News, child: usize) -> Result<Option<Asked>, AllocError>
         ensures kept { StartsRuns self.old self.new }
-        ensures meets { IfOk result (λ asked. (older : List Order) (k : World → Turn) →
-            meets news.now child (shown self.old older) k ≡ stopped asked (shown self.new older) k) }
+        ensures meets { IfOk result (λ asked.
+            Stops (meets news.now child) (stopped asked) self.old self.new) }
     {
         let deed = self.bring(news, child)?;
         let asked = self.act(child, deed)?;
@@ -142,9 +203,8 @@ impl Machine {
     /// News go over the places from the one to before the other, up to a question.
     fn sweep(&mut self, news: &News, from: usize, to: usize) -> Result<Option<Stop>, AllocError>
         ensures kept { StartsRuns self.old self.new }
-        ensures sweeps { IfOk result (λ stop. (older : List Order) (k : World → Turn) →
-            sweeps news.now (to - from) from (shown self.old older) k
-            ≡ swept news.now to stop (shown self.new older) k) }
+        ensures sweeps { IfOk result (λ stop.
+            Stops (sweeps news.now (to - from) from) (swept news.now to stop) self.old self.new) }
     {
         for place in from..to {
             match self.meet(news, place)? {
@@ -159,7 +219,6 @@ impl Machine {
     }
 
     /// News go over these places; where a question stops them, what is left of their way.
-    #[tactic(auto, unfolding(crate::specs::StandsFor::swept, crate::specs::StandsFor::paused))]
     pub(crate) fn sweep_over(
         &mut self,
         news: News,
@@ -167,9 +226,8 @@ impl Machine {
         to: usize,
     ) -> Result<Option<Paused>, AllocError>
         ensures kept { StartsRuns self.old self.new }
-        ensures sweeps { IfOk result (λ left. (older : List Order) (k : World → Turn) →
-            sweeps news (to - from) from (shown self.old older) k
-            ≡ paused left (shown self.new older) k) }
+        ensures sweeps { IfOk result (λ left.
+            Stops (sweeps news (to - from) from) (paused left) self.old self.new) }
     {
         match self.sweep(&news, from, to)? {
             Some(stop) => Ok(Some(Paused { news, to, stop })),

@@ -1,10 +1,11 @@
 //! A turn: its nine steps in order, up to a question, and what followed its input.
 ghost use Rattle.std.specs.Prelude.{◌≡◌, ◌-◌, List, OnOk, Some};
 ghost use Rattle.sv_core.specs.Frames.{GoesOn, Makes};
-ghost use Rattle.sv_core.specs.StandsFor.{shown, rest};
-ghost use Rattle.sv_core.specs.Turn.{announces, turn, ticks, serves_links, hands_out, come, after_pass, after_stimulus, rewinds, world_of};
+ghost use Rattle.sv_core.specs.StandsFor.{At, Shows, rest};
+ghost use Rattle.sv_core.specs.Turn.{turn, serves_links, come, after_pass, after_stimulus, rewinds, world_of};
 ghost use Rattle.sv_core.specs.Sweeps.{sweeps};
 ghost use Rattle.sv_core.specs.Moves.{answered};
+ghost use Rattle.sv_core.specs.World.{World};
 ghost use Rattle.sv_out.specs.declared.order.Order.{Order};
 
 use crate::failure::Failure;
@@ -18,14 +19,13 @@ use sv_children::News;
 
 impl Machine {
     /// A turn begins: steps 0 to 2, up to a question, and then the others.
-    #[tactic(auto, unfolding(crate::specs::StandsFor::paused, crate::specs::StandsFor::rest))]
     pub(crate) fn begin(&mut self, at: Moment, cause: Cause) -> Result<(), AllocError>
         ensures kept { GoesOn self.old self.new }
-        ensures turn { OnOk result ((older : List Order) →
-            turn cause at (world_of (rest self.old.hand.place (shown self.old older)))
-            ≡ rest self.new.hand.place (shown self.new older)) }
+        ensures turn { OnOk result ((older : List Order) (w : World) → Shows self.old older w
+            → At self.new older (turn cause at (world_of (rest self.old.hand.place w)))
+            (rest self.new.hand.place)) }
     {
-        self.announce();
+        self.announce()?;
         self.rewind(at);
         match self.apply(cause)? {
             Some(paused) => {
@@ -40,33 +40,34 @@ impl Machine {
     }
 
     /// Steps 3 and 4, up to a question, and then the others.
-    #[tactic(auto, unfolding(crate::specs::StandsFor::paused, crate::specs::StandsFor::rest))]
     pub(crate) fn after_stimulus(&mut self) -> Result<(), AllocError>
         ensures kept { GoesOn self.old self.new }
-        ensures rest { OnOk result ((older : List Order) →
-            after_stimulus (shown self.old older) ≡ rest self.new.hand.place (shown self.new older)) }
+        ensures rest { OnOk result ((older : List Order) (w : World) → Shows self.old older w
+            → At self.new older (after_stimulus w) (rest self.new.hand.place)) }
     {
-        self.tick();
+        self.tick()?;
         let all = self.children.len();
         match self.sweep_over(News::Time, 0, all)? {
             Some(paused) => {
                 self.hand.place = Some(Place::Pass(paused));
                 Ok(())
             }
-            None => self.after_pass(),
+            None => {
+                self.after_pass()?;
+                Ok(())
+            }
         }
     }
 
     /// Steps 5 to 8: the links, the stop plan, the pools, and the halt.
-    #[tactic(auto, unfolding(crate::specs::StandsFor::rest))]
     pub(crate) fn after_pass(&mut self) -> Result<(), AllocError>
         ensures kept { GoesOn self.old self.new }
-        ensures rest { OnOk result ((older : List Order) →
-            after_pass (shown self.old older) ≡ rest self.new.hand.place (shown self.new older)) }
+        ensures rest { OnOk result ((older : List Order) (w : World) → Shows self.old older w
+            → At self.new older (after_pass w) (rest self.new.hand.place)) }
     {
         self.serve_links();
         self.follow_plan()?;
-        self.hand_out();
+        self.hand_out()?;
         self.halt()?;
         self.hand.place = None;
         Ok(())
@@ -75,25 +76,48 @@ impl Machine {
     /// Something followed the input of the turn in hand.
     pub(crate) fn follow(&mut self, followed: Followed) -> Result<(), AllocError>
         ensures kept { GoesOn self.old self.new }
-        ensures turn { OnOk result ((older : List Order) →
-            come (rest self.old.hand.place (shown self.old older)) followed
-            ≡ rest self.new.hand.place (shown self.new older)) }
+        ensures turn { OnOk result ((older : List Order) (w : World) → Shows self.old older w
+            → At self.new older (come (rest self.old.hand.place w) followed)
+            (rest self.new.hand.place)) }
     {
         match followed {
-            Followed::Answered(reply) => self.go_on_with(reply),
-            Followed::Failed(Failure::RefusesQuestion) => {
-                self.go_on_with(Reply::Refused(Text::fixed("failed")))
+            Followed::Answered(reply) => {
+                self.go_on_with(reply)?;
+                Ok(())
             }
-            Followed::Failed(Failure::ChangesNothing | Failure::NeverFails) => Ok(()),
+            Followed::Failed(failure) => {
+                self.suffer(failure)?;
+                Ok(())
+            }
+        }
+    }
+
+    /// An order couldn't be carried out.
+    fn suffer(&mut self, failure: Failure) -> Result<(), AllocError>
+        ensures kept { GoesOn self.old self.new }
+        ensures turn { OnOk result ((older : List Order) (w : World) → Shows self.old older w
+            → At self.new older (come (rest self.old.hand.place w) (Followed.Failed failure))
+            (rest self.new.hand.place)) }
+    {
+        match failure {
+            Failure::RefusesQuestion => {
+                self.go_on_with(Reply::Refused(Text::fixed("failed")))?;
+                Ok(())
+            }
+            Failure::LosesStdin(run) => {
+                self.lose_stdin(run)?;
+                Ok(())
+            }
+            Failure::ChangesNothing | Failure::NeverFails => Ok(()),
         }
     }
 
     /// The turn in hand goes on with the answer of its question, if one stands.
     fn go_on_with(&mut self, reply: Reply) -> Result<(), AllocError>
         ensures kept { GoesOn self.old self.new }
-        ensures turn { OnOk result ((older : List Order) →
-            come (rest self.old.hand.place (shown self.old older)) (Followed.Answered reply)
-            ≡ rest self.new.hand.place (shown self.new older)) }
+        ensures turn { OnOk result ((older : List Order) (w : World) → Shows self.old older w
+            → At self.new older (come (rest self.old.hand.place w) (Followed.Answered reply))
+            (rest self.new.hand.place)) }
     {
         match self.hand.place.take() {
             None => Ok(()),
@@ -107,9 +131,9 @@ impl Machine {
     /// The turn goes on from where it was left, with the answer of its question.
     fn go_on_from(&mut self, place: Place, reply: Reply) -> Result<(), AllocError>
         ensures kept { GoesOn self.old self.new }
-        ensures turn { OnOk result ((older : List Order) →
-            come (rest (Some place) (shown self.old older)) (Followed.Answered reply)
-            ≡ rest self.new.hand.place (shown self.new older)) }
+        ensures turn { OnOk result ((older : List Order) (w : World) → Shows self.old older w
+            → At self.new older (come (rest (Some place) w) (Followed.Answered reply))
+            (rest self.new.hand.place)) }
     {
         match place {
             Place::Stimulus(paused) => {
@@ -124,14 +148,12 @@ impl Machine {
     }
 
     /// Step 2 goes on with the answer of its question, and then the others.
-    #[tactic(auto, unfolding(crate::specs::StandsFor::paused, crate::specs::StandsFor::rest))]
     fn go_on_in_stimulus(&mut self, paused: Paused, reply: Reply) -> Result<(), AllocError>
         ensures kept { GoesOn self.old self.new }
-        ensures turn { OnOk result ((older : List Order) →
-            let asked = paused.stop.asked in
-            sweeps paused.news (paused.to - paused.stop.next) paused.stop.next
-            (answered asked.child asked.run reply (shown self.old older)) after_stimulus
-            ≡ rest self.new.hand.place (shown self.new older)) }
+        ensures turn { OnOk result ((older : List Order) (w : World) → Shows self.old older w
+            → let asked = paused.stop.asked in
+            At self.new older (sweeps paused.news (paused.to - paused.stop.next) paused.stop.next
+            (answered asked.child asked.run reply w) after_stimulus) (rest self.new.hand.place)) }
     {
         self.answer(paused.stop.asked, reply)?;
         match self.sweep_over(paused.news, paused.stop.next, paused.to)? {
@@ -139,19 +161,20 @@ impl Machine {
                 self.hand.place = Some(Place::Stimulus(paused));
                 Ok(())
             }
-            None => self.after_stimulus(),
+            None => {
+                self.after_stimulus()?;
+                Ok(())
+            }
         }
     }
 
     /// Step 4 goes on with the answer of its question, and then the others.
-    #[tactic(auto, unfolding(crate::specs::StandsFor::paused, crate::specs::StandsFor::rest))]
     fn go_on_in_pass(&mut self, paused: Paused, reply: Reply) -> Result<(), AllocError>
         ensures kept { GoesOn self.old self.new }
-        ensures turn { OnOk result ((older : List Order) →
-            let asked = paused.stop.asked in
-            sweeps paused.news (paused.to - paused.stop.next) paused.stop.next
-            (answered asked.child asked.run reply (shown self.old older)) after_pass
-            ≡ rest self.new.hand.place (shown self.new older)) }
+        ensures turn { OnOk result ((older : List Order) (w : World) → Shows self.old older w
+            → let asked = paused.stop.asked in
+            At self.new older (sweeps paused.news (paused.to - paused.stop.next) paused.stop.next
+            (answered asked.child asked.run reply w) after_pass) (rest self.new.hand.place)) }
     {
         self.answer(paused.stop.asked, reply)?;
         match self.sweep_over(paused.news, paused.stop.next, paused.to)? {
@@ -159,15 +182,12 @@ impl Machine {
                 self.hand.place = Some(Place::Pass(paused));
                 Ok(())
             }
-            None => self.after_pass(),
+            None => {
+                self.after_pass()?;
+                Ok(())
+            }
         }
     }
-
-    /// Step 0: in the first turn, the event that the daemon runs. No pool is built yet.
-    fn announce(&mut self)
-        ensures kept { self.new ≡ self.old }
-        ensures announced { Makes announces self.old self.new }
-    {}
 
     /// Step 1: the turn's moment has come.
     fn rewind(&mut self, at: Moment)
@@ -181,21 +201,9 @@ impl Machine {
         self.hand.moment = at;
     }
 
-    /// Step 3: the ticks of the clock. No pool is built yet.
-    fn tick(&mut self)
-        ensures kept { self.new ≡ self.old }
-        ensures ticked { Makes ticks self.old self.new }
-    {}
-
     /// Step 5: the links. None is built yet.
     fn serve_links(&mut self)
         ensures kept { self.new ≡ self.old }
         ensures served { Makes serves_links self.old self.new }
-    {}
-
-    /// Step 7: the pools hand out. None is built yet.
-    fn hand_out(&mut self)
-        ensures kept { self.new ≡ self.old }
-        ensures handed { Makes hands_out self.old self.new }
     {}
 }

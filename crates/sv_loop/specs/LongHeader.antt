@@ -30,8 +30,8 @@ abbrev pub has_log : Spec → Bool
 has_log spec = is_some spec.stdout.file || is_some spec.stderr.file
 
 abbrev pub is_plain : GroupSpec → Bool
-is_plain group = not (is_some group.pool) && not (list_any has_log group.members)
+is_plain group = not (list_any has_log group.members)
 
--- all its parts are built: it has no pool, no log file, neither the main log nor a child's, and no server
+-- all its parts are built: it has no log file, neither the main log nor a child's, and no server
 abbrev pub is_built : Config → Bool
 is_built config = not (is_some config.main.file) && list_all is_plain config.groups && (length config.servers == 0)

@@ -22,7 +22,7 @@ use sv_out::order::Order;
 
 /// Where in a journal the next line stands: at the beginning, behind the title and some programs, in a long header, or
 /// behind `go`.
-#[derive(Debug, Drop)]
+#[derive(Drop)]
 pub enum Place {
     Fresh,
     Named(Groups),
@@ -31,7 +31,7 @@ pub enum Place {
 }
 
 /// What is to be said of a line at its place.
-#[derive(Debug, Drop)]
+#[derive(Drop)]
 pub enum Judged {
     /// It stands, leads to this place and gives these orders.
     Stands(Place, Vec<Order>),

@@ -241,7 +241,7 @@ fn are_plain(groups: &[GroupSpec]) -> bool
 fn is_plain(group: &GroupSpec) -> bool
     ensures { result ≡ is_plain group.now }
 {
-    !group.pool.is_some() && !have_log(group.members.as_slice())
+    !have_log(group.members.as_slice())
 }
 
 fn have_log(members: &[Spec]) -> bool

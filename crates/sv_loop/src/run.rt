@@ -30,7 +30,7 @@ pub enum End {
 }
 
 /// A journal that is read: the place of the line in hand, how many lines stand before it, and what has come of it.
-#[derive(Debug, Drop)]
+#[derive(Drop)]
 pub struct Run {
     pub(crate) place: Place,
     pub(crate) lines: u64,

@@ -1,17 +1,16 @@
-use Rattle.std.proofs.Common.{ap, ◌∙◌}
-use Rattle.sv_children.specs.Crew.{Crew}
+use Rattle.std.proofs.Common.{ℕ, Option, subst}
 use Rattle.sv_children.specs.News.{stimulus_told}
 use Rattle.sv_children.specs.declared.news.Told.{Told}
-use Rattle.sv_core.proofs.Moved.{moved_there}
-use Rattle.sv_core.specs.Moves.{moves, says}
-use Rattle.sv_core.specs.StandsFor.{shown}
+use Rattle.sv_core.specs.Moves.{begins_as, comes, told_of}
+use Rattle.sv_core.specs.StandsFor.{Shows}
 use Rattle.sv_core.proofs.machine.Machine.answer.Goals as goal
 
 pub returns-clause-answered : goal.returns-clause-answered
-returns-clause-answered c = λ older.
-    let w = shown c.args.self.now older in
-    let mood = c.args.self.now.course.mood in
-    moved_there w _ _ c.args.asked.child (says (stimulus_told c.args.asked.run c.told_of.result) c.args.asked.child w) c.answer-step.result
-    (ap (λ (crew : Crew). record w { children = crew }) (c.answer-step.ensures.after mood)) (c.answer-step.ensures.step mood)
-    (c.in_ok-report.ensures.reports older)
-    ∙ ap (λ (told : Told). moves c.args.asked.child (says (stimulus_told c.args.asked.run told) c.args.asked.child w) w) c.told_of.ensures
+returns-clause-answered c = λ older w s.
+    let place = c.args.asked.child in
+    let run = c.args.asked.run in
+    let told = subst (λ (told : Told). Shows c.tell_child.new.self older (comes (stimulus_told run told) place w)) c.told_of.ensures
+    (c.in_ok-tell_child.ensures.told older w s) in
+    subst (λ (started : Option ℕ). Shows c.begin_run.new.self older (begins_as place run started (comes (stimulus_told run (told_of c.args.reply)) place w)))
+    c.started_as-started.ensures
+    (c.in_ok-begin_run.ensures.begins older _ told)

@@ -1,17 +1,21 @@
-use Rattle.std.proofs.Common.{ap, ◌∙◌}
-use Rattle.sv_children.specs.Crew.{Crew}
-use Rattle.sv_children.specs.News.{deed_of, stimulus_of}
-use Rattle.sv_core.proofs.Moved.{moved_there}
-use Rattle.sv_core.specs.Moves.{says}
+use Rattle.std.proofs.Common.{ap, sym, ◌∙◌}
+use Rattle.sv_children.specs.News.{deed_of, step_of, stimulus_of}
+use Rattle.sv_core.proofs.Shown.{came_there, children_there, made}
+use Rattle.sv_core.specs.Moves.{changed, comes, says}
 use Rattle.sv_core.specs.StandsFor.{shown}
+use Rattle.sv_core.specs.World.{World}
 use Rattle.sv_core.proofs.machine.Machine.bring.Goals as goal
 
 pub returns-clause-moves : goal.returns-clause-moves
-returns-clause-moves c = λ older.
-    let w = shown c.args.self.now older in
-    moved_there w _ _ c.args.child (says (stimulus_of c.args.news.now) c.args.child w) c.bring-step.result
-    (ap (λ (crew : Crew). record w { children = crew }) c.bring-step.ensures.after) c.bring-step.ensures.step
-    (c.in_ok-deed.ensures.reports older)
+returns-clause-moves c = made (comes (stimulus_of c.args.news.now) c.args.child) c.args.self.now c.report.new.self (λ older pools runs kept alive.
+    let w = shown c.args.self.now older pools runs in
+    let stimulus = stimulus_of c.args.news.now in
+    came_there c.report.new.self older c.args.child stimulus w c.pid_at-pid.result c.bring-step.result
+    c.pid_at-pid.ensures c.bring-step.ensures.step
+    (c.in_ok-deed.ensures.reports older (changed c.args.child (says stimulus c.args.child w) w)
+    (record { pools = pools; runs = runs; is = children_there w _ _ (sym c.bring-step.ensures.after); pools_kept = kept; runs_kept = alive })))
 
 pub returns-clause-deed : goal.returns-clause-deed
-returns-clause-deed c = λ older. c.in_ok-deed.ensures.deed ∙ ap deed_of c.bring-step.ensures.step
+returns-clause-deed c = λ older w s.
+    c.in_ok-deed.ensures.deed ∙ ap deed_of c.bring-step.ensures.step
+    ∙ ap (λ (v : World). deed_of (step_of (says (stimulus_of c.args.news.now) c.args.child v))) (sym s.is)

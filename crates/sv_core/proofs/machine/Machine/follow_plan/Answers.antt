@@ -1,22 +1,28 @@
-use Rattle.std.proofs.Common.{◌≡◌, arith, rules, sym, false, ◌∙◌, refl}
+use Rattle.std.proofs.Common.{◌≡◌, ◌-◌, arith, rules, sym, false, ◌∙◌}
 use Rattle.sv_child.specs.Moves.{is_running}
-use Rattle.sv_core.proofs.Stopped.{plan_next, plan_waits}
-use Rattle.sv_core.specs.StandsFor.{shown}
+use Rattle.sv_core.proofs.Stopped.{dropped_there, plan_left, plan_next, plan_waits, rests_there}
+use Rattle.sv_core.specs.Shutdown.{drops_group, tells_group}
 use Rattle.sv_core.proofs.machine.Machine.follow_plan.Goals as goal
 
 pub returns-then-not-has_come_to_rest-clause-follows : goal.returns-then-not-has_come_to_rest-clause-follows
-returns-then-not-has_come_to_rest-clause-follows c = λ older.
+returns-then-not-has_come_to_rest-clause-follows c = λ older w s.
     let ending : is_running c.args.self.now.course.mood ≡ false = search rules in
-    rw ending
-    (sym (c.loop-self.invariant.goes older
-    ∙ plan_waits c.loop-self.self.course.left (shown c.loop-self.self older) (shown c.tell_group.new.self older) (omega arith)
-    (c.in_ok-tell_group.ensures.tells older) (sym c.if-not-has_come_to_rest.ensures)))
+    let at = c.loop-self.invariant.goes older w s in
+    let told = c.in_ok-tell_group.ensures.tells older at.world at.shows in
+    plan_left c.args.self.now c.tell_group.new.self older w _ s ending
+    (at.is ∙ plan_waits c.loop-self.self.course.left at.world (omega arith)
+    (rests_there c.tell_group.new.self older _ (c.loop-self.self.course.left - 1) told ∙ sym c.if-not-has_come_to_rest.ensures)) told
 
 pub loop-self-preserved : goal.loop-self-preserved
 loop-self-preserved c = record {
   kept = search rules;
-  goes = λ older.
-      c.loop-self.invariant.goes older
-      ∙ plan_next c.loop-self.self.course.left (shown c.loop-self.self older) (shown c.tell_group.new.self older) _ (omega arith)
-      (c.in_ok-tell_group.ensures.tells older) (sym c.if-not-has_come_to_rest.ensures) refl;
+  goes = λ older w s.
+      let at = c.loop-self.invariant.goes older w s in
+      let told = c.in_ok-tell_group.ensures.tells older at.world at.shows in
+      record {
+        world = drops_group (c.loop-self.self.course.left - 1) (tells_group (c.loop-self.self.course.left - 1) at.world);
+        shows = dropped_there c.tell_group.new.self older _ (c.loop-self.self.course.left - 1) told;
+        is = at.is ∙ plan_next c.loop-self.self.course.left at.world (omega arith)
+            (rests_there c.tell_group.new.self older _ (c.loop-self.self.course.left - 1) told ∙ sym c.if-not-has_come_to_rest.ensures);
+      };
 }

@@ -1,19 +1,22 @@
 use Rattle.std.proofs.Common.{Some, ◌∙◌, ap}
+use Rattle.sv_core.proofs.Shown.{at_same}
 use Rattle.sv_core.proofs.Standing.{pass_answered, stimulus_answered}
-use Rattle.sv_core.specs.StandsFor.{shown, rest}
+use Rattle.sv_core.specs.StandsFor.{rest}
 use Rattle.sv_core.specs.Turn.{come}
 use Rattle.sv_core.specs.declared.part.Followed.TheVariants as followed
 use Rattle.sv_core.specs.declared.place.Place.{Place}
 use Rattle.sv_core.proofs.machine.Machine.go_on_from.Goals as goal
 
 pub returns-in_ok-go_on_in_stimulus-in-Stimulus-clause-turn : goal.returns-in_ok-go_on_in_stimulus-in-Stimulus-clause-turn
-returns-in_ok-go_on_in_stimulus-in-Stimulus-clause-turn c = λ older.
-    ap (λ (p : Place). come (rest (Some p) (shown c.args.self.now older)) (followed.Answered c.args.reply)) c.in-Stimulus.is
-    ∙ stimulus_answered c.in-Stimulus.paused c.args.reply (shown c.args.self.now older)
-    ∙ c.in_ok-go_on_in_stimulus-in-Stimulus.ensures.turn older
+returns-in_ok-go_on_in_stimulus-in-Stimulus-clause-turn c = λ older w s.
+    at_same _ older _ _ _
+    (ap (λ (p : Place). come (rest (Some p) w) (followed.Answered c.args.reply)) c.in-Stimulus.is
+    ∙ stimulus_answered c.in-Stimulus.paused c.args.reply w)
+    (c.in_ok-go_on_in_stimulus-in-Stimulus.ensures.turn older w s)
 
 pub returns-in_ok-go_on_in_pass-in-Pass-clause-turn : goal.returns-in_ok-go_on_in_pass-in-Pass-clause-turn
-returns-in_ok-go_on_in_pass-in-Pass-clause-turn c = λ older.
-    ap (λ (p : Place). come (rest (Some p) (shown c.args.self.now older)) (followed.Answered c.args.reply)) c.in-Pass.is
-    ∙ pass_answered c.in-Pass.paused c.args.reply (shown c.args.self.now older)
-    ∙ c.in_ok-go_on_in_pass-in-Pass.ensures.turn older
+returns-in_ok-go_on_in_pass-in-Pass-clause-turn c = λ older w s.
+    at_same _ older _ _ _
+    (ap (λ (p : Place). come (rest (Some p) w) (followed.Answered c.args.reply)) c.in-Pass.is
+    ∙ pass_answered c.in-Pass.paused c.args.reply w)
+    (c.in_ok-go_on_in_pass-in-Pass.ensures.turn older w s)

@@ -1,10 +1,15 @@
-use Rattle.std.proofs.Common.{◌∙◌}
-use Rattle.sv_core.proofs.Moved.{met_there}
-use Rattle.sv_core.specs.StandsFor.{shown}
+use Rattle.std.proofs.Common.{Option, ap, sym}
+use Rattle.sv_child.specs.declared.step.ChildDeed.{ChildDeed}
+use Rattle.sv_children.specs.News.{stimulus_of}
+use Rattle.sv_core.proofs.Shown.{at_same}
+use Rattle.sv_core.specs.Moves.{comes}
+use Rattle.sv_core.specs.Sweeps.{does, meets}
 use Rattle.sv_core.proofs.machine.Machine.meet.Goals as goal
 
 pub returns-clause-meets : goal.returns-clause-meets
-returns-clause-meets c = λ older k.
-    met_there c.args.news.now c.args.child (shown c.args.self.now older) (shown c.bring.new.self older) c.in_ok-deed.deed k
-    (c.in_ok-deed.ensures.moves older) (c.in_ok-deed.ensures.deed older)
-    ∙ c.in_ok-asked.ensures.does older k
+returns-clause-meets c = λ older w k s.
+    let place = c.args.child in
+    let after = comes (stimulus_of c.args.news.now) place w in
+    at_same c.act.new.self older (meets c.args.news.now place w k) (does c.in_ok-deed.deed place after k) _
+    (ap (λ (deed : Option ChildDeed). does deed place after k) (sym (c.in_ok-deed.ensures.deed older w s)))
+    (c.in_ok-asked.ensures.does older after k (c.in_ok-deed.ensures.moves older w s))

@@ -1,8 +1,7 @@
-use Rattle.sv_core.proofs.Moved.{stopped_there}
-use Rattle.sv_core.specs.StandsFor.{shown}
+use Rattle.sv_core.proofs.Stopped.{stopped_there}
 use Rattle.sv_core.proofs.machine.Machine.stop.Goals as goal
 
 pub returns-clause-stops : goal.returns-clause-stops
-returns-clause-stops c = λ older.
-    stopped_there c.args.child (shown c.args.self.now older) (shown c.bring.new.self older) _ c.in_ok-deed.deed
-    (c.in_ok-deed.ensures.moves older) (c.in_ok-deed.ensures.deed older) (c.in_ok-signal.ensures.signals older)
+returns-clause-stops c = λ older w s.
+    stopped_there c.signal.new.self older c.args.child w c.in_ok-deed.deed (c.in_ok-deed.ensures.deed older w s)
+    (c.in_ok-signal.ensures.signals older _ (c.in_ok-deed.ensures.moves older w s))

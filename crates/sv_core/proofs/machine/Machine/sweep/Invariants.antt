@@ -1,6 +1,6 @@
-use Rattle.std.proofs.Common.{◌≡◌, ◌-◌, List}
+use Rattle.std.proofs.Common.{◌-◌, List}
 use Rattle.sv_core.specs.Frames.{StartsRuns}
-use Rattle.sv_core.specs.StandsFor.{shown}
+use Rattle.sv_core.specs.StandsFor.{At, Shows}
 use Rattle.sv_core.specs.Sweeps.{Turn, sweeps}
 use Rattle.sv_core.specs.World.{World}
 use Rattle.sv_out.specs.declared.order.Order.{Order}
@@ -9,7 +9,6 @@ use Rattle.sv_core.proofs.machine.Machine.sweep.Given as goal
 abbrev pub invariant-loop-place : goal.invariant-loop-place
 invariant-loop-place l = record {
   kept : StartsRuns l.initial.self l.self;
-  goes : (older : List Order) (k : World → Turn) →
-      sweeps l.news (l.to - l.fn.from) l.fn.from (shown l.initial.self older) k
-      ≡ sweeps l.news (l.to - l.place) l.place (shown l.self older) k;
+  goes : (older : List Order) (w : World) (k : World → Turn) → Shows l.initial.self older w →
+      At l.self older (sweeps l.news (l.to - l.fn.from) l.fn.from w k) (λ v. sweeps l.news (l.to - l.place) l.place v k);
 }

@@ -1,0 +1,266 @@
+-- What a turn does to the event pools: they go on by what happens to them, and no other order drops or writes an event.
+use Rattle.std.proofs.Common.{◌≡◌, ℕ, List, [], ◌∷◌, ◌++◌, filter, Bool, true, false, Option, Some, None, append-nil, append_assoc, refl, sym, ap, ◌∙◌, if◌then◌else◌}
+use Rattle.std.specs.Prelude.{slice_get}
+use Rattle.std.specs.List.{flat_map}
+use Rattle.std.specs.Option.{option_map, option_to_list}
+use Rattle.std.proofs.lemmas.List.Elements.{filter-append}
+use Rattle.sv_base.specs.Roster.{is_roster}
+use Rattle.sv_base.specs.declared.config.Config.{Config}
+use Rattle.sv_base.specs.declared.config.Host.{Host}
+use Rattle.sv_base.specs.declared.ids.Run.{Run}
+use Rattle.sv_base.specs.declared.kind.Kind.{Kind}
+use Rattle.sv_base.specs.declared.signal.Signal.{Signal}
+use Rattle.sv_base.specs.declared.spec.GroupSpec.{GroupSpec}
+use Rattle.sv_base.specs.declared.spec.Spec.{Spec}
+use Rattle.sv_child.specs.Moves.{Answer}
+use Rattle.sv_child.specs.declared.child.Child.{Child}
+use Rattle.sv_child.specs.declared.step.Edge.{Edge}
+use Rattle.sv_child.specs.declared.step.Step.{Step}
+use Rattle.sv_children.specs.Crew.{Crew}
+use Rattle.sv_children.specs.News.{step_of}
+use Rattle.sv_children.specs.Orders.{kill, kill_at, kill_of, reports_at, reports_of}
+use Rattle.sv_core.proofs.Accounts.{all_dropped, found_after, fresh_at, in_order, only_of_roster, some_at}
+use Rattle.sv_core.proofs.Reported.{all_given}
+use Rattle.sv_core.proofs.Steps.{Steps, kept_after}
+use Rattle.sv_core.specs.Account.{Happening, HoldSome, PoolsAreAccountedFor, PoolsHaveAHistory, all_happened, all_ordered, drop_told, drops_told, happened, is_of_pools, ordered}
+use Rattle.sv_core.specs.Account.Happening.{Offered, Handed, Acknowledged, Rejected}
+use Rattle.sv_core.specs.Deeds.{after, deeds}
+use Rattle.sv_core.specs.Events.{offers, offers_if}
+use Rattle.sv_core.specs.HandingOut.{sends}
+use Rattle.sv_core.specs.Listening.{gives_back, id_of, is_done_with}
+use Rattle.sv_core.specs.MachineState.{now, opening}
+use Rattle.sv_core.specs.Moves.{changed, goes_edge, goes_edge_if, goes_edges, moves, reported, says}
+use Rattle.sv_core.specs.World.{World}
+use Rattle.sv_events.specs.declared.fact.Fact.{Fact}
+use Rattle.sv_facts.specs.EdgeFacts.{fact_at, kind_of, pid_at}
+use Rattle.sv_groups.specs.StartOrder.{pairs_of}
+use Rattle.sv_out.specs.declared.input.Input.{Input}
+use Rattle.sv_out.specs.declared.order.Order.{Order}
+use Rattle.sv_out.specs.declared.order.Order.TheVariants as order
+use Rattle.sv_pool.specs.PoolLists.{dropped_for_room}
+use Rattle.sv_pool.specs.declared.taken.Dropped.{Dropped}
+use Rattle.sv_pool.specs.declared.taken.Taken.{Taken}
+use Rattle.sv_pools.specs.EventPools as all_pools
+use Rattle.sv_pools.specs.EventPools.{EventPool, EventPools}
+use Rattle.sv_pools.specs.Listeners.{front_written, is_holding, may_get, orders_to, reports_of_rejection, written}
+use Rattle.sv_pools.specs.Offers.{drop_report, event_of, reports_of_offer, room_reports, takes}
+
+-- from one world to a later one: what happened to the pools meanwhile, and which orders tell of it
+pub record Deals (w v : World) : Type 0 where
+  pub server : v.config.identifier ≡ w.config.identifier
+  pub all : List Happening
+  pub pools : v.pools ≡ all_happened all w.pools
+  pub more : List Order
+  pub added : v.given ≡ w.given ++ more
+  pub told : filter is_of_pools more ≡ all_ordered w.config.identifier all w.pools
+
+happened_on : (one other : List Happening) (ps : EventPools) → all_happened (one ++ other) ps ≡ all_happened other (all_happened one ps)
+happened_on [] other ps = refl
+happened_on (h ∷ one) other ps = happened_on one other (happened h ps)
+
+ordered_on : (server : List ℕ) (one other : List Happening) (ps : EventPools)
+    → all_ordered server (one ++ other) ps ≡ all_ordered server one ps ++ all_ordered server other (all_happened one ps)
+ordered_on server [] other ps = refl
+ordered_on server (h ∷ one) other ps =
+    ap (λ (rest : List Order). ordered server h ps ++ rest) (ordered_on server one other (happened h ps))
+    ∙ sym (append_assoc (ordered server h ps) (all_ordered server one (happened h ps)) (all_ordered server other (all_happened one (happened h ps))))
+
+same : (w : World) → Deals w w
+same w = record { server = refl; all = []; pools = refl; more = []; added = sym (append-nil w.given); told = refl }
+
+follow : (u v w : World) → Deals u v → Deals v w → Deals u w
+follow u v w a b = record {
+  server = b.server ∙ a.server;
+  all = a.all ++ b.all;
+  pools = b.pools ∙ ap (all_happened b.all) a.pools ∙ sym (happened_on a.all b.all u.pools);
+  more = a.more ++ b.more;
+  added = b.added ∙ ap (λ (given : List Order). given ++ b.more) a.added ∙ append_assoc u.given a.more b.more;
+  told = filter-append is_of_pools a.more b.more
+      ∙ ap (λ (orders : List Order). orders ++ filter is_of_pools b.more) a.told
+      ∙ ap (λ (orders : List Order). all_ordered u.config.identifier a.all u.pools ++ orders) b.told
+      ∙ ap (λ (server : List ℕ). all_ordered u.config.identifier a.all u.pools ++ all_ordered server b.all v.pools) a.server
+      ∙ ap (λ (ps : EventPools). all_ordered u.config.identifier a.all u.pools ++ all_ordered u.config.identifier b.all ps) a.pools
+      ∙ sym (ordered_on u.config.identifier a.all b.all u.pools);
+}
+
+-- these orders are all of pools
+abbrev pub AreOfPools : List Order → Type 0
+AreOfPools orders = filter is_of_pools orders ≡ orders
+
+of_both : (one other : List Order) → AreOfPools one → AreOfPools other → AreOfPools (one ++ other)
+of_both one other a b =
+    filter-append is_of_pools one other
+    ∙ ap (λ (orders : List Order). orders ++ filter is_of_pools other) a
+    ∙ ap (λ (orders : List Order). one ++ orders) b
+
+of_if : (b : Bool) (orders : List Order) → AreOfPools orders → AreOfPools (if b then orders else [])
+of_if true orders of = of
+of_if false orders of = refl
+
+of_all : (f : EventPool → List Order) (ps : List EventPool) → ((p : EventPool) → AreOfPools (f p)) → AreOfPools (flat_map f ps)
+of_all f [] each = refl
+of_all f (p ∷ ps) each = of_both (f p) (flat_map f ps) (each p) (of_all f ps each)
+
+of_drop : (group : List ℕ) (dropped : Option Dropped) → AreOfPools (option_to_list (option_map (drop_report group) dropped))
+of_drop group None = refl
+of_drop group (Some dropped) = refl
+
+of_room : (p : EventPool) → AreOfPools (room_reports p)
+of_room p = of_drop p.group (dropped_for_room p.lists)
+
+of_front : (server : List ℕ) (run : Run) (group : List ℕ) (front : Option Taken)
+    → AreOfPools (option_to_list (option_map (written server run group) front))
+of_front server run group None = refl
+of_front server run group (Some taken) = refl
+
+-- what happens to the pools orders nothing else
+of_happening : (server : List ℕ) (h : Happening) (ps : EventPools) → AreOfPools (ordered server h ps)
+of_happening server (Offered kind fact) ps =
+    of_all (reports_of_offer (event_of kind fact ps.drawn)) ps.each (λ p. of_if (takes (event_of kind fact ps.drawn) p) (room_reports p) (of_room p))
+of_happening server (Handed run place) ps =
+    of_all (orders_to server run place) ps.each
+    (λ p. of_if (may_get place p) (front_written server run p) (of_front server run p.group (slice_get p.lists.waiting 0)))
+of_happening server (Acknowledged place) ps = refl
+of_happening server (Rejected place) ps =
+    of_all (reports_of_rejection place) ps.each (λ p. of_if (is_holding place p) (room_reports p) (of_room p))
+
+-- one thing happens
+once : (h : Happening) (w v : World) → v.config.identifier ≡ w.config.identifier → v.pools ≡ happened h w.pools
+    → v.given ≡ w.given ++ ordered w.config.identifier h w.pools → Deals w v
+once h w v server pools given = record {
+  server = server;
+  all = h ∷ [];
+  pools = pools;
+  more = ordered w.config.identifier h w.pools;
+  added = given;
+  told = of_happening w.config.identifier h w.pools ∙ sym (append-nil (ordered w.config.identifier h w.pools));
+}
+
+-- nothing happens to the pools
+unmoved : (w v : World) (more : List Order) → v.config.identifier ≡ w.config.identifier → v.pools ≡ w.pools → v.given ≡ w.given ++ more
+    → filter is_of_pools more ≡ [] → Deals w v
+unmoved w v more server pools added none = record { server = server; all = []; pools = pools; more = more; added = added; told = none }
+
+offered : (kind : Kind) (fact : Fact) (w : World) → Deals w (offers kind fact w)
+offered kind fact w = once (Offered kind fact) w (offers kind fact w) refl refl refl
+
+offered_if : (kind : Kind) (fact : Option Fact) (w : World) → Deals w (offers_if kind fact w)
+offered_if kind None w = same w
+offered_if kind (Some fact) w = offered kind fact w
+
+no_pools_report : (crew : Crew) (c : ℕ) (edge : Edge) → filter is_of_pools (reports_at crew c (Some edge ∷ [])) ≡ []
+no_pools_report crew c edge = by_pair (slice_get (pairs_of crew.roster) c) where
+  by_pair : (pair : Option (GroupSpec × Spec)) → filter is_of_pools (reports_of pair (Some edge ∷ [])) ≡ []
+  by_pair None = refl
+  by_pair (Some pair) = refl
+
+edge_gone : (c pid : ℕ) (edge : Option Edge) (w : World) → Deals w (goes_edge_if c pid edge w)
+edge_gone c pid None w = same w
+edge_gone c pid (Some edge) w =
+    let own = reports_at w.children c (Some edge ∷ []) in
+    let told = record w { given = w.given ++ own } in
+    follow w told (goes_edge c pid edge w) (unmoved w told own refl refl refl (no_pools_report w.children c edge))
+    (offered_if (kind_of edge.to) (fact_at w.children c pid edge) told)
+
+edges_gone : (c pid : ℕ) (edges : List (Option Edge)) (w : World) → Deals w (goes_edges c pid edges w)
+edges_gone c pid [] w = same w
+edges_gone c pid (edge ∷ edges) w =
+    let v = goes_edge_if c pid edge w in
+    follow w v (goes_edges c pid edges v) (edge_gone c pid edge w) (edges_gone c pid edges v)
+
+step_gone : (c pid : ℕ) (step : Option Step) (w : World) → Deals w (reported c pid step w)
+step_gone c pid None w = same w
+step_gone c pid (Some step) w = edges_gone c pid step.edges w
+
+moved : (c : ℕ) (answer : Option Answer) (w : World) → Deals w (moves c answer w)
+moved c answer w =
+    let v = changed c answer w in
+    follow w v (moves c answer w) (unmoved w v [] refl refl (sym (append-nil w.given)) refl)
+    (step_gone c (pid_at w.children c) (step_of answer) v)
+
+no_pools_kill : (crew : Crew) (c : ℕ) (signal : Signal) (group : Bool) → filter is_of_pools (kill_at crew c signal group) ≡ []
+no_pools_kill crew c signal group = by_child (slice_get crew.all c) where
+  by_run : (run : Option Run) → filter is_of_pools (kill run signal group) ≡ []
+  by_run None = refl
+  by_run (Some run) = refl
+
+  by_child : (child : Option Child) → filter is_of_pools (kill_of child signal group) ≡ []
+  by_child None = refl
+  by_child (Some child) = by_run child.run
+
+pub deals_steps : Steps Deals
+deals_steps = record {
+  same = same;
+  follow = follow;
+  rewound = λ at w. record { server = refl; all = []; pools = refl; more = []; added = sym (append-nil w.given); told = refl };
+  came = λ stimulus c w. moved c (says stimulus c w) w;
+  killed = λ c signal group w. record {
+    server = refl;
+    all = [];
+    pools = refl;
+    more = kill_at w.children c signal group;
+    added = refl;
+    told = no_pools_kill w.children c signal group;
+  };
+  ordered = λ spawning w. record { server = refl; all = []; pools = refl; more = order.Spawn spawning ∷ []; added = refl; told = refl };
+  steered = λ course w. record { server = refl; all = []; pools = refl; more = []; added = sym (append-nil w.given); told = refl };
+  ended = λ w. record { server = refl; all = []; pools = refl; more = order.Halt ∷ []; added = refl; told = refl };
+  offered = offered;
+  clocked = λ clock w. record { server = refl; all = []; pools = refl; more = []; added = sym (append-nil w.given); told = refl };
+  booked = λ runs w. record { server = refl; all = []; pools = refl; more = []; added = sym (append-nil w.given); told = refl };
+  done = λ c w. once (Acknowledged (id_of c)) w (is_done_with c w) refl refl (sym (append-nil w.given));
+  returned = λ c w. once (Rejected (id_of c)) w (gives_back c w) refl refl refl;
+  sent = λ run c w. once (Handed run (id_of c)) w (sends run c w) refl refl refl;
+}
+
+-- ---- all inputs
+
+pub history : (config : Config) (sizes : List (List ℕ × ℕ)) (host : Host) (inputs : List Input)
+    → PoolsHaveAHistory config (after (opening config sizes host) inputs) (deeds (opening config sizes host) inputs)
+history config sizes host inputs =
+    let m = opening config sizes host in
+    let deals : Deals (now m) (now (after m inputs)) = kept_after Deals deals_steps m inputs tt in
+    record {
+      all = deals.all;
+      pools = deals.pools;
+      orders = ap (filter is_of_pools) (sym (all_given config sizes host inputs) ∙ deals.added) ∙ deals.told;
+    }
+
+-- what else is ordered reports no drop
+drops_of_pools : (group : List ℕ) (orders : List Order) → drops_told group (filter is_of_pools orders) ≡ drops_told group orders
+drops_of_pools group [] = refl
+drops_of_pools group (order.Dropped its serial poolserial ∷ orders) =
+    ap (λ (drops : List Dropped). drop_told group (order.Dropped its serial poolserial) ++ drops) (drops_of_pools group orders)
+drops_of_pools group (order.Stdin run bytes ∷ orders) = drops_of_pools group orders
+drops_of_pools group (order.State its name from to ∷ orders) = drops_of_pools group orders
+drops_of_pools group (order.Spawn spawning ∷ orders) = drops_of_pools group orders
+drops_of_pools group (order.Kill run signal whole ∷ orders) = drops_of_pools group orders
+drops_of_pools group (order.Append file bytes ∷ orders) = drops_of_pools group orders
+drops_of_pools group (order.Shift from to ∷ orders) = drops_of_pools group orders
+drops_of_pools group (order.Fresh file ∷ orders) = drops_of_pools group orders
+drops_of_pools group (order.ReadFile file start length ∷ orders) = drops_of_pools group orders
+drops_of_pools group (order.ClearFile file ∷ orders) = drops_of_pools group orders
+drops_of_pools group (order.Send link bytes ∷ orders) = drops_of_pools group orders
+drops_of_pools group (order.More link ∷ orders) = drops_of_pools group orders
+drops_of_pools group (order.Close link ∷ orders) = drops_of_pools group orders
+drops_of_pools group (order.Halt ∷ orders) = drops_of_pools group orders
+
+pub accounted : (config : Config) (sizes : List (List ℕ × ℕ)) (host : Host) (inputs : List Input)
+    → is_roster config.groups ≡ true → HoldSome config.groups
+    → PoolsAreAccountedFor config (after (opening config sizes host) inputs) (deeds (opening config sizes host) inputs)
+accounted config sizes host inputs roster some = λ place p is.
+    let m = opening config sizes host in
+    let was = history config sizes host inputs in
+    let ps = all_pools.opening config.groups in
+    let found = found_after config.identifier was.all ps place p is (only_of_roster config.groups place p roster is) in
+    let fresh = fresh_at 0 config.groups place p is in
+    let told : drops_told p.group (all_ordered config.identifier was.all ps) ≡ drops_told p.group (deeds m inputs) =
+    ap (drops_told p.group) (sym was.orders) ∙ drops_of_pools p.group (deeds m inputs) in
+    record {
+      pool = found.pool;
+      is = ap (λ (pools : EventPools). slice_get pools.each place) was.pools ∙ found.is;
+      group = found.goes.group;
+      listeners = found.goes.listeners;
+      places = λ few. in_order p found.pool (drops_told p.group (all_ordered config.identifier was.all ps)) fresh (some_at 0 config.groups place p some is) found.goes few;
+      dropped = all_dropped p found.pool (drops_told p.group (all_ordered config.identifier was.all ps)) fresh found.goes ∙ told;
+    }

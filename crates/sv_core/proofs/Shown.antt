@@ -1,0 +1,185 @@
+-- The worlds that a machine shows, as its fields change.
+use Rattle.std.proofs.Common.{◌≡◌, ◌≤◌, ◌<◌, ◌+◌, ℕ, zero, suc, true, false, List, [], ◌∷◌, ◌++◌, Option, Some, None, length, drop, take, get_or, ◌-◌, ◌∙◌, arith, append_assoc, refl, subst, sym, ap}
+use Rattle.std.proofs.Math.Seq.{take-length}
+use Rattle.std.specs.Prelude.{slice_get}
+use Rattle.sv_base.specs.declared.ids.Run.{Run}
+use Rattle.sv_base.specs.declared.kind.Kind.{Kind}
+use Rattle.sv_child.specs.ChildTable.{Stimulus}
+use Rattle.sv_child.specs.declared.child.Child.{Child}
+use Rattle.sv_child.specs.declared.step.Edge.{Edge}
+use Rattle.sv_child.specs.declared.step.Step.{Step}
+use Rattle.sv_children.specs.Crew.{Crew}
+use Rattle.sv_children.specs.News.{step_of}
+use Rattle.sv_children.specs.Orders.{reports_at}
+use Rattle.sv_core.specs.Events.{offers_if}
+use Rattle.sv_core.specs.Frames.{Makes, Stops}
+use Rattle.sv_core.specs.HandingOut.{hands_from, hands_to, is_up, ready_of, ready_one, sends, sends_to}
+use Rattle.sv_core.specs.Listening.{gives_back, hears, id_of, loses_of, tells, tells_all, tells_by}
+use Rattle.sv_core.specs.Moves.{changed, comes, goes_edge, goes_edge_if, goes_edges, reported, says}
+use Rattle.sv_core.specs.StandsFor.{At, Shows, shown, stopped}
+use Rattle.sv_core.specs.Sweeps.{Turn}
+use Rattle.sv_core.specs.World.{World}
+use Rattle.sv_core.specs.declared.machine.Machine.{Machine}
+use Rattle.sv_events.specs.declared.fact.Fact.{Fact}
+use Rattle.sv_facts.specs.EdgeFacts.{fact_at, kind_of, pid_at}
+use Rattle.sv_out.specs.declared.order.Order.{Order}
+use Rattle.sv_pipes.specs.declared.tokens.Token.{Token}
+use Rattle.sv_pools.specs.EventPools.{EventPools}
+use Rattle.sv_pools.specs.StandsFor as kept_pools
+use Rattle.sv_pools.specs.Listeners.{holds}
+use Rattle.sv_runs.specs.RunBook.{RunBook, heard, lost, new_tokens, teller}
+use Rattle.sv_runs.specs.StandsFor as kept_runs
+use Rattle.sv_runs.specs.declared.runs.Runs.{Runs}
+
+-- what is made of each world that is written out from the fields is made of each that is shown
+pub made : (f : World → World) (x y : Machine)
+    → ((older : List Order) (pools : EventPools) (runs : RunBook) → kept_pools.StandsFor x.pools pools → kept_runs.StandsFor x.runs runs → Shows y older (f (shown x older pools runs)))
+    → Makes f x y
+made f x y goes older w s = subst (λ (u : World). Shows y older (f u)) (sym s.is) (goes older s.pools s.runs s.pools_kept s.runs_kept)
+
+-- the same of a step that may ask
+pub stops : (step : World → (World → Turn) → Turn) (left : (World → Turn) → World → Turn) (x y : Machine)
+    → ((older : List Order) (pools : EventPools) (runs : RunBook) (k : World → Turn) → kept_pools.StandsFor x.pools pools
+    → kept_runs.StandsFor x.runs runs
+    → At y older (step (shown x older pools runs) k) (left k))
+    → Stops step left x y
+stops step left x y goes older w k s =
+    subst (λ (u : World). At y older (step u k) (left k)) (sym s.is) (goes older s.pools s.runs k s.pools_kept s.runs_kept)
+
+-- a turn that is the same goes on in the same way
+pub at_same : (y : Machine) (older : List Order) (t u : Turn) (f : World → Turn) → t ≡ u → At y older u f → At y older t f
+at_same y older t u f same at = record { world = at.world; shows = at.shows; is = rw same at.is }
+
+-- what is added to the orders of the input in hand is added to all orders
+pub all_added : (older given later more : List Order) → later ≡ given ++ more → older ++ later ≡ (older ++ given) ++ more
+all_added older given later more is = rw is (sym (append_assoc older given more))
+
+pub given_there : (w : World) (older given later more : List Order) → w.given ≡ older ++ given → later ≡ given ++ more
+    → record w { given = w.given ++ more } ≡ record w { given = older ++ later }
+given_there w older given later more is added =
+    ap (λ (all : List Order). record w { given = all }) (rw (is, added) (append_assoc older given more))
+
+pub edge_gone : (z : Machine) (older : List Order) (c pid : ℕ) (edge : Edge) (w : World) (kind : Kind) (fact : Option Fact)
+    → kind ≡ kind_of edge.to → fact ≡ fact_at w.children c pid edge
+    → Shows z older (offers_if kind fact (record w { given = w.given ++ reports_at w.children c (Some edge ∷ []) }))
+    → Shows z older (goes_edge c pid edge w)
+edge_gone z older c pid edge w kind fact is_kind is_fact shows =
+    let told = record w { given = w.given ++ reports_at w.children c (Some edge ∷ []) } in
+    subst (λ (k : Kind). Shows z older (offers_if k (fact_at w.children c pid edge) told)) is_kind
+    (subst (λ (f : Option Fact). Shows z older (offers_if kind f told)) is_fact shows)
+
+-- a stimulus came to the child of a place, and what it took is reported
+pub came_there : (z : Machine) (older : List Order) (c : ℕ) (stimulus : Child → Option Stimulus) (w : World) (pid : ℕ) (step : Option Step)
+    → pid ≡ pid_at w.children c → step ≡ step_of (says stimulus c w)
+    → Shows z older (reported c pid step (changed c (says stimulus c w) w))
+    → Shows z older (comes stimulus c w)
+came_there z older c stimulus w pid step is_pid is_step shows =
+    let after = changed c (says stimulus c w) w in
+    subst (λ (p : ℕ). Shows z older (reported c p (step_of (says stimulus c w)) after)) is_pid
+    (subst (λ (s : Option Step). Shows z older (reported c pid s after)) is_step shows)
+
+-- the children are others
+pub children_there : (w : World) (crew crew' : Crew) → crew ≡ crew' → record w { children = crew } ≡ record w { children = crew' }
+children_there w crew crew' same = ap (λ (c : Crew). record w { children = c }) same
+
+-- one more edge
+pub edges_gone : (z : Machine) (older : List Order) (c pid : ℕ) (edges : List (Option Edge)) (w : World) (d : Option Edge)
+    → 1 ≤ length edges
+    → Shows z older (goes_edges c pid (take (length edges - 1) (drop 1 edges)) (goes_edge_if c pid (get_or edges 0 d) w))
+    → Shows z older (goes_edges c pid edges w)
+edges_gone z older c pid [] w d some shows = absurd (omega (arith, some))
+edges_gone z older c pid (edge ∷ edges) w d some shows =
+    let size : length (edge ∷ edges) - 1 ≡ length edges = omega arith in
+    let rest : take (length (edge ∷ edges) - 1) edges ≡ edges = ap (λ (n : ℕ). take n edges) size ∙ take-length edges in
+    subst (λ (es : List (Option Edge)). Shows z older (goes_edges c pid es (goes_edge_if c pid edge w))) rest shows
+
+-- a step that didn't ask goes on in the world that is shown
+pub done_at : (y : Machine) (older : List Order) (w : World) (k : World → Turn) → Shows y older w → At y older (k w) (stopped None k)
+unfolding stopped
+done_at y older w k s = record { world = w; shows = s; is = refl }
+
+-- the runs are others
+pub runs_there : (y : Machine) (older : List Order) (w : World) (change : RunBook → RunBook) → Shows y older w
+    → (runs : Runs) → ((book : RunBook) → kept_runs.StandsFor y.runs book → kept_runs.StandsFor runs (change book))
+    → Shows (record y { runs = runs }) older (record w { runs = change w.runs })
+runs_there y older w change s runs step = record {
+  pools = s.pools;
+  runs = change s.runs;
+  is = ap (λ (v : World). record v { runs = change v.runs }) s.is;
+  pools_kept = s.pools_kept;
+  runs_kept = step s.runs s.runs_kept;
+}
+
+-- one more token
+pub tokens_told : (z : Machine) (older : List Order) (c : ℕ) (tokens : List Token) (w : World) (own : Token)
+    → 1 ≤ length tokens → own ≡ get_or tokens 0 own
+    → Shows z older (tells_all c (take (length tokens - 1) (drop 1 tokens)) (tells c own w))
+    → Shows z older (tells_all c tokens w)
+tokens_told z older c [] w own some is shows = absurd (omega (arith, some))
+tokens_told z older c (token ∷ tokens) w own some is shows =
+    let size : length (token ∷ tokens) - 1 ≡ length tokens = omega arith in
+    let rest : take (length (token ∷ tokens) - 1) tokens ≡ tokens = ap (λ (n : ℕ). take n tokens) size ∙ take-length tokens in
+    subst (λ (t : Token). Shows z older (tells_all c tokens (tells c t w))) is
+    (subst (λ (ts : List Token). Shows z older (tells_all c ts (tells c own w))) rest shows)
+
+-- what a run says is told
+pub heard_there : (z : Machine) (older : List Order) (run : Run) (bytes bytes' : List ℕ) (w : World) (book : RunBook)
+    (found : Option ℕ) (tokens : List Token)
+    → w.runs ≡ book → bytes' ≡ bytes → found ≡ teller run book → tokens ≡ new_tokens run bytes' book
+    → Shows z older (tells_by found tokens (record w { runs = heard run bytes' w.runs }))
+    → Shows z older (hears run bytes w)
+heard_there z older run bytes bytes' w book found tokens is_book is_bytes is_found is_tokens shows =
+    let after = record w { runs = heard run bytes' w.runs } in
+    subst (λ (said : List ℕ). Shows z older (hears run said w)) is_bytes
+    (subst (λ (t : Option ℕ). Shows z older (tells_by t (new_tokens run bytes' w.runs) after)) (is_found ∙ ap (teller run) (sym is_book))
+    (subst (λ (ts : List Token). Shows z older (tells_by found ts after)) (is_tokens ∙ ap (new_tokens run bytes') (sym is_book)) shows))
+
+-- the child of a place
+pub at_there : (xs : List Child) (i : ℕ) (x : Child) → i < length xs → x ≡ get_or xs i x → slice_get xs i ≡ Some x
+at_there [] i x within is = absurd (omega (arith, within))
+at_there (y ∷ xs) zero x within is = ap Some (sym is)
+at_there (y ∷ xs) (suc i) x within is = at_there xs i x (omega (arith, within)) is
+
+-- whether the listener of a place is ready
+pub up_there : (x : Machine) (older : List Order) (w : World) (c : ℕ) (child : Child) (found : Option Run) → Shows x older w
+    → slice_get x.children.all c ≡ Some child → is_up child.state ≡ true → found ≡ ready_one child.run w.runs
+    → found ≡ ready_of (slice_get w.children.all c) w.runs
+up_there x older w c child found s at up is =
+    let here : ready_of (slice_get w.children.all c) w.runs ≡ ready_of (Some child) w.runs =
+    ap (λ (o : Option Child). ready_of o w.runs) (ap (λ (v : World). slice_get v.children.all c) s.is ∙ at) in
+    is ∙ sym (here ∙ rw up refl)
+
+pub down_there : (x : Machine) (older : List Order) (w : World) (c : ℕ) (child : Child) → Shows x older w
+    → slice_get x.children.all c ≡ Some child → is_up child.state ≡ false
+    → None ≡ ready_of (slice_get w.children.all c) w.runs
+down_there x older w c child s at down =
+    let here : ready_of (slice_get w.children.all c) w.runs ≡ ready_of (Some child) w.runs =
+    ap (λ (o : Option Child). ready_of o w.runs) (ap (λ (v : World). slice_get v.children.all c) s.is ∙ at) in
+    sym (here ∙ rw down refl)
+
+-- a listener that a write failed to, and that holds an event
+pub lost_there : (z : Machine) (older : List Order) (c : ℕ) (run : Run) (child : Option ℕ) (w : World)
+    → child ≡ Some c → holds (id_of c) w.pools ≡ true
+    → Shows z older (gives_back c (record w { runs = lost run w.runs }))
+    → Shows z older (loses_of child run w)
+lost_there z older c run child w is test shows =
+    subst (λ (o : Option ℕ). Shows z older (loses_of o run w)) (sym is) (rw test shows)
+
+-- an event is sent
+pub sent_there : (z : Machine) (older : List Order) (found : Option Run) (run : Run) (c : ℕ) (w : World)
+    → found ≡ Some run → Shows z older (sends run c w) → Shows z older (sends_to found c w)
+sent_there z older found run c w is shows = subst (λ (o : Option Run). Shows z older (sends_to o c w)) (sym is) shows
+
+-- the pools, the runs and the orders are others
+pub sends_there : (w : World) (older given later more : List Order) (pools : EventPools) (book : RunBook)
+    → w.given ≡ older ++ given → later ≡ given ++ more
+    → record w { pools = pools; runs = book; given = w.given ++ more } ≡ record w { pools = pools; runs = book; given = older ++ later }
+sends_there w older given later more pools book is added =
+    ap (λ (all : List Order). record w { pools = pools; runs = book; given = all }) (rw (is, added) (append_assoc older given more))
+
+pub hands_next : (n c : ℕ) (w : World) → c < n → hands_from (n - c) c w ≡ hands_from (n - (c + 1)) (c + 1) (hands_to c w)
+hands_next n c w below =
+    let size : n - c ≡ suc (n - (c + 1)) = omega arith in ap (λ left. hands_from left c w) size
+
+pub hands_done : (n c : ℕ) (w : World) → n ≤ c → hands_from (n - c) c w ≡ w
+hands_done n c w past = let size : n - c ≡ 0 = omega arith in ap (λ left. hands_from left c w) size
