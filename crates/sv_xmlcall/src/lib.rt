@@ -15,6 +15,7 @@ mod letters;
 pub mod log;
 mod nested;
 pub mod read;
+mod room;
 mod simple;
 mod stop;
 mod tag;

@@ -2,9 +2,10 @@
 ghost use Rattle.std.specs.Prelude.{◌≡◌, ◌≤◌, ◌++◌, IfOk, OnOk, codes, length};
 ghost use Rattle.std.specs.Fmt.{signed_decimal};
 ghost use Rattle.sv_xmlcall.specs.Trees.{view, trees_view, members_view, call_view, Returns, Faults};
-ghost use Rattle.sv_xmlcall.specs.Written.{escaped_byte, digit_of, escaped, opening, closing, element, fault_tree, written_form, written_value, written_values, written_members, written_params, written_call, written_reply};
+ghost use Rattle.sv_xmlcall.specs.Written.{escaped_byte, digit_of, escaped, opening, closing, element, fault_tree, declaration, written_form, written_value, written_values, written_members, written_params, written_call, written_reply};
 
 use crate::call::Call;
+use crate::room::{room_of_call, room_of_reply};
 use crate::simple::push_run;
 use crate::value::Value;
 use itoa::Buffer;
@@ -18,7 +19,7 @@ const DECLARATION: &[u8] = b"<?xml version='1.0'?>";
 pub fn write_call(alloc: Global, call: &Call) -> Result<Bytes, AllocError>
     ensures { IfOk result (λ bytes. bytes ≡ written_call (call_view call.now)) }
 {
-    let mut out = Vec::from_slice(alloc, DECLARATION)?;
+    let mut out = begin(alloc, room_of_call(call))?;
     open(&mut out, b"methodCall")?;
     put_method(&mut out, &call.method)?;
     put_params(&mut out, &call.params)?;
@@ -30,7 +31,7 @@ pub fn write_call(alloc: Global, call: &Call) -> Result<Bytes, AllocError>
 pub fn write_reply(alloc: Global, value: &Value) -> Result<Bytes, AllocError>
     ensures { IfOk result (λ bytes. bytes ≡ written_reply (Returns (view value.now))) }
 {
-    let mut out = Vec::from_slice(alloc, DECLARATION)?;
+    let mut out = begin(alloc, room_of_reply(value))?;
     open(&mut out, b"methodResponse")?;
     open(&mut out, b"params")?;
     put_param(&mut out, value)?;
@@ -44,13 +45,22 @@ pub fn write_fault(alloc: Global, number: i64, text: &str) -> Result<Bytes, Allo
     ensures { IfOk result (λ bytes. bytes ≡ written_reply (Faults number text.now)) }
 {
     let fault = fault_value(alloc, number, text)?;
-    let mut out = Vec::from_slice(alloc, DECLARATION)?;
+    let mut out = begin(alloc, room_of_reply(&fault))?;
     open(&mut out, b"methodResponse")?;
     open(&mut out, b"fault")?;
     put_value(&mut out, &fault)?;
     close(&mut out, b"fault")?;
     close(&mut out, b"methodResponse")?;
     Ok(Bytes::from_vec(out))
+}
+
+/// A text of which the declaration stands, with room for so many bytes.
+fn begin(alloc: Global, room: usize) -> Result<Vec<u8>, AllocError>
+    ensures { IfOk result (λ out. out.items ≡ declaration) }
+{
+    let mut out = Vec::with_capacity(alloc, room)?;
+    out.extend_from_slice(DECLARATION)?;
+    Ok(out)
 }
 
 /// The struct of a fault.
