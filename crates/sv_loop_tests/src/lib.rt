@@ -3,6 +3,8 @@
 #![tactic(auto)]
 
 #[cfg(test)]
+mod listener_tests;
+#[cfg(test)]
 mod long_tests;
 #[cfg(test)]
 mod order_tests;

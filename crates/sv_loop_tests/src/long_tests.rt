@@ -70,8 +70,8 @@ const CASES: [Case; 33] = [
         written: "fault 6 not built\n",
     },
     Case {
-        name: "a_pool_is_not_built",
-        journal: "supervisor-journal 1\nhost h\nhere /etc\npid 1\nconf [supervisord]%0Alogfile=NONE%0A[eventlistener:e]%0Acommand=e%0Aevents=TICK_5%0Astdout_logfile=NONE%0Astderr_logfile=NONE%0A\ngo 0\n",
+        name: "a_listeners_log_is_not_built",
+        journal: "supervisor-journal 1\nhost h\nhere /etc\npid 1\nconf [supervisord]%0Alogfile=NONE%0A[eventlistener:e]%0Acommand=e%0Aevents=TICK_5%0Astdout_logfile=NONE%0A\ngo 0\n",
         status: 6,
         written: "fault 6 not built\n",
     },
