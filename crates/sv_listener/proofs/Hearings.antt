@@ -3,12 +3,12 @@ use Rattle.std.proofs.Common.{◌≡◌, ◌<◌, ◌≤◌, ◌+◌, ◌-◌, �
 use Rattle.std.specs.Prelude.{is_some, option_map, if◌then◌else◌}
 use Rattle.std.proofs.lemmas.Bool.Decides.{nat_tests}
 use Rattle.std.proofs.lemmas.List.{take-append-le, drop-append-le}
-use Rattle.sv_listener.proofs.Cuts.{with_front, Cuts, cuts}
+use Rattle.sv_listener.proofs.Cuts.{with_front, cuts}
 use Rattle.sv_listener.specs.Reading.{cut_at}
 use Rattle.sv_listener.specs.Limits.{header_limit, body_limit}
 use Rattle.sv_listener.specs.HeaderLine.{Header, header_of}
 use Rattle.sv_listener.specs.Hearing.{Hearing, End, event_of, with_body, with_header, by_line, first_of, end_of, with_event, hears_by, hears_at, hearing_of, fault_of, is_between}
-use Rattle.sv_listener.specs.Hearing.End.{Between, Within, Faulty}
+use Rattle.sv_listener.specs.Hearing.End.{Between, Faulty}
 use Rattle.sv_listener.specs.Takes.{with_events, GoesOn, IsOver, Stands, Takes}
 use Rattle.sv_listener.specs.declared.events.Heard.{Heard}
 use Rattle.sv_listener.specs.declared.events.HeardFault.{HeardFault}

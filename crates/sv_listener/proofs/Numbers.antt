@@ -1,16 +1,17 @@
 -- Numbers in digits, and what parsing gives of them.
-use Rattle.std.proofs.Common.{◌≡◌, ◌<◌, ◌≤◌, ◌+◌, ◌^◌, ◌==◌, ◌&&◌, ℕ, List, [], ◌∷◌, Bool, true, false, not, Result, Ok, Err, Option, None, Some, length, get_or, nat_lt, refl, ap, sym, ◌∙◌, subst, arith}
+use Rattle.std.proofs.Common.{◌≡◌, ◌<◌, ◌^◌, ◌==◌, ◌&&◌, ℕ, List, Bool, true, false, not, Result, Ok, Err, Option, None, Some, length, get_or, nat_lt, refl, ap, sym, ◌∙◌, subst, arith}
 use Rattle.std.proofs.Common.{rules}
 use Rattle.std.proofs.lemmas.Bool.{and_parts}
 use Rattle.std.proofs.lemmas.Bool.Decides.{nat_tests}
-use Rattle.std.proofs.lemmas.Str.Parse.{IsNumeralModel, IsDigitsTest, numerals_by_value, parse_digits}
+use Rattle.std.proofs.lemmas.Str.Parse.{IsNumeralModel, numerals_by_value, parse_digits}
 use Rattle.std.specs.Char.{is_ascii_digit}
 use Rattle.std.specs.List.{list_all}
 use Rattle.std.specs.Result.{OkIff}
 use Rattle.std.specs.Str.Parse.{digits_value, ParsesUnsigned}
-use Rattle.std.specs.Prelude.{◌||◌, slice_index, if◌then◌else◌}
+use Rattle.std.specs.Prelude.{◌||◌, MatchOption, slice_index, if◌then◌else◌}
 use Rattle.std.specs.Str.{IsUtf8, is_utf8}
 use Rattle.std.proofs.lemmas.Str.{IsUtf8-from_is_utf8, is_utf8-from_IsUtf8}
+use Rattle.sv_listener.specs.ExitBody.{pid_in, pid_of}
 use Rattle.sv_listener.specs.Reading.{◌>>=◌, provided, cut_at, is_number, text_at, small_number, size_of, size_at}
 use Rattle.sv_listener.specs.declared.header.Size.{Size}
 use Rattle.sv_listener.specs.declared.header.Size.TheVariants.{Bytes, Endless}
@@ -142,3 +143,16 @@ long_number ds some other =
     and_of_true (list_all is_ascii_digit ds) (nat_lt 0 (length ds)) (length ds == 1 || not (slice_index ds 0 == 48))
     (lt_is 0 (length ds) some)
     (or_true (length ds == 1) (not (slice_index ds 0 == 48)) (not_false (slice_index ds 0 == 48) (eqb_false (slice_index ds 0) 48 other)))
+
+-- the number of a process
+
+pub pid_none : (bytes : List ℕ) → (IsUtf8 bytes → ⊥) → pid_in bytes ≡ None
+pid_none bytes bad = ap (λ test. if test then pid_of bytes else None) (not_utf8 bytes bad)
+
+pub pid_good : (bytes text : List ℕ) (found : Option ℕ) → IsUtf8 bytes → text ≡ bytes
+    → MatchOption found (pid_of text ≡ None) (λ pid. pid_of text ≡ Some pid) → MatchOption found (pid_in bytes ≡ None) (λ pid. pid_in bytes ≡ Some pid)
+pid_good bytes text found good same is =
+    let read : pid_of text ≡ pid_in bytes
+    = ap pid_of same ∙ sym (ap (λ test. if test then pid_of bytes else None) (is_utf8-from_IsUtf8 bytes good)) in
+    let P : Option ℕ → Type 0 = λ said. MatchOption found (said ≡ None) (λ pid. said ≡ Some pid) in
+    subst P read is

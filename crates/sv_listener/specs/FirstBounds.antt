@@ -1,7 +1,7 @@
 -- How many bytes an event has that stands first.
 use Rattle.std.specs.Prelude.{◌≤◌, ℕ, ⊤}
 use Rattle.sv_listener.specs.declared.first.First.{First}
-use Rattle.sv_listener.specs.declared.first.First.TheVariants.{Open, Fault, Whole}
+use Rattle.sv_listener.specs.declared.first.First.TheVariants.{Whole}
 
 -- some bytes, and at most so many
 abbrev pub IsWithin : First → ℕ → Type 0

@@ -1,5 +1,5 @@
 -- What the reader of a header line gives.
-use Rattle.std.specs.Prelude.{◌≡◌, ℕ, List, Option, None, Some}
+use Rattle.std.specs.Prelude.{◌≡◌, Option, None, Some}
 use Rattle.sv_listener.specs.HeaderLine.{Header as Said}
 use Rattle.sv_listener.specs.declared.header.Header.{Header}
 

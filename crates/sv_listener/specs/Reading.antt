@@ -8,7 +8,6 @@ use Rattle.sv_base.specs.KindNames.{kind_name, all_kinds}
 use Rattle.sv_base.specs.declared.kind.Kind.{Kind}
 use Rattle.sv_listener.specs.declared.header.Size.{Size}
 use Rattle.sv_listener.specs.declared.header.Size.TheVariants.{Bytes, Endless}
-use Rattle.sv_pipes.specs.StreamCut.{rest_after}
 
 -- what is read after what was read
 infixl 10 ◌>>=◌

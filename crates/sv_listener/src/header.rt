@@ -69,7 +69,7 @@ fn named<'a>(pool: &'a str, serial: u64, poolserial: u64, bytes: &[u8]) -> Optio
 }
 
 /// What follows this word.
-fn after<'a>(word: &[u8], bytes: &'a [u8]) -> Option<&'a [u8]>
+pub(crate) fn after<'a>(word: &[u8], bytes: &'a [u8]) -> Option<&'a [u8]>
     ensures { MatchOption result (rest_after word.now bytes.now ≡ None)
         (λ rest. rest_after word.now bytes.now ≡ Some rest.now) }
 {
@@ -104,7 +104,7 @@ pub(crate) fn cut(stop: u8, bytes: &[u8]) -> Option<(&[u8], &[u8])>
 }
 
 /// A text up to a space, and what follows that.
-fn text(bytes: &[u8]) -> Option<(&str, &[u8])>
+pub(crate) fn text(bytes: &[u8]) -> Option<(&str, &[u8])>
     ensures { MatchOption result (text_at bytes.now ≡ None)
         (λ parts. text_at bytes.now ≡ Some (parts.0.now, parts.1.now)) }
 {
@@ -125,7 +125,7 @@ fn number(bytes: &[u8]) -> Option<(u64, &[u8])>
     Some((value, rest))
 }
 
-fn small_number(digits: &str) -> Option<u64>
+pub(crate) fn small_number(digits: &str) -> Option<u64>
     ensures { MatchOption result (small_number digits.now ≡ None)
         (λ value. small_number digits.now ≡ Some value) }
 {

@@ -1,4 +1,4 @@
-use Rattle.std.proofs.Common.{◌≡◌, ◌≤◌, ◌-◌, ◌++◌, ℕ, List, length, drop}
+use Rattle.std.proofs.Common.{◌≤◌, ◌-◌, ◌++◌, ℕ, List, length, drop}
 use Rattle.sv_listener.specs.Takes.{GoesOn}
 use Rattle.sv_listener.specs.declared.events.Heard.{Heard}
 use Rattle.sv_listener.proofs.side.take_events.Given as goal

@@ -1,4 +1,4 @@
-use Rattle.std.proofs.Common.{◌++◌, ℕ, List, drop, ap, sym, ◌∙◌, refl}
+use Rattle.std.proofs.Common.{◌++◌, drop, ap, sym, ◌∙◌, refl}
 use Rattle.sv_listener.proofs.Hearings.{fed, stands_hearing}
 use Rattle.sv_listener.specs.Hearing.{Hearing}
 use Rattle.sv_listener.proofs.side.ListenerSide.feed.Goals as goal

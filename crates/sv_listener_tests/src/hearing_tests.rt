@@ -2,10 +2,9 @@
 
 ghost use Rattle.std.specs.Prelude.{◌≤◌};
 
-use crate::events::HeardFault;
-use crate::side::ListenerSide;
 use std::alloc::Global;
 use std::process::Abort;
+use sv_listener::{HeardFault, ListenerSide};
 
 // Two events, of which the second has no body.
 const STREAM: &[u8] =
