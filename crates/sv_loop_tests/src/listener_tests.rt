@@ -2,7 +2,7 @@
 
 use crate::tests::{Case, play};
 
-const CASES: [Case; 87] = [
+const CASES: [Case; 93] = [
     Case {
         name: "a_listener_that_answers",
         journal: "supervisor-journal 1\nhost h\nhere /etc\npid 1\nconf [supervisord]%0Alogfile=NONE%0A[eventlistener:ear]%0Acommand=/bin/ear%0Aevents=TICK_5%0Astdout_logfile=NONE%0Astderr_logfile=NONE%0A\ngo 0\n0 tick\npid 5\n1000 out 1 READY%0A\n5000 tick\n5001 out 1 RESULT%202%0AOKREADY%0A\n10000 tick\n",
@@ -82,6 +82,12 @@ const CASES: [Case; 87] = [
         written: "state e e STOPPED STARTING\nspawn 1 e e % % % 1 e 3 SUPERVISOR_ENABLED 1 SUPERVISOR_GROUP_NAME e SUPERVISOR_PROCESS_NAME e\nstate e e STARTING RUNNING\nstate e e RUNNING EXITED\nstate e e EXITED STARTING\nspawn 2 e e % % % 1 e 3 SUPERVISOR_ENABLED 1 SUPERVISOR_GROUP_NAME e SUPERVISOR_PROCESS_NAME e\nstate e e STARTING RUNNING\nstdin 2 ver:3.0%20server:supervisor%20serial:0%20pool:e%20poolserial:0%20eventname:TICK_5%20len:6%0Awhen:5\n",
     },
     Case {
+        name: "a_ready_listener_that_ended_early",
+        journal: "supervisor-journal 1\nhost h\nhere /etc\npid 1\nconf [supervisord]%0Alogfile=NONE%0A[eventlistener:e]%0Acommand=e%0Aevents=TICK_5%0Astdout_logfile=NONE%0Astderr_logfile=NONE%0A\ngo 0\n0 tick\npid 5\n100 out 1 READY%0A\n200 exit 1 code 0\n1200 tick\npid 6\n5000 tick\n5001 out 2 READY%0A\n",
+        status: 0,
+        written: "state e e STOPPED STARTING\nspawn 1 e e % % % 1 e 3 SUPERVISOR_ENABLED 1 SUPERVISOR_GROUP_NAME e SUPERVISOR_PROCESS_NAME e\nstate e e STARTING BACKOFF\nstate e e BACKOFF STARTING\nspawn 2 e e % % % 1 e 3 SUPERVISOR_ENABLED 1 SUPERVISOR_GROUP_NAME e SUPERVISOR_PROCESS_NAME e\nstate e e STARTING RUNNING\nstdin 2 ver:3.0%20server:supervisor%20serial:0%20pool:e%20poolserial:0%20eventname:TICK_5%20len:6%0Awhen:5\n",
+    },
+    Case {
         name: "half_a_word_of_the_old_run_is_forgotten",
         journal: "supervisor-journal 1\nhost h\nhere /etc\npid 1\nconf [supervisord]%0Alogfile=NONE%0A[eventlistener:e]%0Acommand=e%0Aevents=TICK_5%0Astdout_logfile=NONE%0Astderr_logfile=NONE%0A\ngo 0\n0 tick\npid 5\n1000 out 1 REA\n2000 exit 1 code 1\npid 6\n3000 out 2 DY%0A\n5000 tick\n",
         status: 0,
@@ -114,6 +120,12 @@ const CASES: [Case; 87] = [
     Case {
         name: "a_byte_in_ready_in_one_piece_with_it",
         journal: "supervisor-journal 1\nhost h\nhere /etc\npid 1\nconf [supervisord]%0Alogfile=NONE%0A[eventlistener:e]%0Acommand=e%0Aevents=TICK_5%0Astdout_logfile=NONE%0Astderr_logfile=NONE%0A\ngo 0\n0 tick\npid 5\n1000 out 1 READY%0A%0A\n5000 tick\n",
+        status: 0,
+        written: "state e e STOPPED STARTING\nspawn 1 e e % % % 1 e 3 SUPERVISOR_ENABLED 1 SUPERVISOR_GROUP_NAME e SUPERVISOR_PROCESS_NAME e\nstate e e STARTING RUNNING\n",
+    },
+    Case {
+        name: "a_result_before_its_event_is_unknown",
+        journal: "supervisor-journal 1\nhost h\nhere /etc\npid 1\nconf [supervisord]%0Alogfile=NONE%0A[eventlistener:e]%0Acommand=e%0Aevents=TICK_5%0Astdout_logfile=NONE%0Astderr_logfile=NONE%0A\ngo 0\n0 tick\npid 5\n1000 out 1 READY%0ARESULT%202%0AOK\n5000 tick\n",
         status: 0,
         written: "state e e STOPPED STARTING\nspawn 1 e e % % % 1 e 3 SUPERVISOR_ENABLED 1 SUPERVISOR_GROUP_NAME e SUPERVISOR_PROCESS_NAME e\nstate e e STARTING RUNNING\n",
     },
@@ -214,6 +226,18 @@ const CASES: [Case; 87] = [
         written: "state e e_0 STOPPED STARTING\nspawn 1 e e_0 % % % 1 e 3 SUPERVISOR_ENABLED 1 SUPERVISOR_GROUP_NAME e SUPERVISOR_PROCESS_NAME e_0\nstate e e_1 STOPPED STARTING\nspawn 2 e e_1 % % % 1 e 3 SUPERVISOR_ENABLED 1 SUPERVISOR_GROUP_NAME e SUPERVISOR_PROCESS_NAME e_1\nstate e e_0 STARTING RUNNING\nstate e e_1 STARTING RUNNING\nstdin 1 ver:3.0%20server:supervisor%20serial:0%20pool:e%20poolserial:0%20eventname:TICK_5%20len:6%0Awhen:5\nstate e e_0 RUNNING EXITED\nstate e e_0 EXITED STARTING\nspawn 3 e e_0 % % % 1 e 3 SUPERVISOR_ENABLED 1 SUPERVISOR_GROUP_NAME e SUPERVISOR_PROCESS_NAME e_0\nstdin 2 ver:3.0%20server:supervisor%20serial:0%20pool:e%20poolserial:0%20eventname:TICK_5%20len:6%0Awhen:5\n",
     },
     Case {
+        name: "a_failed_spawn_before_the_hand_out",
+        journal: "supervisor-journal 1\nhost h\nhere /etc\npid 1\nconf [supervisord]%0Alogfile=NONE%0A[eventlistener:e]%0Acommand=e%0Aevents=TICK_5%0Aprocess_name=e_%25(process_num)d%0Anumprocs=2%0Astdout_logfile=NONE%0Astderr_logfile=NONE%0A\ngo 0\n0 tick\npid 5\npid 6\n1000 tick\n1001 out 1 READY%0A\n1002 out 2 READY%0A\n5000 tick\n6000 exit 1 signal 9\nfailed 9\n",
+        status: 0,
+        written: "state e e_0 STOPPED STARTING\nspawn 1 e e_0 % % % 1 e 3 SUPERVISOR_ENABLED 1 SUPERVISOR_GROUP_NAME e SUPERVISOR_PROCESS_NAME e_0\nstate e e_1 STOPPED STARTING\nspawn 2 e e_1 % % % 1 e 3 SUPERVISOR_ENABLED 1 SUPERVISOR_GROUP_NAME e SUPERVISOR_PROCESS_NAME e_1\nstate e e_0 STARTING RUNNING\nstate e e_1 STARTING RUNNING\nstdin 1 ver:3.0%20server:supervisor%20serial:0%20pool:e%20poolserial:0%20eventname:TICK_5%20len:6%0Awhen:5\nstate e e_0 RUNNING EXITED\nstate e e_0 EXITED STARTING\nspawn 3 e e_0 % % % 1 e 3 SUPERVISOR_ENABLED 1 SUPERVISOR_GROUP_NAME e SUPERVISOR_PROCESS_NAME e_0\nstate e e_0 STARTING BACKOFF\nstdin 2 ver:3.0%20server:supervisor%20serial:0%20pool:e%20poolserial:0%20eventname:TICK_5%20len:6%0Awhen:5\n",
+    },
+    Case {
+        name: "a_listener_hears_of_the_other",
+        journal: "supervisor-journal 1\nhost h\nhere /etc\npid 1\nconf [supervisord]%0Alogfile=NONE%0A[eventlistener:e]%0Acommand=e%0Aevents=PROCESS_STATE_EXITED%0Aprocess_name=e_%25(process_num)d%0Anumprocs=2%0Astdout_logfile=NONE%0Astderr_logfile=NONE%0A\ngo 0\n0 tick\npid 5\npid 6\n1000 tick\n1001 out 1 READY%0A\n1002 out 2 READY%0A\n6000 exit 1 code 0\n",
+        status: 0,
+        written: "state e e_0 STOPPED STARTING\nspawn 1 e e_0 % % % 1 e 3 SUPERVISOR_ENABLED 1 SUPERVISOR_GROUP_NAME e SUPERVISOR_PROCESS_NAME e_0\nstate e e_1 STOPPED STARTING\nspawn 2 e e_1 % % % 1 e 3 SUPERVISOR_ENABLED 1 SUPERVISOR_GROUP_NAME e SUPERVISOR_PROCESS_NAME e_1\nstate e e_0 STARTING RUNNING\nstate e e_1 STARTING RUNNING\nstate e e_0 RUNNING EXITED\nstdin 2 ver:3.0%20server:supervisor%20serial:0%20pool:e%20poolserial:0%20eventname:PROCESS_STATE_EXITED%20len:63%0Aprocessname:e_0%20groupname:e%20from_state:RUNNING%20expected:1%20pid:5\n",
+    },
+    Case {
         name: "an_overflow_by_an_event_and_one_by_a_reject",
         journal: "supervisor-journal 1\nhost h\nhere /etc\npid 1\nconf [supervisord]%0Alogfile=NONE%0A[eventlistener:e]%0Acommand=e%0Aevents=TICK_5%0Abuffer_size=2%0Astdout_logfile=NONE%0Astderr_logfile=NONE%0A\ngo 0\n0 tick\npid 5\n1000 out 1 READY%0A\n5000 tick\n10000 tick\n15000 tick\n20000 tick\n20001 out 1 RESULT%204%0AFAIL\n20002 out 1 READY%0A\n20003 out 1 RESULT%202%0AOKREADY%0A\n",
         status: 0,
@@ -266,6 +290,12 @@ const CASES: [Case; 87] = [
         journal: "supervisor-journal 1\nhost h\nhere /etc\npid 1\nconf [supervisord]%0Alogfile=NONE%0A[eventlistener:e]%0Acommand=e%0Aevents=TICK_5%0Astdout_logfile=NONE%0Astderr_logfile=NONE%0A\ngo 0\n0 tick\npid 5\n1000 out 1 READY%0A\n5000 tick\n10000 out 1 RESULT%202%0AOKREADY%0A\n",
         status: 0,
         written: "state e e STOPPED STARTING\nspawn 1 e e % % % 1 e 3 SUPERVISOR_ENABLED 1 SUPERVISOR_GROUP_NAME e SUPERVISOR_PROCESS_NAME e\nstate e e STARTING RUNNING\nstdin 1 ver:3.0%20server:supervisor%20serial:0%20pool:e%20poolserial:0%20eventname:TICK_5%20len:6%0Awhen:5\nstdin 1 ver:3.0%20server:supervisor%20serial:1%20pool:e%20poolserial:1%20eventname:TICK_5%20len:7%0Awhen:10\n",
+    },
+    Case {
+        name: "any_moment_is_a_look_at_the_clock",
+        journal: "supervisor-journal 1\nhost h\nhere /etc\npid 1\nconf [supervisord]%0Alogfile=NONE%0A[eventlistener:e]%0Acommand=e%0Aevents=TICK_5%0Astdout_logfile=NONE%0Astderr_logfile=NONE%0A\ngo 0\n0 tick\npid 5\n1000 out 1 READY%0A\n5000 start nobody\n5001 out 1 RESULT%202%0AOKREADY%0A\n10000 err 1 x\n10001 out 1 RESULT%202%0AOKREADY%0A\n15000 signal USR2\n15001 out 1 RESULT%202%0AOKREADY%0A\n20000 errend 1\n",
+        status: 0,
+        written: "state e e STOPPED STARTING\nspawn 1 e e % % % 1 e 3 SUPERVISOR_ENABLED 1 SUPERVISOR_GROUP_NAME e SUPERVISOR_PROCESS_NAME e\nstate e e STARTING RUNNING\nstdin 1 ver:3.0%20server:supervisor%20serial:0%20pool:e%20poolserial:0%20eventname:TICK_5%20len:6%0Awhen:5\nstdin 1 ver:3.0%20server:supervisor%20serial:1%20pool:e%20poolserial:1%20eventname:TICK_5%20len:7%0Awhen:10\nstdin 1 ver:3.0%20server:supervisor%20serial:2%20pool:e%20poolserial:2%20eventname:TICK_5%20len:7%0Awhen:15\nstdin 1 ver:3.0%20server:supervisor%20serial:3%20pool:e%20poolserial:3%20eventname:TICK_5%20len:7%0Awhen:20\n",
     },
     Case {
         name: "a_tick_in_the_first_turn",
@@ -458,6 +488,12 @@ const CASES: [Case; 87] = [
         journal: "supervisor-journal 1\nhost h\nhere /etc\npid 1\nconf [supervisord]%0Alogfile=NONE%0A[eventlistener:e]%0Acommand=e%0Aevents=TICK_5%0Aprocess_name=e_%25(process_num)d%0Anumprocs=2%0Astdout_logfile=NONE%0Astderr_logfile=NONE%0A\ngo 0\n0 tick\npid 5\npid 6\n1000 tick\n1001 out 1 READY%0A\n1002 out 2 READY%0A\n5000 tick\nfailed 6\n5001 tick\n",
         status: 0,
         written: "state e e_0 STOPPED STARTING\nspawn 1 e e_0 % % % 1 e 3 SUPERVISOR_ENABLED 1 SUPERVISOR_GROUP_NAME e SUPERVISOR_PROCESS_NAME e_0\nstate e e_1 STOPPED STARTING\nspawn 2 e e_1 % % % 1 e 3 SUPERVISOR_ENABLED 1 SUPERVISOR_GROUP_NAME e SUPERVISOR_PROCESS_NAME e_1\nstate e e_0 STARTING RUNNING\nstate e e_1 STARTING RUNNING\nstdin 1 ver:3.0%20server:supervisor%20serial:0%20pool:e%20poolserial:0%20eventname:TICK_5%20len:6%0Awhen:5\nstdin 2 ver:3.0%20server:supervisor%20serial:0%20pool:e%20poolserial:0%20eventname:TICK_5%20len:6%0Awhen:5\n",
+    },
+    Case {
+        name: "a_failed_write_behind_an_answer",
+        journal: "supervisor-journal 1\nhost h\nhere /etc\npid 1\nconf [supervisord]%0Alogfile=NONE%0A[eventlistener:e]%0Acommand=e%0Aevents=TICK_5%0Aprocess_name=e_%25(process_num)d%0Anumprocs=2%0Astdout_logfile=NONE%0Astderr_logfile=NONE%0A\ngo 0\n0 tick\npid 5\npid 6\n1000 tick\n1001 out 1 READY%0A\n1002 out 2 READY%0A\n5000 tick\n6000 exit 1 signal 9\npid 7\nfailed 10\n6001 out 2 RESULT%202%0AOKREADY%0A\n7000 out 3 READY%0A\n",
+        status: 0,
+        written: "state e e_0 STOPPED STARTING\nspawn 1 e e_0 % % % 1 e 3 SUPERVISOR_ENABLED 1 SUPERVISOR_GROUP_NAME e SUPERVISOR_PROCESS_NAME e_0\nstate e e_1 STOPPED STARTING\nspawn 2 e e_1 % % % 1 e 3 SUPERVISOR_ENABLED 1 SUPERVISOR_GROUP_NAME e SUPERVISOR_PROCESS_NAME e_1\nstate e e_0 STARTING RUNNING\nstate e e_1 STARTING RUNNING\nstdin 1 ver:3.0%20server:supervisor%20serial:0%20pool:e%20poolserial:0%20eventname:TICK_5%20len:6%0Awhen:5\nstate e e_0 RUNNING EXITED\nstate e e_0 EXITED STARTING\nspawn 3 e e_0 % % % 1 e 3 SUPERVISOR_ENABLED 1 SUPERVISOR_GROUP_NAME e SUPERVISOR_PROCESS_NAME e_0\nstdin 2 ver:3.0%20server:supervisor%20serial:0%20pool:e%20poolserial:0%20eventname:TICK_5%20len:6%0Awhen:5\nstate e e_0 STARTING RUNNING\nstdin 3 ver:3.0%20server:supervisor%20serial:0%20pool:e%20poolserial:0%20eventname:TICK_5%20len:6%0Awhen:5\n",
     },
     Case {
         name: "two_failed_writes",
