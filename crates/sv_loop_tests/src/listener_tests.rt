@@ -1,8 +1,10 @@
-//! Journals with event listeners, which hold, answer and give back what happens.
+//! Journals with event listeners, which hold, answer and give back what happens. There are several tables, since one of
+//! all journals takes more steps to prove than a proof may take.
 
 use crate::tests::{Case, play};
 
-const CASES: [Case; 93] = [
+/// Who is handed an event, and by which numbers.
+const HAND_OUTS: [Case; 8] = [
     Case {
         name: "a_listener_that_answers",
         journal: "supervisor-journal 1\nhost h\nhere /etc\npid 1\nconf [supervisord]%0Alogfile=NONE%0A[eventlistener:ear]%0Acommand=/bin/ear%0Aevents=TICK_5%0Astdout_logfile=NONE%0Astderr_logfile=NONE%0A\ngo 0\n0 tick\npid 5\n1000 out 1 READY%0A\n5000 tick\n5001 out 1 RESULT%202%0AOKREADY%0A\n10000 tick\n",
@@ -51,6 +53,10 @@ const CASES: [Case; 93] = [
         status: 0,
         written: "state a a STOPPED STARTING\nspawn 1 a a % % % 1 a 3 SUPERVISOR_ENABLED 1 SUPERVISOR_GROUP_NAME a SUPERVISOR_PROCESS_NAME a\nstate b b STOPPED STARTING\nspawn 2 b b % % % 1 b 3 SUPERVISOR_ENABLED 1 SUPERVISOR_GROUP_NAME b SUPERVISOR_PROCESS_NAME b\nstate a a STARTING RUNNING\nstate b b STARTING RUNNING\nstdin 2 ver:3.0%20server:supervisor%20serial:0%20pool:b%20poolserial:0%20eventname:TICK_5%20len:6%0Awhen:5\nstdin 2 ver:3.0%20server:supervisor%20serial:1%20pool:b%20poolserial:1%20eventname:TICK_5%20len:7%0Awhen:10\nstdin 1 ver:3.0%20server:supervisor%20serial:3%20pool:a%20poolserial:0%20eventname:TICK_60%20len:7%0Awhen:60\nstdin 2 ver:3.0%20server:supervisor%20serial:2%20pool:b%20poolserial:2%20eventname:TICK_5%20len:7%0Awhen:60\n",
     },
+];
+
+/// A listener that ends, and its next run.
+const LATER_RUNS: [Case; 9] = [
     Case {
         name: "an_exit_gives_the_event_back_behind_its_edges",
         journal: "supervisor-journal 1\nhost h\nhere /etc\npid 1\nconf [supervisord]%0Alogfile=NONE%0A[eventlistener:e]%0Acommand=e%0Aevents=TICK_5,PROCESS_STATE_EXITED%0Abuffer_size=1%0Astdout_logfile=NONE%0Astderr_logfile=NONE%0A\ngo 0\n0 tick\npid 5\n1000 out 1 READY%0A\n5000 tick\n6000 exit 1 code 1\npid 6\n7000 out 2 READY%0A\n",
@@ -105,6 +111,10 @@ const CASES: [Case; 93] = [
         status: 0,
         written: "state e e STOPPED STARTING\nspawn 1 e e % % % 1 e 3 SUPERVISOR_ENABLED 1 SUPERVISOR_GROUP_NAME e SUPERVISOR_PROCESS_NAME e\nstate e e STARTING RUNNING\nstate e e RUNNING EXITED\nstate e e EXITED STARTING\nspawn 2 e e % % % 1 e 3 SUPERVISOR_ENABLED 1 SUPERVISOR_GROUP_NAME e SUPERVISOR_PROCESS_NAME e\nstate e e STARTING RUNNING\nstdin 2 ver:3.0%20server:supervisor%20serial:0%20pool:e%20poolserial:0%20eventname:TICK_5%20len:6%0Awhen:5\nstdin 2 ver:3.0%20server:supervisor%20serial:1%20pool:e%20poolserial:1%20eventname:TICK_5%20len:7%0Awhen:10\n",
     },
+];
+
+/// What a listener says, to the byte.
+const WORDS: [Case; 8] = [
     Case {
         name: "a_carriage_return_is_unknown",
         journal: "supervisor-journal 1\nhost h\nhere /etc\npid 1\nconf [supervisord]%0Alogfile=NONE%0A[eventlistener:e]%0Acommand=e%0Aevents=TICK_5%0Astdout_logfile=NONE%0Astderr_logfile=NONE%0A\ngo 0\n0 tick\npid 5\n1000 out 1 READY%0D%0A\n5000 tick\n",
@@ -153,6 +163,10 @@ const CASES: [Case; 93] = [
         status: 0,
         written: "state e e STOPPED STARTING\nspawn 1 e e % % % 1 e 3 SUPERVISOR_ENABLED 1 SUPERVISOR_GROUP_NAME e SUPERVISOR_PROCESS_NAME e\nstate e e STARTING RUNNING\nstdin 1 ver:3.0%20server:supervisor%20serial:0%20pool:e%20poolserial:0%20eventname:TICK_5%20len:6%0Awhen:5\nstdin 1 ver:3.0%20server:supervisor%20serial:1%20pool:e%20poolserial:1%20eventname:TICK_5%20len:7%0Awhen:10\n",
     },
+];
+
+/// Two listeners of one pool.
+const ONE_POOL: [Case; 7] = [
     Case {
         name: "the_later_rejected_is_in_front",
         journal: "supervisor-journal 1\nhost h\nhere /etc\npid 1\nconf [supervisord]%0Alogfile=NONE%0A[eventlistener:e]%0Acommand=e%0Aevents=TICK_5%0Aprocess_name=e_%25(process_num)d%0Anumprocs=2%0Astdout_logfile=NONE%0Astderr_logfile=NONE%0A\ngo 0\n0 tick\npid 5\npid 6\n1000 tick\n1001 out 1 READY%0A\n1002 out 2 READY%0A\n5000 tick\n10000 tick\n10001 out 1 RESULT%204%0AFAIL\n10002 out 2 RESULT%204%0AFAIL\n10003 out 1 READY%0A\n10004 out 2 READY%0A\n",
@@ -195,6 +209,10 @@ const CASES: [Case; 93] = [
         status: 0,
         written: "state e e_0 STOPPED STARTING\nspawn 1 e e_0 % % % 1 e 3 SUPERVISOR_ENABLED 1 SUPERVISOR_GROUP_NAME e SUPERVISOR_PROCESS_NAME e_0\nstate e e_1 STOPPED STARTING\nspawn 2 e e_1 % % % 1 e 3 SUPERVISOR_ENABLED 1 SUPERVISOR_GROUP_NAME e SUPERVISOR_PROCESS_NAME e_1\nstate e e_0 STARTING RUNNING\nstate e e_1 STARTING RUNNING\nstdin 1 ver:3.0%20server:supervisor%20serial:0%20pool:e%20poolserial:0%20eventname:TICK_5%20len:6%0Awhen:5\nstdin 2 ver:3.0%20server:supervisor%20serial:0%20pool:e%20poolserial:0%20eventname:TICK_5%20len:6%0Awhen:5\n",
     },
+];
+
+/// Events that are given back, and who gets them then.
+const GIVEN_BACK: [Case; 7] = [
     Case {
         name: "a_result_at_the_limit_goes_on",
         journal: "supervisor-journal 1\nhost h\nhere /etc\npid 1\nconf [supervisord]%0Alogfile=NONE%0A[eventlistener:e]%0Acommand=e%0Aevents=TICK_5%0Aprocess_name=e_%25(process_num)d%0Anumprocs=2%0Astdout_logfile=NONE%0Astderr_logfile=NONE%0A\ngo 0\n0 tick\npid 5\npid 6\n1000 tick\n1001 out 1 READY%0A\n1002 out 2 READY%0A\n5000 tick\n5001 out 1 RESULT%201048576%0A\n5002 out 1 OK\n",
@@ -237,6 +255,10 @@ const CASES: [Case; 93] = [
         status: 0,
         written: "state e e_0 STOPPED STARTING\nspawn 1 e e_0 % % % 1 e 3 SUPERVISOR_ENABLED 1 SUPERVISOR_GROUP_NAME e SUPERVISOR_PROCESS_NAME e_0\nstate e e_1 STOPPED STARTING\nspawn 2 e e_1 % % % 1 e 3 SUPERVISOR_ENABLED 1 SUPERVISOR_GROUP_NAME e SUPERVISOR_PROCESS_NAME e_1\nstate e e_0 STARTING RUNNING\nstate e e_1 STARTING RUNNING\nstate e e_0 RUNNING EXITED\nstdin 2 ver:3.0%20server:supervisor%20serial:0%20pool:e%20poolserial:0%20eventname:PROCESS_STATE_EXITED%20len:63%0Aprocessname:e_0%20groupname:e%20from_state:RUNNING%20expected:1%20pid:5\n",
     },
+];
+
+/// What full pools drop.
+const DROPS: [Case; 5] = [
     Case {
         name: "an_overflow_by_an_event_and_one_by_a_reject",
         journal: "supervisor-journal 1\nhost h\nhere /etc\npid 1\nconf [supervisord]%0Alogfile=NONE%0A[eventlistener:e]%0Acommand=e%0Aevents=TICK_5%0Abuffer_size=2%0Astdout_logfile=NONE%0Astderr_logfile=NONE%0A\ngo 0\n0 tick\npid 5\n1000 out 1 READY%0A\n5000 tick\n10000 tick\n15000 tick\n20000 tick\n20001 out 1 RESULT%204%0AFAIL\n20002 out 1 READY%0A\n20003 out 1 RESULT%202%0AOKREADY%0A\n",
@@ -267,6 +289,10 @@ const CASES: [Case; 93] = [
         status: 0,
         written: "state e e STOPPED STARTING\nspawn 1 e e % % % 1 e 3 SUPERVISOR_ENABLED 1 SUPERVISOR_GROUP_NAME e SUPERVISOR_PROCESS_NAME e\nstate e e STARTING RUNNING\ndropped e 0 0\nstate e e RUNNING STOPPING\ndropped e 1 1\nkill 1 TERM child\nstate e e STOPPING STOPPED\ndropped e 2 2\nstate e e STOPPED STARTING\ndropped e 3 3\nspawn 2 e e % % % 1 e 3 SUPERVISOR_ENABLED 1 SUPERVISOR_GROUP_NAME e SUPERVISOR_PROCESS_NAME e\nstate e e STARTING RUNNING\ndropped e 4 4\nstate e e RUNNING EXITED\ndropped e 5 5\n",
     },
+];
+
+/// The ticks of the clock.
+const TICKS: [Case; 9] = [
     Case {
         name: "a_tick_over_slices_and_backwards",
         journal: "supervisor-journal 1\nhost h\nhere /etc\npid 1\nconf [supervisord]%0Alogfile=NONE%0A[eventlistener:e]%0Acommand=e%0Aevents=TICK_5%0Astdout_logfile=NONE%0Astderr_logfile=NONE%0A\ngo 0\n0 tick\npid 5\n1000 out 1 READY%0A\n4999 tick\n5000 tick\n5001 out 1 RESULT%202%0AOKREADY%0A\n27000 tick\n27001 out 1 RESULT%202%0AOKREADY%0A\n12000 tick\n12000 out 1 RESULT%202%0AOKREADY%0A\n14999 tick\n0 tick\n",
@@ -321,6 +347,10 @@ const CASES: [Case; 93] = [
         status: 0,
         written: "state e e STOPPED STARTING\nspawn 1 e e % % % 1 e 3 SUPERVISOR_ENABLED 1 SUPERVISOR_GROUP_NAME e SUPERVISOR_PROCESS_NAME e\nstate x x STOPPED STARTING\nspawn 2 x x % % % 1 x 3 SUPERVISOR_ENABLED 1 SUPERVISOR_GROUP_NAME x SUPERVISOR_PROCESS_NAME x\nstate e e STARTING RUNNING\nstate x x STARTING RUNNING\nstate x x RUNNING EXITED\nstdin 1 ver:3.0%20server:supervisor%20serial:0%20pool:e%20poolserial:0%20eventname:PROCESS_STATE_EXITED%20len:62%0Aprocessname:x%20groupname:x%20from_state:RUNNING%20expected:1%20pid:77\nstdin 1 ver:3.0%20server:supervisor%20serial:1%20pool:e%20poolserial:1%20eventname:TICK_5%20len:6%0Awhen:5\n",
     },
+];
+
+/// What the daemon says of itself.
+const DAEMON: [Case; 6] = [
     Case {
         name: "the_first_turn_is_a_signal",
         journal: "supervisor-journal 1\nhost h\nhere /etc\npid 1\nconf [supervisord]%0Alogfile=NONE%0A[eventlistener:e]%0Acommand=e%0Aevents=SUPERVISOR_STATE_CHANGE%0Abuffer_size=1%0Astdout_logfile=NONE%0Astderr_logfile=NONE%0A\ngo 0\n0 signal TERM\n",
@@ -357,6 +387,10 @@ const CASES: [Case; 93] = [
         status: 0,
         written: "state e e STOPPED STARTING\nspawn 1 e e % % % 1 e 3 SUPERVISOR_ENABLED 1 SUPERVISOR_GROUP_NAME e SUPERVISOR_PROCESS_NAME e\nstate e e STARTING RUNNING\nstdin 1 ver:3.0%20server:supervisor%20serial:0%20pool:e%20poolserial:0%20eventname:SUPERVISOR_STATE_CHANGE_RUNNING%20len:0%0A\nstdin 1 ver:3.0%20server:supervisor%20serial:1%20pool:e%20poolserial:1%20eventname:PROCESS_STATE_STARTING%20len:52%0Aprocessname:e%20groupname:e%20from_state:STOPPED%20tries:0\nstdin 1 ver:3.0%20server:supervisor%20serial:2%20pool:e%20poolserial:2%20eventname:PROCESS_STATE_RUNNING%20len:51%0Aprocessname:e%20groupname:e%20from_state:STARTING%20pid:5\nstdin 1 ver:3.0%20server:supervisor%20serial:3%20pool:e%20poolserial:3%20eventname:TICK_5%20len:6%0Awhen:5\n",
     },
+];
+
+/// The events of a process's edges.
+const EDGES: [Case; 4] = [
     Case {
         name: "an_exit_at_a_reached_deadline",
         journal: "supervisor-journal 1\nhost h\nhere /etc\npid 1\nconf [supervisord]%0Alogfile=NONE%0A[eventlistener:e]%0Acommand=e%0Aevents=PROCESS_STATE_RUNNING,PROCESS_STATE_EXITED%0Astdout_logfile=NONE%0Astderr_logfile=NONE%0A[program:x]%0Acommand=x%0Astdout_logfile=NONE%0Astderr_logfile=NONE%0A\ngo 0\n0 tick\npid 5\npid 77\n1500 exit 2 code 3\npid 78\n1501 out 1 READY%0A\n1502 out 1 RESULT%202%0AOKREADY%0A\n1503 out 1 RESULT%202%0AOKREADY%0A\n",
@@ -381,6 +415,10 @@ const CASES: [Case; 93] = [
         status: 0,
         written: "state e e STOPPED STARTING\nspawn 1 e e % % % 1 e 3 SUPERVISOR_ENABLED 1 SUPERVISOR_GROUP_NAME e SUPERVISOR_PROCESS_NAME e\nstate x x STOPPED STARTING\nspawn 2 x x % % % 1 x 3 SUPERVISOR_ENABLED 1 SUPERVISOR_GROUP_NAME x SUPERVISOR_PROCESS_NAME x\nstate x x STARTING BACKOFF\nstate e e STARTING RUNNING\nstate x x BACKOFF STARTING\nspawn 3 x x % % % 1 x 3 SUPERVISOR_ENABLED 1 SUPERVISOR_GROUP_NAME x SUPERVISOR_PROCESS_NAME x\nstate x x STARTING BACKOFF\nstdin 1 ver:3.0%20server:supervisor%20serial:0%20pool:e%20poolserial:0%20eventname:PROCESS_STATE_STARTING%20len:52%0Aprocessname:e%20groupname:e%20from_state:STOPPED%20tries:0\nstdin 1 ver:3.0%20server:supervisor%20serial:1%20pool:e%20poolserial:1%20eventname:PROCESS_STATE_STARTING%20len:52%0Aprocessname:x%20groupname:x%20from_state:STOPPED%20tries:0\nstdin 1 ver:3.0%20server:supervisor%20serial:2%20pool:e%20poolserial:2%20eventname:PROCESS_STATE_BACKOFF%20len:53%0Aprocessname:x%20groupname:x%20from_state:STARTING%20tries:1\nstdin 1 ver:3.0%20server:supervisor%20serial:3%20pool:e%20poolserial:3%20eventname:PROCESS_STATE_STARTING%20len:52%0Aprocessname:x%20groupname:x%20from_state:BACKOFF%20tries:1\nstdin 1 ver:3.0%20server:supervisor%20serial:4%20pool:e%20poolserial:4%20eventname:PROCESS_STATE_BACKOFF%20len:53%0Aprocessname:x%20groupname:x%20from_state:STARTING%20tries:2\n",
     },
+];
+
+/// Listeners in each state of their process.
+const STATES: [Case; 6] = [
     Case {
         name: "ready_while_starting",
         journal: "supervisor-journal 1\nhost h\nhere /etc\npid 1\nconf [supervisord]%0Alogfile=NONE%0A[eventlistener:e]%0Acommand=e%0Aevents=TICK_5%0Astartsecs=10%0Astdout_logfile=NONE%0Astderr_logfile=NONE%0A\ngo 0\n0 tick\npid 5\n100 out 1 READY%0A\n5000 tick\n10000 tick\n",
@@ -417,6 +455,10 @@ const CASES: [Case; 93] = [
         status: 0,
         written: "state e e STOPPED STARTING\nspawn 1 e e % % % 1 e 3 SUPERVISOR_ENABLED 1 SUPERVISOR_GROUP_NAME e SUPERVISOR_PROCESS_NAME e\nstate e e STARTING RUNNING\nstdin 1 ver:3.0%20server:main%20serial:0%20pool:e%20poolserial:0%20eventname:TICK_5%20len:6%0Awhen:5\n",
     },
+];
+
+/// Pieces and ends of pipes.
+const PIPES: [Case; 9] = [
     Case {
         name: "a_pipe_end_twice",
         journal: "supervisor-journal 1\nhost h\nhere /etc\npid 1\nconf [supervisord]%0Alogfile=NONE%0A[eventlistener:e]%0Acommand=e%0Aevents=TICK_5%0Astdout_logfile=NONE%0Astderr_logfile=NONE%0A\ngo 0\n0 tick\npid 5\n1000 out 1 READY%0A\n1001 errend 1\n1002 errend 1\n1003 outend 1\n1004 outend 1\n5000 tick\n",
@@ -471,6 +513,10 @@ const CASES: [Case; 93] = [
         status: 0,
         written: "state x x STOPPED STARTING\nspawn 1 x x % % % 1 x 3 SUPERVISOR_ENABLED 1 SUPERVISOR_GROUP_NAME x SUPERVISOR_PROCESS_NAME x\nstate x x STARTING RUNNING\nstate x x RUNNING EXITED\n",
     },
+];
+
+/// Writes to a listener that failed.
+const FAILED_WRITES: [Case; 9] = [
     Case {
         name: "a_failed_write_gives_the_event_back",
         journal: "supervisor-journal 1\nhost h\nhere /etc\npid 1\nconf [supervisord]%0Alogfile=NONE%0A[eventlistener:e]%0Acommand=e%0Aevents=TICK_5%0Astdout_logfile=NONE%0Astderr_logfile=NONE%0A\ngo 0\n0 tick\npid 5\n1000 out 1 READY%0A\n5000 tick\nfailed 3\n5001 out 1 RESULT%202%0AOKREADY%0A\n10000 tick\n11000 exit 1 code 1\npid 6\n12000 out 2 READY%0A\n12001 out 2 RESULT%202%0AOKREADY%0A\n",
@@ -525,6 +571,10 @@ const CASES: [Case; 93] = [
         status: 7,
         written: "state e e STOPPED STARTING\nspawn 1 e e % % % 1 e 3 SUPERVISOR_ENABLED 1 SUPERVISOR_GROUP_NAME e SUPERVISOR_PROCESS_NAME e\nstate e e STARTING RUNNING\ndropped e 0 0\nfault 7 line 12\n",
     },
+];
+
+/// What isn't accepted.
+const REFUSED: [Case; 6] = [
     Case {
         name: "a_piece_of_a_run_that_was_not_issued",
         journal: "supervisor-journal 1\nhost h\nhere /etc\npid 1\nconf [supervisord]%0Alogfile=NONE%0A[eventlistener:e]%0Acommand=e%0Aevents=TICK_5%0Astdout_logfile=NONE%0Astderr_logfile=NONE%0A\ngo 0\n0 tick\npid 5\n1000 out 2 READY%0A\n",
@@ -564,9 +614,105 @@ const CASES: [Case; 93] = [
 ];
 
 #[test]
-fn journals_with_listeners_are_replayed(rt: HostRuntime) {
+fn hand_outs_are_replayed(rt: HostRuntime) {
     let alloc = rt.alloc();
-    for case in &CASES {
+    for case in &HAND_OUTS {
+        play(&rt, alloc, case, 11);
+    }
+}
+
+#[test]
+fn later_runs_are_replayed(rt: HostRuntime) {
+    let alloc = rt.alloc();
+    for case in &LATER_RUNS {
+        play(&rt, alloc, case, 11);
+    }
+}
+
+#[test]
+fn words_are_replayed(rt: HostRuntime) {
+    let alloc = rt.alloc();
+    for case in &WORDS {
+        play(&rt, alloc, case, 11);
+    }
+}
+
+#[test]
+fn listeners_of_one_pool_are_replayed(rt: HostRuntime) {
+    let alloc = rt.alloc();
+    for case in &ONE_POOL {
+        play(&rt, alloc, case, 11);
+    }
+}
+
+#[test]
+fn events_given_back_are_replayed(rt: HostRuntime) {
+    let alloc = rt.alloc();
+    for case in &GIVEN_BACK {
+        play(&rt, alloc, case, 11);
+    }
+}
+
+#[test]
+fn drops_are_replayed(rt: HostRuntime) {
+    let alloc = rt.alloc();
+    for case in &DROPS {
+        play(&rt, alloc, case, 11);
+    }
+}
+
+#[test]
+fn ticks_are_replayed(rt: HostRuntime) {
+    let alloc = rt.alloc();
+    for case in &TICKS {
+        play(&rt, alloc, case, 11);
+    }
+}
+
+#[test]
+fn words_of_the_daemon_are_replayed(rt: HostRuntime) {
+    let alloc = rt.alloc();
+    for case in &DAEMON {
+        play(&rt, alloc, case, 11);
+    }
+}
+
+#[test]
+fn edges_are_replayed(rt: HostRuntime) {
+    let alloc = rt.alloc();
+    for case in &EDGES {
+        play(&rt, alloc, case, 11);
+    }
+}
+
+#[test]
+fn states_are_replayed(rt: HostRuntime) {
+    let alloc = rt.alloc();
+    for case in &STATES {
+        play(&rt, alloc, case, 11);
+    }
+}
+
+#[test]
+fn pipes_are_replayed(rt: HostRuntime) {
+    let alloc = rt.alloc();
+    for case in &PIPES {
+        play(&rt, alloc, case, 11);
+    }
+}
+
+#[test]
+fn failed_writes_are_replayed(rt: HostRuntime) {
+    let alloc = rt.alloc();
+    for case in &FAILED_WRITES {
+        play(&rt, alloc, case, 11);
+    }
+}
+
+#[test]
+fn refusals_are_replayed(rt: HostRuntime) {
+    let alloc = rt.alloc();
+    for case in &REFUSED {
         play(&rt, alloc, case, 11);
     }
 }
