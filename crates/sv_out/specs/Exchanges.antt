@@ -21,10 +21,12 @@ heard_more count into exchange = record exchange {
 abbrev pub sent_more : List ℕ → Exchange → Exchange
 sent_more bytes exchange = record exchange { sent = exchange.sent ++ bytes }
 
+-- what a read leaves
 abbrev pub after_read : {E : Type 0} → Result ℕ E → List ℕ → Exchange → Exchange
 after_read (Ok count) into exchange = heard_more count into exchange
 after_read (Err failed) into exchange = exchange
 
+-- what a write leaves
 abbrev pub after_write : {E : Type 0} → Result ℕ E → List ℕ → Exchange → Exchange
 after_write (Ok count) piece exchange = sent_more (take count piece) exchange
 after_write (Err failed) piece exchange = exchange

@@ -27,6 +27,7 @@ abbrev pub renamed : List ℕ → List ℕ → Option (List ℕ) → Files → F
 renamed from to None files = files
 renamed from to (Some bytes) files = put to (Some bytes) (put from None files)
 
+-- a file renamed, where it is there
 abbrev pub shifted : List ℕ → List ℕ → Files → Files
 shifted from to files = renamed from to (files from) files
 

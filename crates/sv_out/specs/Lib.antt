@@ -6,3 +6,4 @@ pub mod Patterns
 pub mod Files
 pub mod MapFiles
 pub mod Exchanges
+pub mod Scripts

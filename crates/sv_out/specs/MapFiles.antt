@@ -16,6 +16,14 @@ shown map name = get (slice_cmp nat_cmp) map name
 abbrev pub files_of : MapShelf → Files
 files_of shelf = shown shelf.files
 
+-- as the trait tells them
+abbrev pub told_files : MapShelf → Option Files
+told_files shelf = Some (files_of shelf)
+
+-- how many calls of it failed
+abbrev pub shelf_faults : MapShelf → ℕ
+shelf_faults shelf = shelf.calls.faults
+
 -- this file now stands there
 abbrev pub IsPut : Files → Files → List ℕ → List ℕ → Type 0
 IsPut before after name bytes = (other : List ℕ) → after other ≡ put name (Some bytes) before other

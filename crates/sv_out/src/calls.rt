@@ -1,8 +1,8 @@
 //! Which calls of an object in memory are to fail, and how many did.
-ghost use Rattle.std.specs.Prelude.{◌≡◌, ◌≤◌, ◌==◌};
-ghost use Rattle.std.specs.List.{list_any};
-ghost use Rattle.std.specs.Bool.{OnTrue, OnFalse};
-ghost use Rattle.sv_out.specs.Faults.{Rose};
+ghost use Rattle.std.specs.Prelude.{◌≡◌, ◌≤◌};
+ghost use Rattle.std.specs.Bool.{OnTrue};
+ghost use Rattle.sv_out.specs.Faults.{Rose, counted};
+ghost use Rattle.sv_out.specs.Plans.{call_plan, called, is_to_fail, none_made};
 
 /// The numbers of the calls that are to fail, the first call being 1; the calls so far; the faults among them.
 #[derive(Debug, Drop)]
@@ -15,8 +15,7 @@ pub(crate) struct Calls {
 impl Calls {
     /// No call yet.
     pub(crate) fn new(failing: Vec<u64>) -> Calls
-        ensures none { result.faults ≡ 0 }
-        ensures kept { result.failing ≡ failing }
+        ensures { call_plan result ≡ none_made failing.items }
     {
         Calls {
             failing,
@@ -27,10 +26,10 @@ impl Calls {
 
     /// Begins a call: whether it is to fail, and then it counts as a fault.
     pub(crate) fn next_fails(&mut self) -> bool
-        ensures told { result ≡ list_any (λ call. call == self.new.calls) self.old.failing.items }
+        ensures told { result ≡ is_to_fail (call_plan self.old) }
+        ensures plan { call_plan self.new ≡ called (call_plan self.old) result }
         ensures later { self.old.faults ≤ self.new.faults }
         ensures rose { OnTrue result (Rose self.old.faults self.new.faults) }
-        ensures same { OnFalse result (self.new.faults ≡ self.old.faults) }
     {
         self.calls = self.calls.saturating_add(1);
         if !self.failing.as_slice().contains(&self.calls) {
@@ -42,7 +41,7 @@ impl Calls {
 
     /// Counts a fault.
     pub(crate) fn count_fault(&mut self)
-        ensures kept { self.new ≡ record self.old { faults = self.new.faults } }
+        ensures kept { self.new ≡ record self.old { faults = counted self.old.faults } }
         ensures rose { Rose self.old.faults self.new.faults }
         ensures later { self.old.faults ≤ self.new.faults }
     {

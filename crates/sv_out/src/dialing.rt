@@ -43,7 +43,8 @@ pub trait Dial {
     /// A connection to this place. Nothing was read from it or written to it, and it has no faults. Fails only where
     /// the dial's count of faults rose in this call.
     fn connect(&mut self, alloc: Global, place: &Place) -> Result<Self::Link, DialFault>
-        ensures fresh { IfOk result (λ link. IsFresh place.now (told self.old) (Self.Link.told link)) }
+        ensures fresh { IfOk result (λ link.
+            IsFresh place.now (told self.old) (Self.Link.told link)) }
         ensures unharmed { IfOk result (λ link. Self.Link.faults link ≡ 0) }
         ensures kept { told self.new ≡ told self.old }
         ensures cause { RisesWhere (faults self.old) (faults self.new) (IsRefused result) }

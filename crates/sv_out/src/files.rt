@@ -56,7 +56,8 @@ pub trait Shelf {
     /// by bytes, each once.
     fn names(&mut self, alloc: Global, pattern: &str) -> Result<Vec<Text>, ShelfFault>
         ensures rising { IfOk result (λ names. AreRising names.items) }
-        ensures exact { IfOk result (λ names. ForSome (files self.old) (AreNames pattern.now names.items)) }
+        ensures exact { IfOk result (λ names.
+            ForSome (files self.old) (AreNames pattern.now names.items)) }
         ensures kept { files self.new ≡ files self.old }
         ensures cause { RisesWhere (faults self.old) (faults self.new) (IsFailure result) };
 
@@ -74,12 +75,14 @@ pub trait Shelf {
 
     /// Adds a piece at the end of a file; a missing one is made.
     fn append(&mut self, alloc: Global, name: &str, piece: &[u8]) -> Result<(), ShelfFault>
-        ensures change { Changes (files self.old) (files self.new) (appended name.now piece.now) result }
+        ensures change { Changes (files self.old) (files self.new)
+            (appended name.now piece.now) result }
         ensures cause { RisesWhere (faults self.old) (faults self.new) (IsFailure result) };
 
     /// Renames a file over another; does nothing where the first is missing.
     fn shift(&mut self, alloc: Global, from: &str, to: &str) -> Result<(), ShelfFault>
-        ensures change { Changes (files self.old) (files self.new) (shifted from.now to.now) result }
+        ensures change { Changes (files self.old) (files self.new)
+            (shifted from.now to.now) result }
         ensures cause { RisesWhere (faults self.old) (faults self.new) (IsFailure result) };
 
     /// Makes a file empty; a missing one is made.

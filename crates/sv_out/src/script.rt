@@ -22,10 +22,12 @@ pub struct Script {
 }
 
 impl Script {
+    ghost use Rattle.sv_out.specs.Plans.{script_failing};
+
     /// A script that gives these bytes, at most `most` in each call, and then its end.
     pub fn new(bytes: Vec<u8>, most: usize, failing: Vec<u64>) -> Script
         requires { 1 ≤ most }
-        ensures { result.bytes ≡ bytes }
+        ensures { script_failing result ≡ failing.items }
     {
         Script {
             bytes,
@@ -50,8 +52,11 @@ pub struct ScriptLink {
 }
 
 impl ScriptLink {
+    ghost use Rattle.sv_out.specs.Plans.{link_plan, none_made, script_failing};
+
     /// A connection to this place, over which nothing went yet.
     pub fn new(alloc: Global, place: Place, script: Script) -> ScriptLink
+        ensures plan { link_plan result ≡ none_made (script_failing script) }
         ensures told { ⟦<ScriptLink as Link>⟧.told result ≡ Some (fresh place) }
         ensures faults { ⟦<ScriptLink as Link>⟧.faults result ≡ 0 }
     {
@@ -102,6 +107,13 @@ impl ScriptLink {
 }
 
 impl Link for ScriptLink {
+    ghost use Rattle.std.specs.Prelude.{◌<◌, IfOk, IsErr, IsTrue, is_err, option_map};
+    ghost use Rattle.std.specs.Io.{ReadsAtMost, WritesAtMost};
+    ghost use Rattle.sv_out.specs.Exchanges.{after_read, after_write};
+    ghost use Rattle.sv_out.specs.Faults.{HasCause};
+    ghost use Rattle.sv_out.specs.Plans.{GoesAsPlanned, called, is_to_fail, link_plan};
+    ghost use Rattle.sv_out.specs.Scripts.{link_faults, told_exchange};
+
     ghost told = { λ s. Some (record {
       place = s.place;
       sent = s.sent.items;
@@ -112,7 +124,13 @@ impl Link for ScriptLink {
     ghost faults = { λ s. s.calls.faults };
 
     #[tactic(auto, using(crate::proofs::Scripts::heard_next))]
-    fn read(&mut self, into: &mut [u8]) -> Result<usize, Failed> {
+    fn read(&mut self, into: &mut [u8]) -> Result<usize, Failed>
+        ensures bound { ReadsAtMost result into.new }
+        ensures told { told_exchange self.new
+            ≡ option_map (after_read result into.new) (told_exchange self.old) }
+        ensures cause { HasCause (link_faults self.old) (link_faults self.new) result }
+        ensures planned { GoesAsPlanned (link_plan self.old) (link_plan self.new) (IsErr result) }
+    {
         if self.calls.next_fails() {
             return Err(Failed);
         }
@@ -123,7 +141,17 @@ impl Link for ScriptLink {
         Ok(count)
     }
 
-    fn write(&mut self, piece: &[u8]) -> Result<usize, Failed> {
+    fn write(&mut self, piece: &[u8]) -> Result<usize, Failed>
+        ensures bound { WritesAtMost result piece.now }
+        ensures progress { IfOk result (λ n. 0 < length piece.now → 0 < n) }
+        ensures told { told_exchange self.new
+            ≡ option_map (after_write result piece.now) (told_exchange self.old) }
+        ensures cause { HasCause (link_faults self.old) (link_faults self.new) result }
+
+        // It fails at its calls, and where memory is refused; each call is counted.
+        ensures fails { IsTrue (is_to_fail (link_plan self.old)) → IsErr result }
+        ensures plan { link_plan self.new ≡ called (link_plan self.old) (is_err result) }
+    {
         if self.calls.next_fails() {
             return Err(Failed);
         }
@@ -146,9 +174,12 @@ pub struct ScriptDial {
 }
 
 impl ScriptDial {
+    ghost use Rattle.sv_out.specs.Plans.{dial_plan, none_made};
+
     /// A dial with these scripts in the order of the connections, which fails at the calls that it was made to fail at,
     /// the first call being 1.
     pub fn new(alloc: Global, scripts: VecDeque<Script>, failing: Vec<u64>) -> ScriptDial
+        ensures plan { dial_plan result ≡ none_made failing.items }
         ensures told { ⟦<ScriptDial as Dial>⟧.told result ≡ Some [] }
         ensures faults { ⟦<ScriptDial as Dial>⟧.faults result ≡ 0 }
     {
@@ -187,11 +218,28 @@ impl ScriptDial {
 impl Dial for ScriptDial {
     type Link = ScriptLink;
 
+    ghost use Rattle.std.specs.Prelude.{IfOk, OnOk};
+    ghost use Rattle.sv_out.specs.Exchanges.{IsFresh, IsRefused, Keeps};
+    ghost use Rattle.sv_out.specs.Faults.{RisesWhere};
+    ghost use Rattle.sv_out.specs.Plans.{GoesAsPlanned, dial_plan};
+    ghost use Rattle.sv_out.specs.Rises.{RisesWith};
+    ghost use Rattle.sv_out.specs.Scripts.{dial_faults, link_faults, told_exchange, told_exchanges};
+
     ghost told = { λ s. Some s.exchanges.items };
 
     ghost faults = { λ s. s.calls.faults };
 
-    fn connect(&mut self, alloc: Global, place: &Place) -> Result<ScriptLink, DialFault> {
+    fn connect(&mut self, alloc: Global, place: &Place) -> Result<ScriptLink, DialFault>
+        ensures fresh { IfOk result (λ link.
+            IsFresh place.now (told_exchanges self.old) (told_exchange link)) }
+        ensures unharmed { IfOk result (λ link. link_faults link ≡ 0) }
+        ensures kept { told_exchanges self.new ≡ told_exchanges self.old }
+        ensures cause { RisesWhere (dial_faults self.old) (dial_faults self.new)
+            (IsRefused result) }
+        ensures same { IfOk result (λ _. dial_faults self.new ≡ dial_faults self.old) }
+        ensures planned { GoesAsPlanned (dial_plan self.old) (dial_plan self.new)
+            (IsRefused result) }
+    {
         if self.calls.next_fails() {
             return Err(DialFault::Failed);
         }
@@ -200,7 +248,13 @@ impl Dial for ScriptDial {
         Ok(ScriptLink::new(alloc, place, script))
     }
 
-    fn close(&mut self, alloc: Global, link: ScriptLink) -> Result<(), AllocError> {
+    fn close(&mut self, alloc: Global, link: ScriptLink) -> Result<(), AllocError>
+        ensures kept { OnOk result
+            (Keeps (told_exchanges self.old) (told_exchanges self.new) (told_exchange link)) }
+        ensures count { RisesWith (dial_faults self.old) (dial_faults self.new) (link_faults link) }
+        ensures plan { dial_plan self.new
+            ≡ record (dial_plan self.old) { faults = dial_faults self.new } }
+    {
         if 0 < link.faults() {
             self.calls.count_fault();
         }

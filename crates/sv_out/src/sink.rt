@@ -97,7 +97,8 @@ impl Sink for ListSink {
     fn write(&mut self, piece: &[u8]) -> Result<usize, Failed>
         ensures bound { WritesAtMost result piece.now }
         ensures progress { IfOk result (λ n. 0 < length piece.now → 0 < n) }
-        ensures bytes { WriteAppends (known_written self.old) (known_written self.new) result piece.now }
+        ensures bytes { WriteAppends (known_written self.old) (known_written self.new)
+            result piece.now }
         ensures cause { HasCause (sink_faults self.old) (sink_faults self.new) result }
 
         // It fails at its calls, and else only where it needs memory; each call is counted.
