@@ -10,3 +10,4 @@ mod Steps
 mod Stopped
 mod Sweeps
 mod Told
+mod Unmoved

@@ -1,11 +1,14 @@
 -- News on their way over children that are side by side, in start order. A spawn is a question, at which the turn stops.
-use Rattle.std.specs.Prelude.{ℕ, zero, suc, Option, Some, None, ◌+◌, ◌-◌, length, nat_le, if◌then◌else◌}
+use Rattle.std.specs.Prelude.{ℕ, zero, suc, Option, Some, None, Bool, true, false, ◌&&◌, ◌+◌, ◌-◌, length, nat_le, if◌then◌else◌}
 use Rattle.sv_base.specs.declared.ids.Run.{Run}
+use Rattle.sv_child.specs.declared.child.Child.{Child}
 use Rattle.sv_child.specs.declared.step.ChildDeed.{ChildDeed}
 use Rattle.sv_child.specs.declared.step.ChildDeed.TheVariants.{Spawn, Kill}
 use Rattle.sv_children.specs.News.{deed_of, step_of, stimulus_of}
 use Rattle.sv_children.specs.Orders.{spawn_at}
 use Rattle.sv_children.specs.declared.news.News.{News}
+use Rattle.sv_children.specs.declared.news.News.TheVariants as news_is
+use Rattle.sv_core.specs.HandingOut.{is_up}
 use Rattle.sv_core.specs.Moves.{says, moves, kills, orders_spawn, answered, fails}
 use Rattle.sv_core.specs.World.{World}
 use Rattle.sv_core.specs.declared.part.Question.{Question}
@@ -47,6 +50,16 @@ does (Some deed) c w k = carries_out deed c w k
 abbrev pub meets : News → ℕ → World → (World → Turn) → Turn
 meets news c w k =
     let answer = says (stimulus_of news) c w in does (deed_of (step_of answer)) c (moves c answer w) k
+
+-- the news are that time passes
+abbrev pub is_time : News → Bool
+is_time news_is.Time = true
+is_time news = false
+
+-- time passes by a child that is up: it has no deadline
+abbrev pub is_unmoved : News → Option Child → Bool
+is_unmoved news None = false
+is_unmoved news (Some child) = is_time news && is_up child.state
 
 -- and so over the places that are left
 abbrev pub sweeps : News → ℕ → ℕ → World → (World → Turn) → Turn

@@ -12,7 +12,8 @@ use std::alloc::AllocError;
 use sv_base::ids::Run;
 use sv_base::state::State;
 
-fn is_up(state: State) -> bool
+/// Whether a process of this state is up.
+pub(crate) fn is_up(state: State) -> bool
     ensures { result ≡ is_up state }
 {
     matches!(state, State::Running)
@@ -80,11 +81,14 @@ impl Machine {
         Ok(())
     }
 
-    /// Step 7: to the listener of each place, in start order.
+    /// Step 7: to the listener of each place, in start order, if an event waits in some pool.
     pub(crate) fn hand_out(&mut self) -> Result<(), AllocError>
         ensures kept { HearsListeners self.old self.new }
         ensures hands { OnOk result (Makes hands_out self.old self.new) }
     {
+        if !self.pools.some_wait() {
+            return Ok(());
+        }
         for child in 0..self.children.len() {
             self.hand_to(child)?;
         }

@@ -1,14 +1,15 @@
 //! News on their way over children, up to a question.
-ghost use Rattle.std.specs.Prelude.{◌≡◌, ◌-◌, List, IfOk, OnOk};
+ghost use Rattle.std.specs.Prelude.{◌≡◌, ◌-◌, List, IfOk, OnOk, slice_get};
 ghost use Rattle.sv_children.specs.Crew.{member_at};
 ghost use Rattle.sv_children.specs.News.{deed_of, step_of, stimulus_of, stimulus_told};
 ghost use Rattle.sv_core.specs.Frames.{GivesOrders, Makes, MovesChildren, StartsRuns, Stops};
 ghost use Rattle.sv_core.specs.Moves.{answered, begins_as, comes, is_listener_of, kills, reported, says};
 ghost use Rattle.sv_core.specs.StandsFor.{Shows, paused, stopped, swept};
-ghost use Rattle.sv_core.specs.Sweeps.{carries_out, spawns, does, meets, sweeps};
+ghost use Rattle.sv_core.specs.Sweeps.{carries_out, spawns, does, is_time, is_unmoved, meets, sweeps};
 ghost use Rattle.sv_core.specs.World.{World};
 ghost use Rattle.sv_out.specs.declared.order.Order.{Order};
 
+use crate::handing_out::is_up;
 use crate::machine::Machine;
 use crate::part::{Reply, started_as, told_of};
 use crate::place::{Asked, Paused, Stop};
@@ -20,6 +21,13 @@ use sv_child::step::{ChildDeed, Step};
 use sv_children::{News, Told};
 use sv_facts::pid_at;
 use sv_out::order::Order;
+
+/// Whether the news are that time passes.
+fn is_time(news: &News) -> bool
+    ensures { result ≡ is_time news.now }
+{
+    matches!(news, News::Time)
+}
 
 /// The last number of a run.
 const LAST_RUN: u64 = 4_294_967_295;
@@ -55,7 +63,8 @@ impl Machine {
         ensures kept { MovesChildren self.old self.new }
         ensures moves { OnOk result
             (Makes (comes (stimulus_of news.now) child) self.old self.new) }
-        ensures deed { IfOk result (λ deed. (older : List Order) (w : World) → Shows self.old older w
+        ensures deed { IfOk result (λ deed. (older : List Order) (w : World)
+            → Shows self.old older w
             → deed ≡ deed_of (step_of (says (stimulus_of news.now) child w))) }
     {
         let pid = pid_at(&self.children, child);
@@ -195,9 +204,22 @@ impl Machine {
         ensures meets { IfOk result (λ asked.
             Stops (meets news.now child) (stopped asked) self.old self.new) }
     {
+        if self.is_unmoved(news, child) {
+            return Ok(None);
+        }
         let deed = self.bring(news, child)?;
         let asked = self.act(child, deed)?;
         Ok(asked)
+    }
+
+    /// Whether the news are that time passes, and the child of a place is up: it has no deadline.
+    fn is_unmoved(&self, news: &News, child: usize) -> bool
+        ensures { result ≡ is_unmoved news.now (slice_get self.now.children.all child) }
+    {
+        match self.children.as_slice().get(child) {
+            None => false,
+            Some(child) => is_time(news) && is_up(child.state),
+        }
     }
 
     /// News go over the places from the one to before the other, up to a question.

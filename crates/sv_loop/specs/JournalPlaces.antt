@@ -30,6 +30,7 @@ abbrev pub line_text : Line → List ℕ
 line_text (Head header) = header_line header
 line_text (Said input) = input_line input
 
+-- it keeps the limits of its line
 abbrev pub FitsLine : Line → Type 0
 FitsLine (Head header) = FitsHeader header
 FitsLine (Said input) = FitsInput input
@@ -67,6 +68,7 @@ abbrev pub described : Bool → Host → List (List ℕ × ℕ) → Option LongP
 described true host sizes = Some (Described host sizes)
 described false host sizes = None
 
+-- the place behind this line of a long header; none where the line has no place there
 abbrev pub goes_on : LongPlace → Header → Option LongPlace
 goes_on Titled (header_is.Host name) = Some (Hosted name)
 goes_on (Hosted name) (header_is.Here here) = Some (Located name here)
@@ -80,6 +82,7 @@ goes_on (Configured host sizes text included) (header_is.Include name more) =
     Some (Configured host sizes text (included ++ (name, more) ∷ []))
 goes_on place header = None
 
+-- what is to be said of a line that leads there, or has no place
 abbrev pub moved : Option LongPlace → Verdict
 moved (Some place) = Stands (Long place) []
 moved None = Misplaced
@@ -89,11 +92,13 @@ abbrev pub begins : Host → List (List ℕ × ℕ) → Result Config ConfFault 
 begins host sizes (Ok config) = if is_built config then Stands (Running (opening config sizes host)) [] else NotBuilt
 begins host sizes (Err fault) = Faulty fault
 
+-- what is to be said of a line of a long header
 abbrev pub long_heads : LongPlace → Header → Verdict
 long_heads (Configured host sizes text included) (header_is.Go start) =
     begins (starting_at host start) sizes (configuration_of text included (starting_at host start))
 long_heads place header = moved (goes_on place header)
 
+-- what is to be said of a line of a header
 abbrev pub heads : Stage → Header → Verdict
 heads Fresh (header_is.Journal version) = titles version
 heads (Named groups) (header_is.Program program) = adds (placed (group_of program) groups)
@@ -102,10 +107,12 @@ heads (Named (group ∷ groups)) (header_is.Go start) =
 heads (Long place) header = long_heads place header
 heads stage header = Misplaced
 
+-- what is to be said of an input: it is taken where the machine accepts it
 abbrev pub says : Stage → Input → Verdict
 says (Running m) input = if accepts m input then Stands (Running (next m input)) (orders m input) else Refused
 says stage input = Misplaced
 
+-- what is to be said of a line
 abbrev pub judged : Stage → Line → Verdict
 judged stage (Head header) = heads stage header
 judged stage (Said input) = says stage input
@@ -146,10 +153,12 @@ pub data Walked : Type 0 where
   Reaches : Stage → List Order → Walked
   Stops : Walked
 
+-- where a walk leads, behind these orders
 abbrev pub behind : List Order → Walked → Walked
 behind given (Reaches at more) = Reaches at (given ++ more)
 behind given Stops = Stops
 
+-- a walk goes on from a line that stands, and ends at any other
 abbrev pub walks_on : Verdict → (Stage → Walked) → Walked
 walks_on (Stands at given) onward = behind given (onward at)
 walks_on verdict onward = Stops

@@ -15,7 +15,7 @@ abbrev pub IsPlace : Place → Stage → Type 0
 IsPlace Fresh At_title = Unit {0}
 IsPlace (Named groups) (At_programs kept) = groups ≡ kept
 IsPlace (Long place) (At_long kept) = place ≡ kept
-IsPlace (Running machine) (At_inputs m) = StandsFor machine m
+IsPlace (Running machine) (At_inputs m) = StandsFor machine.value m
 IsPlace place at = ⊥
 
 -- the line leads to the place and the orders that are answered

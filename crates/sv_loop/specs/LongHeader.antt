@@ -20,15 +20,19 @@ is_behind name (entry ∷ (next ∷ more)) = is_behind name (next ∷ more)
 abbrev pub host_of : List ℕ → List ℕ → ℕ → Host
 host_of name here pid = record { name = name; here = here; pid = pid; environment = []; start = 0 }
 
+-- one more variable of the environment
 abbrev pub with_variable : Host → List ℕ → List ℕ → Host
 with_variable host name value = record host { environment = host.environment ++ (name, value) ∷ [] }
 
+-- the daemon begins at this moment
 abbrev pub starting_at : Host → ℕ → Host
 starting_at host start = record host { start = start }
 
+-- a process has a log
 abbrev pub has_log : Spec → Bool
 has_log spec = is_some spec.stdout.file || is_some spec.stderr.file
 
+-- no process of the group has one
 abbrev pub is_plain : GroupSpec → Bool
 is_plain group = not (list_any has_log group.members)
 

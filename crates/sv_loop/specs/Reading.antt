@@ -14,6 +14,7 @@ use Rattle.sv_loop.specs.declared.run.Run.{Run}
 use Rattle.sv_out.specs.Written.{AppendsFront}
 use Rattle.sv_out.specs.declared.order.Order.{Order}
 
+-- a line feed is among them
 abbrev pub has_feed : List ℕ → Bool
 has_feed bytes = list_any (λ byte. byte == 10) bytes
 
@@ -56,15 +57,19 @@ pub record IsWhole (rest : List ℕ) : Type 0 where
   pub behind : List ℕ
   pub feed : rest ≡ 10 ∷ behind
 
+-- the rest is outside the grammar: a line has no place, or is too long
 abbrev pub OutsideGrammar : Stage → List ℕ → List ℕ → Type 0
 OutsideGrammar at text rest = (IsWhole rest × IsMisplaced at text) ⊎ (line_limit < length text)
 
+-- it is an input that the machine does not accept
 abbrev pub NotAccepted : Stage → List ℕ → List ℕ → Type 0
 NotAccepted at text rest = IsWhole rest × IsRefused at text
 
+-- its configuration is refused, and so is what is said of it
 abbrev pub NotConfigured : Verdict → Stage → List ℕ → List ℕ → Type 0
 NotConfigured verdict at text rest = IsWhole rest × IsUnconfigured at text verdict
 
+-- nothing is claimed
 abbrev pub Anything : Stage → List ℕ → List ℕ → Type 0
 Anything at text rest = Unit {0}
 

@@ -25,9 +25,11 @@ journal_limit = 67108864
 abbrev pub AreRun : List (List ℕ) → Type 0
 AreRun words = words ≡ codes "run" ∷ []
 
+-- the line that says which words there are
 abbrev pub usage : List ℕ
 usage = codes "Error: usage: sv_replay run or sv_replay gen N" ++ 10 ∷ []
 
+-- the number of a status
 abbrev pub status_number : Status → ℕ
 status_number status.Done = 0
 status_number status.SourceFailed = 1
@@ -43,15 +45,19 @@ status_number status.TooLong = 8
 abbrev pub fault_line : List ℕ → ℕ → List ℕ
 fault_line front line = front ++ decimal line ++ 10 ∷ []
 
+-- the closing line of a line outside the grammar
 abbrev pub bad_line : ℕ → List ℕ
 bad_line line = fault_line (codes "fault 5 line ") line
 
+-- that of an input which is not accepted
 abbrev pub not_accepted : ℕ → List ℕ
 not_accepted line = fault_line (codes "fault 7 line ") line
 
+-- that of a source that failed
 abbrev pub source_failed : List ℕ
 source_failed = codes "fault 1" ++ 10 ∷ []
 
+-- that of a journal which is too long
 abbrev pub too_long : List ℕ
 too_long = codes "fault 8" ++ 10 ∷ []
 
@@ -59,6 +65,7 @@ too_long = codes "fault 8" ++ 10 ∷ []
 unfoldable pub configuration_fault : ConfFault → List ℕ
 configuration_fault fault = codes "fault 6 conf " ++ fault_text fault ++ 10 ∷ []
 
+-- that of a configuration with parts that are not built yet
 abbrev pub not_built : List ℕ
 not_built = codes "fault 6 not built" ++ 10 ∷ []
 
@@ -162,6 +169,7 @@ pub record HalfTold (left left_after written written_after : Option (List ℕ)) 
   pub is_closing : IsClosing lines closing
   pub wrote : AppendsFront written written_after (order_text given ++ closing)
 
+-- a closing line with the number of the line behind these
 abbrev pub line_behind : (ℕ → List ℕ) → List Line → List ℕ
 line_behind closing lines = closing (length lines + 1)
 
@@ -191,11 +199,13 @@ pub record ReadsOn (run : Run) (room : ℕ) (left left_after old new : Option (L
   pub size : length bytes + room ≡ journal_limit
   pub goes : GoesOn run bytes [] old new
 
+-- the bytes of the run are those that the source lost
 pub record ReadOn (run : Run) (left left_after old new : Option (List ℕ)) : Type 0 where
   pub bytes : List ℕ
   pub taken : Taken left left_after bytes
   pub goes : GoesOn run bytes [] old new
 
+-- how the reading ended
 abbrev pub Ended : Ending → Run → Option (List ℕ) → Option (List ℕ) → Option (List ℕ) → Option (List ℕ) → Type 0
 Ended ending.Whole run left left_after old new = ReadOn run left left_after old new × IsAtEnd left_after
 Ended ending.Broken run left left_after old new = ReadOn run left left_after old new

@@ -11,9 +11,11 @@ use Rattle.sv_base.specs.declared.spec.Spec.{Spec}
 use Rattle.sv_base.specs.declared.state.Level.TheVariants.{Info}
 use Rattle.sv_journal.specs.declared.header.Program.{Program}
 
+-- a log without a file
 abbrev pub no_log : LogSpec
 no_log = record { file = None; maxbytes = 52428800; backups = 10; capture = 0; events = false }
 
+-- the process of a line
 abbrev pub spec_of : Program → Spec
 spec_of program = record {
   group = program.name;
@@ -54,6 +56,7 @@ starts_before group other = is_lt (start_order (λ (g : GroupSpec). g.priority) 
 abbrev pub placed : GroupSpec → List GroupSpec → List GroupSpec
 placed group groups = insert groups (unwrap_or (position (starts_before group) groups) (length groups)) group
 
+-- the configuration of these groups
 abbrev pub config_of : List GroupSpec → Config
 config_of groups = record {
   identifier = codes "supervisor";

@@ -13,6 +13,7 @@ use Rattle.sv_loop.specs.declared.run.End.TheVariants.{Misplaced, Refused, Fault
 use Rattle.sv_loop.specs.declared.run.Run.{Run}
 use Rattle.sv_out.specs.Written.{AppendsFront}
 
+-- the machine runs
 abbrev pub IsRunning : Place → Type 0
 IsRunning (place.Running machine) = Unit {0}
 IsRunning other = ⊥
@@ -39,6 +40,7 @@ TellsOfWhole run old new got =
     ((got ≡ status.Done) × (run.line.items ≡ []) × IsRunning run.place × Appends old new [])
     ⊎ ((((run.line.items ≡ []) × IsRunning run.place) → ⊥) × TellsLine (bad_line (run.lines + 1)) status.BadLine old new got)
 
+-- what the end of the reading at a line is told by
 abbrev pub TellsOfLine : End → Run → Option (List ℕ) → Option (List ℕ) → Status → Type 0
 TellsOfLine Misplaced run old new got = TellsLine (bad_line (run.lines + 1)) status.BadLine old new got
 TellsOfLine Refused run old new got = TellsLine (not_accepted (run.lines + 1)) status.NotAccepted old new got
@@ -47,6 +49,7 @@ TellsOfLine NotBuilt run old new got = Tells not_built status.NotConfigured old 
 TellsOfLine NoMemory run old new got = (got ≡ status.NoMemory) × Appends old new []
 TellsOfLine Unwritten run old new got = (got ≡ status.SinkFailed) × Appends old new []
 
+-- what the end of the reading is told by
 abbrev pub TellsOf : Ending → Run → Option (List ℕ) → Option (List ℕ) → Status → Type 0
 TellsOf Whole run old new got = TellsOfWhole run old new got
 TellsOf Broken run old new got = Tells source_failed status.SourceFailed old new got

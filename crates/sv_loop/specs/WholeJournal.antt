@@ -28,22 +28,27 @@ pub data Beginning : Type 0 where
   Short : List Program → ℕ → Beginning
   Long : Host → List (List ℕ × ℕ) → List ℕ → List (List ℕ × List ℕ) → Beginning
 
+-- a line for each program
 abbrev pub program_lines : List Program → List Line
 program_lines [] = []
 program_lines (program ∷ programs) = Head (header.Program program) ∷ program_lines programs
 
+-- a line for each variable of the environment
 abbrev pub variable_lines : List (List ℕ × List ℕ) → List Line
 variable_lines [] = []
 variable_lines (variable ∷ more) = Head (header.Env variable.0 variable.1) ∷ variable_lines more
 
+-- a line for each known size
 abbrev pub size_lines : List (List ℕ × ℕ) → List Line
 size_lines [] = []
 size_lines (size ∷ more) = Head (header.Size size.0 size.1) ∷ size_lines more
 
+-- a line for each included text
 abbrev pub include_lines : List (List ℕ × List ℕ) → List Line
 include_lines [] = []
 include_lines (text ∷ more) = Head (header.Include text.0 text.1) ∷ include_lines more
 
+-- a line for each input
 abbrev pub input_lines : List Input → List Line
 input_lines [] = []
 input_lines (input ∷ inputs) = Said input ∷ input_lines inputs
@@ -71,6 +76,7 @@ pub record IsConfigured (host : Host) (sizes : List (List ℕ × ℕ)) (text : L
   pub built : is_built config ≡ true
   pub begins : m ≡ opening config sizes host
 
+-- the machine as it begins
 abbrev pub BeginsAs : Beginning → Model → Type 0
 BeginsAs (Short programs start) m = m ≡ opening (config_of (groups_of [] programs)) [] (host_at start)
 BeginsAs (Long host sizes text included) m = IsConfigured host sizes text included m

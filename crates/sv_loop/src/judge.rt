@@ -1,4 +1,5 @@
-ghost use Rattle.std.specs.Prelude.{◌≡◌, ◌↔◌, IsTrue, IsSome, IfOk, IfSome};
+//! What is to be said of one line at its place.
+ghost use Rattle.std.specs.Prelude.{◌≡◌, ◌↔◌, [], IsTrue, IsSome, IfOk, IfSome};
 ghost use Rattle.sv_base.specs.Roster.{is_roster};
 ghost use Rattle.sv_core.specs.MachineState.{Model};
 ghost use Rattle.sv_core.specs.StandsFor.{StandsFor};
@@ -6,6 +7,7 @@ ghost use Rattle.sv_journal.specs.declared.header.Header.TheVariants.{Go};
 ghost use Rattle.sv_loop.specs.JournalPlaces.{Stage, adds, heads, titles};
 ghost use Rattle.sv_loop.specs.ShortHeader.{group_of, placed};
 ghost use Rattle.sv_loop.specs.JournalPlaces.Stage.{Fresh, Named, Long, Running};
+ghost use Rattle.sv_loop.specs.JournalPlaces.Verdict.{Stands};
 ghost use Rattle.sv_loop.specs.Judging.{IsPlace, JudgedAs, JudgedHead};
 
 use crate::long::{LongPlace, judge_long};
@@ -27,7 +29,7 @@ pub enum Place {
     Fresh,
     Named(Groups),
     Long(LongPlace),
-    Running(Machine),
+    Running(Box<Machine>),
 }
 
 /// What is to be said of a line at its place.
@@ -138,7 +140,8 @@ fn with_program(
     groups: Groups,
     program: Program,
 ) -> Result<Option<Groups>, AllocError>
-    ensures some { IfOk result (λ more. IsSome more ↔ IsTrue (is_roster (placed (group_of program) groups))) }
+    ensures some { IfOk result (λ more. IsSome more
+        ↔ IsTrue (is_roster (placed (group_of program) groups))) }
     ensures value { IfOk result (λ more. IfSome more (λ g. g ≡ placed (group_of program) groups)) }
 {
     let group = group_of(alloc, program)?;
@@ -159,13 +162,23 @@ fn judge_go(alloc: Global, groups: Groups, start: Moment) -> Judged
         Vec::new(alloc),
         &host_at(alloc, start),
     ) {
-        Ok(machine) => Judged::Stands(Place::Running(machine), Vec::new(alloc)),
+        Ok(machine) => running(alloc, machine),
         Err(AllocError) => Judged::NoMemory,
     }
 }
 
-fn judge_input(alloc: Global, machine: Machine, line: &[u8]) -> Judged
-    ensures { (m : Model) → StandsFor machine m → JudgedAs result (Running m) line.now }
+/// The place of a machine that begins.
+pub(crate) fn running(alloc: Global, machine: Machine) -> Judged
+    ensures { (m : Model) → StandsFor machine m → JudgedHead result (Stands (Running m) []) }
+{
+    match Box::new(alloc, machine) {
+        Ok(machine) => Judged::Stands(Place::Running(machine), Vec::new(alloc)),
+        Err(_) => Judged::NoMemory,
+    }
+}
+
+fn judge_input(alloc: Global, machine: Box<Machine>, line: &[u8]) -> Judged
+    ensures { (m : Model) → StandsFor machine.value m → JudgedAs result (Running m) line.now }
 {
     let mut machine = machine;
     match read_input(alloc, line) {

@@ -1,3 +1,4 @@
+//! The long header: its lines in their order, and the configuration that it holds.
 ghost use Rattle.std.specs.Prelude.{◌≡◌, ◌↔◌, ◌++◌, ◌∷◌, [], IsTrue, IsSome, IfOk, IfSome, length};
 ghost use Rattle.std.specs.List.{list_all, list_any};
 ghost use Rattle.sv_conf.specs.Configuration.{configuration_of};
@@ -129,7 +130,8 @@ fn with_variable(
     name: Text,
     value: Text,
 ) -> Result<Option<LongPlace>, AllocError>
-    ensures { IfOk result (λ next. next ≡ goes_on (LongPlace.Described host sizes) (Header.Env name value)) }
+    ensures { IfOk result (λ next. next ≡ goes_on (LongPlace.Described host sizes)
+        (Header.Env name value)) }
 {
     if !sizes.as_slice().is_empty() || !is_behind(&name, host.environment.as_slice()) {
         return Ok(None);
@@ -145,7 +147,8 @@ fn with_size(
     file: Text,
     size: u64,
 ) -> Result<Option<LongPlace>, AllocError>
-    ensures { IfOk result (λ next. next ≡ goes_on (LongPlace.Described host sizes) (Header.Size file size)) }
+    ensures { IfOk result (λ next. next ≡ goes_on (LongPlace.Described host sizes)
+        (Header.Size file size)) }
 {
     if !is_behind(&file, sizes.as_slice()) {
         return Ok(None);
@@ -162,7 +165,8 @@ fn judge_configured(
     included: Items<(Text, Bytes)>,
     header: Header,
 ) -> Judged
-    ensures { JudgedHead result (long_heads (LongPlace.Configured host sizes text included) header) }
+    ensures { JudgedHead result
+        (long_heads (LongPlace.Configured host sizes text included) header) }
 {
     match header {
         Header::Include(name, more) => {
@@ -218,7 +222,7 @@ fn begin(alloc: Global, host: &Host, sizes: Sizes, config: Config) -> Judged
         return Judged::NotBuilt;
     }
     match Machine::new(alloc, config, sizes.into_vec(), host) {
-        Ok(machine) => Judged::Stands(Place::Running(machine), Vec::new(alloc)),
+        Ok(machine) => crate::judge::running(alloc, machine),
         Err(AllocError) => Judged::NoMemory,
     }
 }

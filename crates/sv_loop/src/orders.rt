@@ -1,3 +1,4 @@
+//! The text of orders, and its writing.
 ghost use Rattle.std.specs.Prelude.{◌≡◌, ◌≤◌, IfOk, OnOk, IfErr, OnErr, Err};
 ghost use Rattle.std.specs.Io.KnownBytes.{Appends};
 ghost use Rattle.sv_loop.specs.JournalPlaces.{order_text};
@@ -16,8 +17,10 @@ pub(crate) fn write_orders<K: Sink>(
     orders: &[Order],
     sink: &mut K,
 ) -> Result<(), End>
-    ensures ok { OnOk result (Appends (K.written sink.old) (K.written sink.new) (order_text orders.now)) }
-    ensures err { IfErr result (λ end. Unwrote end (order_text orders.now) (K.written sink.old) (K.written sink.new)) }
+    ensures ok { OnOk result (Appends (K.written sink.old) (K.written sink.new)
+        (order_text orders.now)) }
+    ensures err { IfErr result (λ end. Unwrote end (order_text orders.now) (K.written sink.old)
+        (K.written sink.new)) }
     ensures later { K.faults sink.old ≤ K.faults sink.new }
     ensures failed { result ≡ Err End.Unwritten → Rose (K.faults sink.old) (K.faults sink.new) }
 {

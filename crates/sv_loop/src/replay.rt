@@ -1,3 +1,4 @@
+//! The call that reads a journal, runs the machine on it and writes its orders.
 ghost use Rattle.std.specs.Prelude.{◌≡◌, ◌≢◌, ◌≤◌, ◌<◌, ◌↔◌, IsTrue, codes, ◌++◌, ◌∷◌, [], Err, IfOk, OnErr, length, take, string_bytes};
 ghost use Rattle.std.specs.Fmt.{decimal};
 ghost use Rattle.std.specs.Io.KnownBytes.{Appends, Consumes, IsAtEnd, Keeps};
@@ -76,7 +77,8 @@ fn read_piece<R: Source>(source: &mut R, buffer: &mut [u8], most: usize) -> Resu
     requires room { 0 < length buffer.old }
     ensures within { IfOk result (λ n. n ≤ length buffer.new) }
     ensures most { IfOk result (λ n. n ≤ most) }
-    ensures bytes { IfOk result (λ n. Consumes (R.left source.old) (R.left source.new) (take n buffer.new)) }
+    ensures bytes { IfOk result (λ n. Consumes (R.left source.old) (R.left source.new)
+        (take n buffer.new)) }
     ensures end { IfOk result (λ n. n ≡ 0 → IsAtEnd (R.left source.new)) }
     ensures kept { OnErr result (Keeps (R.left source.old) (R.left source.new)) }
     ensures cause { HasCause (R.faults source.old) (R.faults source.new) result }
@@ -90,7 +92,8 @@ fn read_piece<R: Source>(source: &mut R, buffer: &mut [u8], most: usize) -> Resu
 fn tell<K: Sink>(text: &[u8], status: Status, sink: &mut K) -> Status
     ensures tells { Tells text.now status (K.written sink.old) (K.written sink.new) result }
     ensures later { K.faults sink.old ≤ K.faults sink.new }
-    ensures failed { status ≢ Status.SinkFailed → result ≡ Status.SinkFailed → Rose (K.faults sink.old) (K.faults sink.new) }
+    ensures failed { status ≢ Status.SinkFailed → result ≡ Status.SinkFailed
+        → Rose (K.faults sink.old) (K.faults sink.new) }
 {
     match write_all(sink, text) {
         Ok(()) => status,
@@ -119,11 +122,14 @@ fn read_all<R: Source, K: Sink>(
     requires start { IsAt run.old [] Fresh [] [] }
     requires few { run.old.lines ≡ 0 }
     ensures few { run.new.lines ≤ 67108864 }
-    ensures ended { Ended result run.new (R.left source.old) (R.left source.new) (K.written sink.old) (K.written sink.new) }
+    ensures ended { Ended result run.new (R.left source.old) (R.left source.new)
+        (K.written sink.old) (K.written sink.new) }
     ensures source_later { R.faults source.old ≤ R.faults source.new }
     ensures sink_later { K.faults sink.old ≤ K.faults sink.new }
-    ensures source_failed { result ≡ Ending.Broken → Rose (R.faults source.old) (R.faults source.new) }
-    ensures sink_failed { result ≡ Ending.Stopped End.Unwritten → Rose (K.faults sink.old) (K.faults sink.new) }
+    ensures source_failed { result ≡ Ending.Broken
+        → Rose (R.faults source.old) (R.faults source.new) }
+    ensures sink_failed { result ≡ Ending.Stopped End.Unwritten
+        → Rose (K.faults sink.old) (K.faults sink.new) }
 {
     let mut buffer = [0u8; PIECE];
     let mut room = JOURNAL_LIMIT;
@@ -181,7 +187,8 @@ fn close<K: Sink>(alloc: Global, run: &Run, ending: Ending, sink: &mut K) -> Sta
     requires { run.now.lines ≤ 67108864 }
     ensures tells { TellsOf ending run.now (K.written sink.old) (K.written sink.new) result }
     ensures later { K.faults sink.old ≤ K.faults sink.new }
-    ensures failed { ending ≢ Ending.Stopped End.Unwritten → result ≡ Status.SinkFailed → Rose (K.faults sink.old) (K.faults sink.new) }
+    ensures failed { ending ≢ Ending.Stopped End.Unwritten → result ≡ Status.SinkFailed
+        → Rose (K.faults sink.old) (K.faults sink.new) }
 {
     match ending {
         Ending::Whole => close_whole(alloc, run, sink),
@@ -209,7 +216,8 @@ fn close_line<K: Sink>(alloc: Global, run: &Run, end: End, sink: &mut K) -> Stat
     requires { run.now.lines ≤ 67108864 }
     ensures tells { TellsOfLine end run.now (K.written sink.old) (K.written sink.new) result }
     ensures later { K.faults sink.old ≤ K.faults sink.new }
-    ensures failed { end ≢ End.Unwritten → result ≡ Status.SinkFailed → Rose (K.faults sink.old) (K.faults sink.new) }
+    ensures failed { end ≢ End.Unwritten → result ≡ Status.SinkFailed
+        → Rose (K.faults sink.old) (K.faults sink.new) }
 {
     match end {
         End::Misplaced => tell_bad_line(alloc, run.lines + 1, sink),
@@ -228,7 +236,8 @@ fn close_line<K: Sink>(alloc: Global, run: &Run, end: End, sink: &mut K) -> Stat
 }
 
 fn tell_bad_line<K: Sink>(alloc: Global, line: u64, sink: &mut K) -> Status
-    ensures tells { TellsLine (bad_line line) Status.BadLine (K.written sink.old) (K.written sink.new) result }
+    ensures tells { TellsLine (bad_line line) Status.BadLine (K.written sink.old)
+        (K.written sink.new) result }
     ensures later { K.faults sink.old ≤ K.faults sink.new }
     ensures failed { result ≡ Status.SinkFailed → Rose (K.faults sink.old) (K.faults sink.new) }
 {
@@ -237,9 +246,11 @@ fn tell_bad_line<K: Sink>(alloc: Global, line: u64, sink: &mut K) -> Status
 
 /// Tells a fault at a line.
 fn tell_line<K: Sink>(alloc: Global, front: &str, line: u64, status: Status, sink: &mut K) -> Status
-    ensures tells { TellsLine (fault_line front.now line) status (K.written sink.old) (K.written sink.new) result }
+    ensures tells { TellsLine (fault_line front.now line) status (K.written sink.old)
+        (K.written sink.new) result }
     ensures later { K.faults sink.old ≤ K.faults sink.new }
-    ensures failed { status ≢ Status.SinkFailed → result ≡ Status.SinkFailed → Rose (K.faults sink.old) (K.faults sink.new) }
+    ensures failed { status ≢ Status.SinkFailed → result ≡ Status.SinkFailed
+        → Rose (K.faults sink.old) (K.faults sink.new) }
 {
     match fault_line(alloc, front, line) {
         Ok(text) => tell(text.as_str().as_bytes(), status, sink),
@@ -249,7 +260,8 @@ fn tell_line<K: Sink>(alloc: Global, front: &str, line: u64, status: Status, sin
 
 /// Tells a fault of the configuration.
 fn tell_configuration_fault<K: Sink>(alloc: Global, fault: &ConfFault, sink: &mut K) -> Status
-    ensures tells { TellsLine (configuration_fault fault.now) Status.NotConfigured (K.written sink.old) (K.written sink.new) result }
+    ensures tells { TellsLine (configuration_fault fault.now) Status.NotConfigured
+        (K.written sink.old) (K.written sink.new) result }
     ensures later { K.faults sink.old ≤ K.faults sink.new }
     ensures failed { result ≡ Status.SinkFailed → Rose (K.faults sink.old) (K.faults sink.new) }
 {
@@ -272,14 +284,20 @@ fn configuration_fault(alloc: Global, fault: &ConfFault) -> Result<String, Alloc
 }
 
 fn run<R: Source, K: Sink>(alloc: Global, source: &mut R, sink: &mut K) -> Status
-    ensures replays { Replays result (R.left source.old) (R.left source.new) (K.written sink.old) (K.written sink.new) }
+    ensures replays { Replays result (R.left source.old) (R.left source.new) (K.written sink.old)
+        (K.written sink.new) }
     ensures words { result ≢ Status.WordsRefused }
     ensures deeds { result ≡ Status.Done →
-        WritesDeeds (R.left source.old) (R.left source.new) (K.written sink.old) (K.written sink.new) }
-    ensures complete { HoldsGoodJournal (R.left source.old) → IsDoneOrHindered (status_number result) }
-    ensures unconfigured { HoldsUnconfigured (R.left source.old) → IsUnconfiguredOrHindered (status_number result) }
-    ensures source_failed { result ≡ Status.SourceFailed → Rose (R.faults source.old) (R.faults source.new) }
-    ensures sink_failed { result ≡ Status.SinkFailed → Rose (K.faults sink.old) (K.faults sink.new) }
+        WritesDeeds (R.left source.old) (R.left source.new) (K.written sink.old)
+        (K.written sink.new) }
+    ensures complete { HoldsGoodJournal (R.left source.old)
+        → IsDoneOrHindered (status_number result) }
+    ensures unconfigured { HoldsUnconfigured (R.left source.old)
+        → IsUnconfiguredOrHindered (status_number result) }
+    ensures source_failed { result ≡ Status.SourceFailed
+        → Rose (R.faults source.old) (R.faults source.new) }
+    ensures sink_failed { result ≡ Status.SinkFailed
+        → Rose (K.faults sink.old) (K.faults sink.new) }
 {
     let mut run = Run::new(alloc);
     let ending = read_all(alloc, &mut run, source, sink);
@@ -297,14 +315,19 @@ fn run<R: Source, K: Sink>(alloc: Global, source: &mut R, sink: &mut K) -> Statu
 pub fn replay<R: Source, K: Sink>(alloc: Global, words: &[Text], source: &mut R, sink: &mut K) -> u8
     ensures statuses { (status : Status) × (result ≡ status_number status) }
     ensures refused { (AreRun words.now → ⊥) →
-        Refuses result (R.left source.old) (R.left source.new) (K.written sink.old) (K.written sink.new) }
+        Refuses result (R.left source.old) (R.left source.new) (K.written sink.old)
+        (K.written sink.new) }
     ensures replays { AreRun words.now →
-        ReplaysAs result (R.left source.old) (R.left source.new) (K.written sink.old) (K.written sink.new) }
+        ReplaysAs result (R.left source.old) (R.left source.new) (K.written sink.old)
+        (K.written sink.new) }
     ensures words { result ≡ 2 → AreRun words.now → ⊥ }
     ensures deeds { AreRun words.now → result ≡ 0 →
-        WritesDeeds (R.left source.old) (R.left source.new) (K.written sink.old) (K.written sink.new) }
-    ensures complete { AreRun words.now → HoldsGoodJournal (R.left source.old) → IsDoneOrHindered result }
-    ensures unconfigured { AreRun words.now → HoldsUnconfigured (R.left source.old) → IsUnconfiguredOrHindered result }
+        WritesDeeds (R.left source.old) (R.left source.new) (K.written sink.old)
+        (K.written sink.new) }
+    ensures complete { AreRun words.now → HoldsGoodJournal (R.left source.old)
+        → IsDoneOrHindered result }
+    ensures unconfigured { AreRun words.now → HoldsUnconfigured (R.left source.old)
+        → IsUnconfiguredOrHindered result }
     ensures source_failed { result ≡ 1 → Rose (R.faults source.old) (R.faults source.new) }
     ensures sink_failed { result ≡ 4 → Rose (K.faults sink.old) (K.faults sink.new) }
 {

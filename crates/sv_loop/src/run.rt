@@ -1,3 +1,4 @@
+//! The lines of a journal, byte by byte.
 ghost use Rattle.std.specs.Prelude.{◌≡◌, ◌≤◌, ◌<◌, ◌+◌, ◌^◌, ◌∷◌, ◌++◌, [], List, ℕ, OnOk, IfErr, Err, length};
 ghost use Rattle.sv_loop.specs.JournalPlaces.{Line, Stage};
 ghost use Rattle.sv_loop.specs.JournalPlaces.Stage.{Fresh};
@@ -63,12 +64,15 @@ impl Run {
         ensures few { self.new.lines ≤ self.old.lines + length piece.now }
         ensures later { K.faults sink.old ≤ K.faults sink.new }
         ensures failed { result ≡ Err End.Unwritten → Rose (K.faults sink.old) (K.faults sink.new) }
-        ensures goes_on { OnOk result ((lines : List Line) (at : Stage) (given : List Order) (bytes : List ℕ) →
+        ensures goes_on { OnOk result ((lines : List Line) (at : Stage) (given : List Order)
+            (bytes : List ℕ) →
             IsAt self.old lines at given bytes →
             GoesOn self.new (bytes ++ piece.now) given (K.written sink.old) (K.written sink.new)) }
-        ensures stops { IfErr result (λ end. (lines : List Line) (at : Stage) (given : List Order) (bytes : List ℕ) →
+        ensures stops { IfErr result (λ end. (lines : List Line) (at : Stage) (given : List Order)
+            (bytes : List ℕ) →
             IsAt self.old lines at given bytes →
-            StopsAt end self.new (bytes ++ piece.now) given (K.written sink.old) (K.written sink.new)) }
+            StopsAt end self.new (bytes ++ piece.now) given (K.written sink.old)
+            (K.written sink.new)) }
     {
         for byte in piece {
             match self.take_byte(alloc, *byte, sink) {
@@ -84,12 +88,15 @@ impl Run {
         ensures few { self.new.lines ≤ self.old.lines + 1 }
         ensures later { K.faults sink.old ≤ K.faults sink.new }
         ensures failed { result ≡ Err End.Unwritten → Rose (K.faults sink.old) (K.faults sink.new) }
-        ensures goes_on { OnOk result ((lines : List Line) (at : Stage) (given : List Order) (bytes : List ℕ) →
+        ensures goes_on { OnOk result ((lines : List Line) (at : Stage) (given : List Order)
+            (bytes : List ℕ) →
             IsAt self.old lines at given bytes →
             GoesOn self.new (bytes ++ byte ∷ []) given (K.written sink.old) (K.written sink.new)) }
-        ensures stops { IfErr result (λ end. (lines : List Line) (at : Stage) (given : List Order) (bytes : List ℕ) →
+        ensures stops { IfErr result (λ end. (lines : List Line) (at : Stage) (given : List Order)
+            (bytes : List ℕ) →
             IsAt self.old lines at given bytes →
-            StopsAt end self.new (bytes ++ byte ∷ []) given (K.written sink.old) (K.written sink.new)) }
+            StopsAt end self.new (bytes ++ byte ∷ []) given (K.written sink.old)
+            (K.written sink.new)) }
     {
         if byte == b'\n' {
             return match self.end_line(alloc, sink) {
@@ -112,12 +119,15 @@ impl Run {
         ensures few { self.new.lines ≤ self.old.lines + 1 }
         ensures later { K.faults sink.old ≤ K.faults sink.new }
         ensures failed { result ≡ Err End.Unwritten → Rose (K.faults sink.old) (K.faults sink.new) }
-        ensures goes_on { OnOk result ((lines : List Line) (at : Stage) (given : List Order) (bytes : List ℕ) →
+        ensures goes_on { OnOk result ((lines : List Line) (at : Stage) (given : List Order)
+            (bytes : List ℕ) →
             IsAt self.old lines at given bytes →
             GoesOn self.new (bytes ++ 10 ∷ []) given (K.written sink.old) (K.written sink.new)) }
-        ensures stops { IfErr result (λ end. (lines : List Line) (at : Stage) (given : List Order) (bytes : List ℕ) →
+        ensures stops { IfErr result (λ end. (lines : List Line) (at : Stage) (given : List Order)
+            (bytes : List ℕ) →
             IsAt self.old lines at given bytes →
-            StopsAt end self.new (bytes ++ 10 ∷ []) given (K.written sink.old) (K.written sink.new)) }
+            StopsAt end self.new (bytes ++ 10 ∷ []) given (K.written sink.old)
+            (K.written sink.new)) }
     {
         let place = mem::replace(&mut self.place, Place::Fresh);
         match judge(alloc, place, self.line.as_slice()) {

@@ -1,3 +1,4 @@
+//! The short header: its programs, and the configuration that they make.
 ghost use Rattle.std.specs.Prelude.{◌≡◌, ◌≤◌, ◌∷◌, [], codes, length, position, unwrap_or, IfOk, OnOk};
 ghost use Rattle.sv_loop.specs.ShortHeader.{no_log, spec_of, group_of, starts_before, placed, config_of, host_at};
 
@@ -27,7 +28,9 @@ fn no_log() -> LogSpec
 }
 
 fn environment(alloc: Global, name: &Text) -> Result<Items<(Text, Text)>, AllocError>
-    ensures { IfOk result (λ pairs. pairs ≡ (codes "SUPERVISOR_ENABLED", codes "1") ∷ (codes "SUPERVISOR_GROUP_NAME", name.now) ∷ (codes "SUPERVISOR_PROCESS_NAME", name.now) ∷ []) }
+    ensures { IfOk result (λ pairs. pairs ≡ (codes "SUPERVISOR_ENABLED", codes "1") ∷
+        (codes "SUPERVISOR_GROUP_NAME", name.now) ∷
+        (codes "SUPERVISOR_PROCESS_NAME", name.now) ∷ []) }
 {
     let mut pairs = Items::new(alloc);
     pairs.push((Text::fixed("SUPERVISOR_ENABLED"), Text::fixed("1")))?;
@@ -91,7 +94,8 @@ pub(crate) fn place(groups: &mut Vec<GroupSpec>, group: GroupSpec) -> Result<(),
 }
 
 fn place_of(group: &GroupSpec, groups: &[GroupSpec]) -> usize
-    ensures value { result ≡ unwrap_or (position (starts_before group.now) groups.now) (length groups.now) }
+    ensures value { result ≡ unwrap_or (position (starts_before group.now) groups.now)
+        (length groups.now) }
     ensures within { result ≤ length groups.now }
 {
     first_after(group, groups).unwrap_or(groups.len())

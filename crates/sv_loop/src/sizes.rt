@@ -1,3 +1,4 @@
+//! The known sizes of log files that a header names.
 ghost use Rattle.std.specs.Prelude.{◌≡◌, ◌++◌, ◌∷◌, [], IsTrue, IfOk};
 ghost use Rattle.sv_core.specs.Sizes.{rise};
 ghost use Rattle.sv_loop.specs.LongHeader.{is_behind};

@@ -1,6 +1,6 @@
 -- What passes between a pool and one of its listeners, which is known by its place in the start order (the manual's
 -- chapter on events, "event listener notification protocol").
-use Rattle.std.specs.Prelude.{ℕ, List, [], ◌-◌, Bool, ◌&&◌, nat_le, map, slice_get, if◌then◌else◌}
+use Rattle.std.specs.Prelude.{ℕ, List, [], ◌-◌, Bool, ◌&&◌, is_some, nat_le, map, slice_get, if◌then◌else◌}
 use Rattle.std.specs.List.{flat_map, list_any}
 use Rattle.std.specs.Option.{option_map, option_to_list}
 use Rattle.sv_base.specs.declared.ids.Run.{Run}
@@ -12,6 +12,14 @@ use Rattle.sv_pool.specs.PoolLists.{acknowledged, rejected, took}
 use Rattle.sv_pool.specs.declared.taken.Taken.{Taken}
 use Rattle.sv_pools.specs.EventPools.{EventPool, EventPools}
 use Rattle.sv_pools.specs.Offers.{room_reports}
+
+-- an event waits in the pool
+abbrev pub has_waiting : EventPool → Bool
+has_waiting p = is_some (slice_get p.lists.waiting 0)
+
+-- in some pool
+abbrev pub some_wait : EventPools → Bool
+some_wait ps = list_any has_waiting ps.each
 
 -- the process of this place is one of the pool's listeners, and holds an event
 abbrev pub is_holding : ℕ → EventPool → Bool

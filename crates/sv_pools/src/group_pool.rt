@@ -3,7 +3,7 @@ ghost use Rattle.std.specs.Prelude.{◌≡◌, ◌++◌, ◌-◌, ◌≤◌, IfO
 ghost use Rattle.std.specs.Option.{SomeIff, option_map, option_to_list};
 ghost use Rattle.sv_pools.specs.Covering.{ask_for, covers};
 ghost use Rattle.sv_pools.specs.EventPools.{EventPool};
-ghost use Rattle.sv_pools.specs.Listeners.{acknowledged_by, handed_by, is_holding, may_get, orders_to, rejected_by, reports_of_rejection};
+ghost use Rattle.sv_pools.specs.Listeners.{acknowledged_by, handed_by, has_waiting, is_holding, may_get, orders_to, rejected_by, reports_of_rejection};
 ghost use Rattle.sv_pools.specs.Offers.{drop_report, event_with, offered_to, reports_of_offer};
 ghost use Rattle.sv_pools.specs.StandsFor.{Keeps};
 
@@ -46,6 +46,13 @@ impl GroupPool {
             .as_slice()
             .iter()
             .any(|asked| is_covering(*asked, kind))
+    }
+
+    /// Whether an event waits in the pool.
+    pub(crate) fn has_waiting(&self) -> bool
+        ensures { (p : EventPool) → Keeps self.now p → result ≡ has_waiting p }
+    {
+        self.pool.next_for().is_some()
     }
 
     /// Takes an event of this type, number and body, if the pool asks for it; what is dropped for it is reported.

@@ -3,7 +3,7 @@ ghost use Rattle.std.specs.Prelude.{◌≡◌, ◌++◌, ◌+◌, ◌≤◌, ◌
 ghost use Rattle.std.specs.List.{flat_map, list_any};
 ghost use Rattle.sv_groups.specs.StartOrder.{processes};
 ghost use Rattle.sv_pools.specs.EventPools.{EventPool, EventPools, opened_for, opening, pool_of, pools_from};
-ghost use Rattle.sv_pools.specs.Listeners.{acknowledged_by, acknowledges, hand_orders, handed, handed_by, holds, is_handed, is_holding, may_get, orders_to, rejected_by, rejection_reports, rejects, reports_of_rejection};
+ghost use Rattle.sv_pools.specs.Listeners.{acknowledged_by, acknowledges, hand_orders, handed, handed_by, has_waiting, holds, is_handed, is_holding, may_get, orders_to, rejected_by, rejection_reports, rejects, reports_of_rejection, some_wait};
 ghost use Rattle.sv_pools.specs.Offers.{event_with, is_asked_for, offer_reports, offered, offered_to, reports_of_offer};
 ghost use Rattle.sv_pools.specs.StandsFor.{AreKept, Keeps, StandsFor};
 
@@ -69,6 +69,13 @@ impl Pools {
         ensures { (ps : EventPools) → StandsFor self.now ps → result ≡ is_asked_for kind ps.each }
     {
         some_asks_for(self.each.as_slice(), kind)
+    }
+
+    /// Whether an event waits in some pool. Where none does, nothing can be handed out.
+    pub fn some_wait(&self) -> bool
+        ensures { (ps : EventPools) → StandsFor self.now ps → result ≡ some_wait ps }
+    {
+        some_has_waiting(self.each.as_slice())
     }
 
     /// Whether this process is a listener that holds an event.
@@ -194,6 +201,16 @@ fn some_asks_for(pools: &[GroupPool], kind: Kind) -> bool
     match pools {
         [] => false,
         [pool, rest @ ..] => pool.asks_for(kind) || some_asks_for(rest, kind),
+    }
+}
+
+/// Whether an event waits in one of these pools.
+fn some_has_waiting(pools: &[GroupPool]) -> bool
+    ensures { (ps : List EventPool) → AreKept pools.now ps → result ≡ list_any has_waiting ps }
+{
+    match pools {
+        [] => false,
+        [pool, rest @ ..] => pool.has_waiting() || some_has_waiting(rest),
     }
 }
 

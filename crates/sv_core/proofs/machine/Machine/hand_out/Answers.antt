@@ -1,7 +1,12 @@
 use Rattle.std.proofs.Common.{length, arith, rules, ◌∙◌}
 use Rattle.sv_core.proofs.Shown.{hands_next}
+use Rattle.sv_core.proofs.Unmoved.{none_out}
 use Rattle.sv_core.specs.HandingOut.{hands_to}
 use Rattle.sv_core.proofs.machine.Machine.hand_out.Goals as goal
+
+pub returns-then-not-some_wait-clause-hands : goal.returns-then-not-some_wait-clause-hands
+returns-then-not-some_wait-clause-hands c =
+    none_out c.args.self.now c.some_wait.result c.some_wait.ensures c.if-not-some_wait.true
 
 pub loop-child-preserved : goal.loop-child-preserved
 loop-child-preserved c = record {
