@@ -10,16 +10,20 @@ use Rattle.sv_events.specs.declared.event.Event.{Event}
 use Rattle.sv_events.specs.declared.fact.Fact.{Fact}
 use Rattle.sv_events.specs.declared.fact.Fact.TheVariants.{Trying, Living, Ended, GaveUp, Communication, Log, Remote, Tick, GroupChange, Supervisor}
 
+-- the names of a process
 abbrev pub process_head : List ℕ → List ℕ → List ℕ
 process_head name group = codes "processname:" ++ name ++ codes " groupname:" ++ group
 
+-- with the state that it left
 abbrev pub state_head : List ℕ → List ℕ → State → List ℕ
 state_head name group from = process_head name group ++ codes " from_state:" ++ state_name from
 
+-- 1 where the exit was expected
 abbrev pub expected_digit : Bool → List ℕ
 expected_digit true = codes "1"
 expected_digit false = codes "0"
 
+-- the channel of a piece
 abbrev pub channel_name : Stream → List ℕ
 channel_name Out = codes "stdout"
 channel_name Err = codes "stderr"
@@ -47,5 +51,6 @@ envelope_head server pool poolserial event =
     ++ codes " eventname:" ++ kind_name event.kind
     ++ codes " len:" ++ decimal (length event.body)
 
+-- the head line, and the body behind it
 abbrev pub envelope_of : List ℕ → List ℕ → ℕ → Event → List ℕ
 envelope_of server pool poolserial event = envelope_head server pool poolserial event ++ 10 ∷ event.body

@@ -10,5 +10,6 @@ abbrev pub tick : ℕ → ℕ → ℕ → Option ℕ
 tick seconds old new =
     if nat_eq (slice_of seconds old) (slice_of seconds new) then None else Some (seconds * slice_of seconds new)
 
+-- of the periods of 5, 60 and 3,600 seconds
 abbrev pub ticks : ℕ → ℕ → List (Option ℕ)
 ticks old new = tick 5 old new ∷ tick 60 old new ∷ tick 3600 old new ∷ []

@@ -14,7 +14,8 @@ pub fn covers(parent: Kind, kind: Kind) -> bool
 }
 
 fn is_covering(parent: Kind, kind: Kind) -> bool
-    ensures { IsTrue result ↔ ((parent ≡ kind) ⊎ (parent ≡ Kind.Event) ⊎ (parent_of kind ≡ Some parent)) }
+    ensures { IsTrue result
+        ↔ ((parent ≡ kind) ⊎ (parent ≡ Kind.Event) ⊎ (parent_of kind ≡ Some parent)) }
 {
     parent == kind || parent == Kind::Event || is_right_above(parent, kind)
 }

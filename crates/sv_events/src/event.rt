@@ -41,7 +41,8 @@ fn envelope_head(
     poolserial: u64,
     event: &Event,
 ) -> Result<String, AllocError>
-    ensures { IfOk result (λ s. string_bytes s ≡ envelope_head server.now pool.now poolserial event.now) }
+    ensures { IfOk result (λ s. string_bytes s
+        ≡ envelope_head server.now pool.now poolserial event.now) }
 {
     let mut head = String::from_str(alloc, "ver:3.0 server:")?;
     head.push_str(server)?;
@@ -62,8 +63,15 @@ fn envelope_head(
 /// ends its head, and all behind it is the body. The head ends with the number of the body's bytes, so a reader can
 /// cut a stream of envelopes.
 pub fn first_line_feed_ends_the_head()
-    ensures head { (server pool : List ℕ) (poolserial : ℕ) (event : Event) → IsTrue (is_one_line server) → IsTrue (is_one_line pool) → poolserial < 2 ^ 64 → event.serial < 2 ^ 64 → length event.body < 2 ^ 64 → before_first is_line_feed (envelope_of server pool poolserial event) ≡ envelope_head server pool poolserial event }
-    ensures body { (server pool : List ℕ) (poolserial : ℕ) (event : Event) → IsTrue (is_one_line server) → IsTrue (is_one_line pool) → poolserial < 2 ^ 64 → event.serial < 2 ^ 64 → length event.body < 2 ^ 64 → after_first is_line_feed (envelope_of server pool poolserial event) ≡ event.body }
+    ensures head { (server pool : List ℕ) (poolserial : ℕ) (event : Event)
+        → IsTrue (is_one_line server) → IsTrue (is_one_line pool) → poolserial < 2 ^ 64
+        → event.serial < 2 ^ 64 → length event.body < 2 ^ 64
+        → before_first is_line_feed (envelope_of server pool poolserial event)
+        ≡ envelope_head server pool poolserial event }
+    ensures body { (server pool : List ℕ) (poolserial : ℕ) (event : Event)
+        → IsTrue (is_one_line server) → IsTrue (is_one_line pool) → poolserial < 2 ^ 64
+        → event.serial < 2 ^ 64 → length event.body < 2 ^ 64
+        → after_first is_line_feed (envelope_of server pool poolserial event) ≡ event.body }
 {}
 
 /// A law: each type of event is read back from its name, as an envelope writes it.

@@ -141,7 +141,8 @@ fn trying(
     from: State,
     tries: u32,
 ) -> Result<Bytes, AllocError>
-    ensures { IfOk result (λ b. b ≡ state_head name.now group.now from ++ codes " tries:" ++ decimal tries) }
+    ensures { IfOk result (λ b. b
+        ≡ state_head name.now group.now from ++ codes " tries:" ++ decimal tries) }
 {
     let mut text = state_head(alloc, name, group, from)?;
     push_number(alloc, &mut text, " tries:", u64::from(tries))?;
@@ -155,7 +156,8 @@ fn living(
     from: State,
     pid: u32,
 ) -> Result<Bytes, AllocError>
-    ensures { IfOk result (λ b. b ≡ state_head name.now group.now from ++ codes " pid:" ++ decimal pid) }
+    ensures { IfOk result (λ b. b
+        ≡ state_head name.now group.now from ++ codes " pid:" ++ decimal pid) }
 {
     let mut text = state_head(alloc, name, group, from)?;
     push_number(alloc, &mut text, " pid:", u64::from(pid))?;
@@ -170,7 +172,9 @@ fn ended(
     expected: bool,
     pid: u32,
 ) -> Result<Bytes, AllocError>
-    ensures { IfOk result (λ b. b ≡ state_head name.now group.now from ++ codes " expected:" ++ expected_digit expected ++ codes " pid:" ++ decimal pid) }
+    ensures { IfOk result (λ b. b
+        ≡ state_head name.now group.now from ++ codes " expected:" ++ expected_digit expected
+        ++ codes " pid:" ++ decimal pid) }
 {
     let mut text = state_head(alloc, name, group, from)?;
     push_field(&mut text, " expected:", expected_digit(expected))?;
@@ -192,7 +196,8 @@ fn communication(
     pid: u32,
     bytes: &Bytes,
 ) -> Result<Bytes, AllocError>
-    ensures { IfOk result (λ b. b ≡ process_head name.now group.now ++ codes " pid:" ++ decimal pid ++ 10 ∷ bytes.now) }
+    ensures { IfOk result (λ b. b
+        ≡ process_head name.now group.now ++ codes " pid:" ++ decimal pid ++ 10 ∷ bytes.now) }
 {
     let mut text = process_head(alloc, name, group)?;
     push_number(alloc, &mut text, " pid:", u64::from(pid))?;
@@ -207,7 +212,9 @@ fn log(
     stream: Stream,
     bytes: &Bytes,
 ) -> Result<Bytes, AllocError>
-    ensures { IfOk result (λ b. b ≡ process_head name.now group.now ++ codes " pid:" ++ decimal pid ++ codes " channel:" ++ channel_name stream ++ 10 ∷ bytes.now) }
+    ensures { IfOk result (λ b. b
+        ≡ process_head name.now group.now ++ codes " pid:" ++ decimal pid
+        ++ codes " channel:" ++ channel_name stream ++ 10 ∷ bytes.now) }
 {
     let mut text = process_head(alloc, name, group)?;
     push_number(alloc, &mut text, " pid:", u64::from(pid))?;

@@ -7,7 +7,8 @@ use sv_base::bytes::Bytes;
 
 /// Adds a label and what it labels.
 pub(crate) fn push_field(text: &mut String, label: &str, value: &str) -> Result<(), AllocError>
-    ensures { OnOk result (string_bytes text.new ≡ string_bytes text.old ++ label.now ++ value.now) }
+    ensures { OnOk result (string_bytes text.new
+        ≡ string_bytes text.old ++ label.now ++ value.now) }
 {
     text.push_str(label)?;
     text.push_str(value)?;
@@ -21,7 +22,8 @@ pub(crate) fn push_number(
     label: &str,
     number: u64,
 ) -> Result<(), AllocError>
-    ensures { OnOk result (string_bytes text.new ≡ string_bytes text.old ++ label.now ++ decimal number) }
+    ensures { OnOk result (string_bytes text.new
+        ≡ string_bytes text.old ++ label.now ++ decimal number) }
 {
     let digits = number.to_string(alloc)?;
     push_field(text, label, digits.as_str())

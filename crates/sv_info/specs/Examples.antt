@@ -23,5 +23,6 @@ pub record AreFaultTexts : Type 0 where
 -- the names of the members of what is said of a process, in their order
 abbrev pub member_names : List (List ℕ)
 member_names =
-    codes "name" ∷ codes "group" ∷ codes "description" ∷ codes "start" ∷ codes "stop" ∷ codes "now" ∷ codes "state" ∷ codes "statename"
-    ∷ codes "spawnerr" ∷ codes "exitstatus" ∷ codes "logfile" ∷ codes "stdout_logfile" ∷ codes "stderr_logfile" ∷ codes "pid" ∷ []
+    codes "name" ∷ codes "group" ∷ codes "description" ∷ codes "start" ∷ codes "stop" ∷ codes "now"
+    ∷ codes "state" ∷ codes "statename" ∷ codes "spawnerr" ∷ codes "exitstatus" ∷ codes "logfile"
+    ∷ codes "stdout_logfile" ∷ codes "stderr_logfile" ∷ codes "pid" ∷ []

@@ -58,8 +58,9 @@ fault_text fault (Some subject) =
 -- all faults, in rising order of their numbers
 abbrev pub all_faults : List Fault
 all_faults =
-    UnknownMethod ∷ IncorrectParameters ∷ BadArguments ∷ SignatureUnsupported ∷ ShutdownState ∷ BadName ∷ BadSignal ∷ NoFile
-    ∷ NotExecutable ∷ Failed ∷ AbnormalTermination ∷ SpawnError ∷ AlreadyStarted ∷ NotRunning ∷ []
+    UnknownMethod ∷ IncorrectParameters ∷ BadArguments ∷ SignatureUnsupported ∷ ShutdownState
+    ∷ BadName ∷ BadSignal ∷ NoFile ∷ NotExecutable ∷ Failed ∷ AbnormalTermination ∷ SpawnError
+    ∷ AlreadyStarted ∷ NotRunning ∷ []
 
 -- the fault of a number; a number that is none counts as FAILED
 abbrev pub fault_of : ℕ → Fault

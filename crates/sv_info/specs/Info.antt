@@ -1,4 +1,5 @@
--- What is said of a process (the manual's chapter on its XML-RPC interface, `getProcessInfo`), and in a row of a status array.
+-- What is said of a process (the manual's chapter on its XML-RPC interface, `getProcessInfo`), and in a
+-- row of a status array.
 use Rattle.std.specs.Prelude.{ℕ, ◌/◌, ℤ, pos, List, [], ◌∷◌, ◌++◌, Option, Some, None, codes}
 use Rattle.std.specs.Fmt.{decimal}
 use Rattle.sv_base.specs.Names.{state_name, state_number}
@@ -55,22 +56,26 @@ log_name log = log_name_of log.file
 -- who it is
 abbrev pub names_part : List ℕ → Spec → Child → ℕ → List (List ℕ × Tree)
 names_part group spec child now =
-    (codes "name", text spec.name) ∷ (codes "group", text group) ∷ (codes "description", text (description spec.name child now)) ∷ []
+    (codes "name", text spec.name) ∷ (codes "group", text group)
+    ∷ (codes "description", text (description spec.name child now)) ∷ []
 
 -- when it started and stopped
 abbrev pub times_part : Child → ℕ → List (List ℕ × Tree)
 times_part child now =
-    (codes "start", integer (seconds_of child.start)) ∷ (codes "stop", integer (seconds_of child.stop))
+    (codes "start", integer (seconds_of child.start))
+    ∷ (codes "stop", integer (seconds_of child.stop))
     ∷ (codes "now", integer (pos (now / 1000))) ∷ []
 
 -- its state
 abbrev pub state_names : Child → List (List ℕ × Tree)
 state_names child =
-    (codes "state", integer (pos (state_number child.state))) ∷ (codes "statename", text (state_name child.state)) ∷ []
+    (codes "state", integer (pos (state_number child.state)))
+    ∷ (codes "statename", text (state_name child.state)) ∷ []
 
 -- how its last start and its last process ended
 abbrev pub ends_part : Child → List (List ℕ × Tree)
-ends_part child = (codes "spawnerr", text child.fault) ∷ (codes "exitstatus", integer child.exit) ∷ []
+ends_part child =
+    (codes "spawnerr", text child.fault) ∷ (codes "exitstatus", integer child.exit) ∷ []
 
 -- how it is
 abbrev pub state_part : Child → List (List ℕ × Tree)
@@ -79,7 +84,8 @@ state_part child = state_names child ++ ends_part child
 -- where its logs are
 abbrev pub log_names : Spec → List (List ℕ × Tree)
 log_names spec =
-    (codes "logfile", text (log_name spec.stdout)) ∷ (codes "stdout_logfile", text (log_name spec.stdout))
+    (codes "logfile", text (log_name spec.stdout))
+    ∷ (codes "stdout_logfile", text (log_name spec.stdout))
     ∷ (codes "stderr_logfile", text (log_name spec.stderr)) ∷ []
 
 -- where its logs are, and its process
@@ -89,7 +95,8 @@ logs_part spec child = log_names spec ++ (codes "pid", integer (pos child.pid)) 
 -- the members of what is said of a process, in their order
 abbrev pub info_members : List ℕ → Spec → Child → ℕ → List (List ℕ × Tree)
 info_members group spec child now =
-    names_part group spec child now ++ times_part child now ++ state_part child ++ logs_part spec child
+    names_part group spec child now
+    ++ times_part child now ++ state_part child ++ logs_part spec child
 
 -- what is said of the process of a group
 abbrev pub info : List ℕ → Spec → Child → ℕ → Tree
@@ -113,5 +120,6 @@ outcome_text (Some fault) subject = fault_text fault (Some subject)
 abbrev pub status : List ℕ → List ℕ → Option Fault → Tree
 status group name outcome =
     structure (members_of (
-    (codes "name", text name) ∷ (codes "group", text group) ∷ (codes "status", integer (pos (outcome_number outcome)))
+    (codes "name", text name) ∷ (codes "group", text group)
+    ∷ (codes "status", integer (pos (outcome_number outcome)))
     ∷ (codes "description", text (outcome_text outcome (full_name group name))) ∷ []))

@@ -13,7 +13,8 @@ hours_text s = decimal (s / 3600) ++ 58 ∷ two_digits (s / 60 % 60) ++ 58 ∷ t
 
 -- the days before it, from one day on
 abbrev pub days_text : ℕ → List ℕ
-days_text n = if n == 0 then [] else if n == 1 then codes "1 day, " else decimal n ++ codes " days, "
+days_text n =
+    if n == 0 then [] else if n == 1 then codes "1 day, " else decimal n ++ codes " days, "
 
 -- how long so many seconds are
 abbrev pub uptime_text : ℕ → List ℕ
@@ -51,7 +52,8 @@ half_name hour = if nat_lt hour 12 then codes "AM" else codes "PM"
 -- HH:MM AM of the minutes of a day
 abbrev pub clock_text : ℕ → List ℕ
 clock_text minutes =
-    two_digits (hour_of_twelve (minutes / 60)) ++ 58 ∷ two_digits (minutes % 60) ++ 32 ∷ half_name (minutes / 60)
+    two_digits (hour_of_twelve (minutes / 60)) ++ 58 ∷ two_digits (minutes % 60)
+    ++ 32 ∷ half_name (minutes / 60)
 
 -- Mon DD
 abbrev pub day_text : Day → List ℕ
@@ -59,4 +61,5 @@ day_text day = month_name day.month ++ 32 ∷ two_digits day.day
 
 -- Mon DD HH:MM AM of a moment, in UTC
 abbrev pub moment_text : ℕ → List ℕ
-moment_text moment = day_text (date_of (moment / 86400000)) ++ 32 ∷ clock_text (moment % 86400000 / 60000)
+moment_text moment =
+    day_text (date_of (moment / 86400000)) ++ 32 ∷ clock_text (moment % 86400000 / 60000)

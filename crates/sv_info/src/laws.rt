@@ -7,7 +7,8 @@ ghost use Rattle.sv_info.specs.Info.{info_members};
 
 /// What is said of a process has fourteen members, always the same ones in the same order.
 pub fn fourteen_members()
-    ensures { (group : List ℕ) (spec : Spec) (child : Child) (now : ℕ) → map (λ m. m.0) (info_members group spec child now) ≡ member_names }
+    ensures { (group : List ℕ) (spec : Spec) (child : Child) (now : ℕ)
+        → map (λ m. m.0) (info_members group spec child now) ≡ member_names }
 {}
 
 /// Texts that were worked out by hand are those of the definitions.

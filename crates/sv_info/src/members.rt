@@ -15,7 +15,8 @@ pub(crate) fn put(
     name: &'static str,
     value: Value,
 ) -> Result<(), AllocError>
-    ensures { OnOk result (trees_by_name members.new.items ≡ trees_by_name members.old.items ++ (name.now, view value) ∷ []) }
+    ensures { OnOk result (trees_by_name members.new.items
+        ≡ trees_by_name members.old.items ++ (name.now, view value) ∷ []) }
 {
     members.push((Text::fixed(name), value))?;
     Ok(())
@@ -27,7 +28,8 @@ pub(crate) fn put_number(
     name: &'static str,
     number: i64,
 ) -> Result<(), AllocError>
-    ensures { OnOk result (trees_by_name members.new.items ≡ trees_by_name members.old.items ++ (name.now, integer number) ∷ []) }
+    ensures { OnOk result (trees_by_name members.new.items
+        ≡ trees_by_name members.old.items ++ (name.now, integer number) ∷ []) }
 {
     put(members, name, Value::Int(number))
 }
@@ -38,7 +40,8 @@ pub(crate) fn put_text(
     name: &'static str,
     content: Text,
 ) -> Result<(), AllocError>
-    ensures { OnOk result (trees_by_name members.new.items ≡ trees_by_name members.old.items ++ (name.now, text content) ∷ []) }
+    ensures { OnOk result (trees_by_name members.new.items
+        ≡ trees_by_name members.old.items ++ (name.now, text content) ∷ []) }
 {
     put(members, name, Value::Text(content))
 }
@@ -49,7 +52,8 @@ pub(crate) fn put_count(
     name: &'static str,
     number: u32,
 ) -> Result<(), AllocError>
-    ensures { OnOk result (trees_by_name members.new.items ≡ trees_by_name members.old.items ++ (name.now, integer (pos number)) ∷ []) }
+    ensures { OnOk result (trees_by_name members.new.items
+        ≡ trees_by_name members.old.items ++ (name.now, integer (pos number)) ∷ []) }
 {
     put_number(members, name, i64::from(number))
 }
@@ -60,7 +64,8 @@ pub(crate) fn put_word(
     name: &'static str,
     word: &'static str,
 ) -> Result<(), AllocError>
-    ensures { OnOk result (trees_by_name members.new.items ≡ trees_by_name members.old.items ++ (name.now, text word.now) ∷ []) }
+    ensures { OnOk result (trees_by_name members.new.items
+        ≡ trees_by_name members.old.items ++ (name.now, text word.now) ∷ []) }
 {
     put_text(members, name, Text::fixed(word))
 }
@@ -71,7 +76,8 @@ pub(crate) fn put_log(
     name: &'static str,
     log: &LogSpec,
 ) -> Result<(), AllocError>
-    ensures { OnOk result (trees_by_name members.new.items ≡ trees_by_name members.old.items ++ (name.now, text (log_name log.now)) ∷ []) }
+    ensures { OnOk result (trees_by_name members.new.items
+        ≡ trees_by_name members.old.items ++ (name.now, text (log_name log.now)) ∷ []) }
 {
     let log = log_name(log)?;
     put_text(members, name, log)

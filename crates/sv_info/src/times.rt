@@ -87,7 +87,8 @@ fn date_of(day: u64) -> Date
 /// Adds `Mon DD` of a date.
 fn push_day(text: &mut String, month: u8, day: u8) -> Result<(), AllocError>
     requires { day < 100 }
-    ensures { OnOk result (string_bytes text.new ≡ string_bytes text.old ++ month_name month ++ 32 ∷ two_digits day) }
+    ensures { OnOk result (string_bytes text.new
+        ≡ string_bytes text.old ++ month_name month ++ 32 ∷ two_digits day) }
 {
     text.push_str(month_name(month))?;
     push_two(text, " ", u64::from(day))
@@ -139,7 +140,8 @@ fn half_name(hour: u64) -> &'static str
 /// Adds a mark and two digits.
 fn push_two(text: &mut String, mark: &str, number: u64) -> Result<(), AllocError>
     requires { number < 100 }
-    ensures { OnOk result (string_bytes text.new ≡ string_bytes text.old ++ mark.now ++ two_digits number) }
+    ensures { OnOk result (string_bytes text.new
+        ≡ string_bytes text.old ++ mark.now ++ two_digits number) }
 {
     text.push_str(mark)?;
     text.push(digit(number / 10))?;

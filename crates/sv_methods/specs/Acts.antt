@@ -47,6 +47,7 @@ unfit act.Start = AlreadyStarted
 unfit act.Stop = NotRunning
 unfit (act.Signal signal) = NotRunning
 
+-- a process that is there is asked by its state
 abbrev pub is_asked : Act → Option Child → Bool
 is_asked act None = false
 is_asked act (Some child) = asks_in act child.state
@@ -67,17 +68,20 @@ row_for act id = record { child = Some id; aim = aim_of act; fault = None }
 -- these processes are asked, and the answer is a status array
 abbrev pub asks : Act → Bool → Option (List ℕ) → List ChildId → Outcome
 asks act wait name ids =
-    Does (map (request_for act) ids) (record { wait = wait; array = true; name = name; rows = map (row_for act) ids })
+    Does (map (request_for act) ids)
+    (record { wait = wait; array = true; name = name; rows = map (row_for act) ids })
 
 -- of these processes those in fitting states are asked
 abbrev pub asks_fitting : Act → Stand → Bool → Option (List ℕ) → List ChildId → Outcome
-asks_fitting act stand wait name ids = asks act wait name (asked_of act stand.children.now (in_order act ids))
+asks_fitting act stand wait name ids =
+    asks act wait name (asked_of act stand.children.now (in_order act ids))
 
 -- one process is asked
 abbrev pub asks_one : Act → Stand → Bool → List ℕ → ChildId → Outcome
 asks_one act stand wait name id =
     if is_asked act (slice_get stand.children.now id.0)
-    then Does (request_for act id ∷ []) (record { wait = wait; array = false; name = Some name; rows = row_for act id ∷ [] })
+    then Does (request_for act id ∷ [])
+    (record { wait = wait; array = false; name = Some name; rows = row_for act id ∷ [] })
     else refuses (unfit act) (Some name)
 
 -- the processes of a group
@@ -95,6 +99,7 @@ asks_found act stand wait name Nothing = refuses BadName (Some name)
 abbrev pub asks_named : Act → Stand → Bool → List ℕ → Outcome
 asks_named act stand wait name = asks_found act stand wait name (found name stand.roster.now)
 
+-- what was found for the name of a group is asked, if it is a group
 abbrev pub asks_found_group : Act → Stand → Bool → List ℕ → Found → Outcome
 asks_found_group act stand wait name (Group group) = asks_group act stand wait name group
 asks_found_group act stand wait name other = refuses BadName (Some name)
@@ -112,14 +117,17 @@ asks_all act stand wait = asks_fitting act stand wait None (start_order stand.ro
 abbrev pub signals_found : Stand → List ℕ → List ℕ → Option Signal → Found → Outcome
 signals_found stand name content signal Nothing = refuses BadName (Some name)
 signals_found stand name content None found = refuses BadSignal (Some content)
-signals_found stand name content (Some signal) found = asks_found (act.Signal signal) stand false name found
+signals_found stand name content (Some signal) found =
+    asks_found (act.Signal signal) stand false name found
 
+-- the same for a group by its own name
 abbrev pub signals_found_group : Stand → List ℕ → List ℕ → Option Signal → Found → Outcome
 signals_found_group stand name content None (Group group) = refuses BadSignal (Some content)
 signals_found_group stand name content (Some signal) (Group group) =
     asks_group (act.Signal signal) stand false name group
 signals_found_group stand name content signal other = refuses BadName (Some name)
 
+-- a signal by its text for all processes
 abbrev pub signals_all : Stand → List ℕ → Option Signal → Outcome
 signals_all stand content None = refuses BadSignal (Some content)
 signals_all stand content (Some signal) = asks_all (act.Signal signal) stand false

@@ -24,6 +24,7 @@ use Rattle.sv_methods.specs.declared.planned.Request.TheVariants.{Clear}
 use Rattle.sv_methods.specs.declared.stand.Stand.{Stand}
 use Rattle.sv_xmlcall.specs.Trees.{integer, truth, text, array, trees_of}
 
+-- a read of this part of a file; without a part the arguments were bad
 abbrev pub reads_part : List ℕ → Option Span → Outcome
 reads_part file None = refuses BadArguments None
 reads_part file (Some span) = Reads file span Plain
@@ -31,19 +32,23 @@ reads_part file (Some span) = Reads file span Plain
 -- a part of a log from an offset on; `name` is what the call named, if it named something
 abbrev pub reads : Stand → Option (List ℕ) → Option (List ℕ) → ℤ → ℤ → Outcome
 reads stand name None offset length = refuses NoFile name
-reads stand name (Some file) offset length = reads_part file (read_part (size_of file stand.sizes.now) offset length)
+reads stand name (Some file) offset length =
+    reads_part file (read_part (size_of file stand.sizes.now) offset length)
 
 -- the end of a log
 abbrev pub tails : Stand → Option (List ℕ) → ℤ → ℤ → Outcome
-tails stand None offset length = Gives (array (trees_of (text [] ∷ integer (pos 0) ∷ truth false ∷ [])))
+tails stand None offset length =
+    Gives (array (trees_of (text [] ∷ integer (pos 0) ∷ truth false ∷ [])))
 tails stand (Some file) offset length =
     Reads file (tail_part (size_of file stand.sizes.now) offset length)
     (Tail (size_of file stand.sizes.now) (has_missed (size_of file stand.sizes.now) offset length))
 
 -- what a method gives of the logs of a process
 abbrev pub log_of : LogMethod → Stand → List ℕ → Spec → ℤ → ℤ → Outcome
-log_of ReadStderr stand name spec offset length = reads stand (Some name) spec.stderr.file offset length
-log_of ReadStdout stand name spec offset length = reads stand (Some name) spec.stdout.file offset length
+log_of ReadStderr stand name spec offset length =
+    reads stand (Some name) spec.stderr.file offset length
+log_of ReadStdout stand name spec offset length =
+    reads stand (Some name) spec.stdout.file offset length
 log_of TailStderr stand name spec offset length = tails stand spec.stderr.file offset length
 log_of TailStdout stand name spec offset length = tails stand spec.stdout.file offset length
 
@@ -52,12 +57,15 @@ abbrev pub spec_found : List GroupSpec → Found → Option (GroupSpec × Spec)
 spec_found groups (One id) = slice_get (pairs_of groups) id.0
 spec_found groups found = None
 
+-- the same by the name
 abbrev pub process_named : List ℕ → List GroupSpec → Option (GroupSpec × Spec)
 process_named name groups = spec_found groups (found name groups)
 
+-- what a method gives of the logs of the process that was found, if one was
 abbrev pub log_of_found : LogMethod → Stand → List ℕ → ℤ → ℤ → Option (GroupSpec × Spec) → Outcome
 log_of_found method stand name offset length None = refuses BadName (Some name)
-log_of_found method stand name offset length (Some process) = log_of method stand name process.1 offset length
+log_of_found method stand name offset length (Some process) =
+    log_of method stand name process.1 offset length
 
 -- the logs of a name
 abbrev pub log_row : LogMethod → Stand → List ℕ → ℤ → ℤ → Outcome
@@ -68,9 +76,12 @@ log_row method stand name offset length =
 abbrev pub reads_main : Stand → ℤ → ℤ → Outcome
 reads_main stand offset length = reads stand None stand.config.now.main.file offset length
 
+-- requests that clear logs; nothing is waited for but that they are carried out
 abbrev pub clears : List Request → Bool → Option (List ℕ) → List Asked → Outcome
-clears requests is_array name rows = Does requests (record { wait = false; array = is_array; name = name; rows = rows })
+clears requests is_array name rows =
+    Does requests (record { wait = false; array = is_array; name = name; rows = rows })
 
+-- a row of what is cleared: the logs of a process, or the main log where there is none
 abbrev pub cleared : Option ChildId → Asked
 cleared child = record { child = child; aim = Cleared; fault = None }
 
@@ -79,6 +90,7 @@ abbrev pub clears_main : Option (List ℕ) → Outcome
 clears_main None = refuses NoFile None
 clears_main (Some file) = clears (Clear (file ∷ []) ∷ []) false None (cleared None ∷ [])
 
+-- a log's file, where it has one
 abbrev pub file_of : Option (List ℕ) → List (List ℕ)
 file_of None = []
 file_of (Some file) = file ∷ []
@@ -91,11 +103,13 @@ logs_of spec = file_of spec.stdout.file ++ file_of spec.stderr.file
 abbrev pub clear_request : Spec → Request
 clear_request spec = Clear (logs_of spec)
 
+-- the logs of the process of this place are cleared
 abbrev pub clears_process : List ℕ → ChildId → Option (GroupSpec × Spec) → Outcome
 clears_process name id None = refuses BadName (Some name)
 clears_process name id (Some process) =
     clears (clear_request process.1 ∷ []) false (Some name) (cleared (Some id) ∷ [])
 
+-- the same for what was found for a name
 abbrev pub clears_found : List GroupSpec → List ℕ → Found → Outcome
 clears_found groups name (One id) = clears_process name id (slice_get (pairs_of groups) id.0)
 clears_found groups name found = refuses BadName (Some name)

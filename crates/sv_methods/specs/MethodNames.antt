@@ -1,4 +1,5 @@
--- The methods of the manual's chapter on its XML-RPC interface: how each is spelled, what it is answered, what it takes.
+-- The methods of the manual's chapter on its XML-RPC interface: how each is spelled, what it is answered,
+-- what it takes.
 use Rattle.std.specs.Prelude.{ℕ, List, [], ◌∷◌, Bool, true, false, ◌&&◌, Option, codes, find}
 use Rattle.std.specs.Cmp.Lexicographic.{slice_cmp}
 use Rattle.std.specs.Ordering.{is_lt, nat_cmp}
@@ -54,13 +55,16 @@ spelling Multicall = codes "system.multicall"
 -- all methods, in rising order of their spellings
 abbrev pub all_methods : List Method
 all_methods =
-    Plain ClearAllProcessLogs ∷ Plain ClearLog ∷ OfText ClearProcessLogs ∷ Plain GetApiVersion ∷ Plain GetAllProcessInfo
-    ∷ Plain GetIdentification ∷ Plain GetPid ∷ OfText GetProcessInfo ∷ Plain GetState ∷ Plain GetSupervisorVersion ∷ ReadLog
-    ∷ OfLog ReadStderr ∷ OfLog ReadStdout ∷ OfTexts SendProcessStdin ∷ OfTexts SendRemoteCommEvent ∷ Plain Shutdown
-    ∷ OfText SignalAllProcesses ∷ OfTexts SignalProcess ∷ OfTexts SignalProcessGroup ∷ OfWait StartAllProcesses
-    ∷ OfTextAndWait StartProcess ∷ OfTextAndWait StartProcessGroup ∷ OfWait StopAllProcesses ∷ OfTextAndWait StopProcess
-    ∷ OfTextAndWait StopProcessGroup ∷ OfLog TailStderr ∷ OfLog TailStdout ∷ Plain ListMethods ∷ OfText MethodSignature
-    ∷ Multicall ∷ []
+    Plain ClearAllProcessLogs ∷ Plain ClearLog ∷ OfText ClearProcessLogs
+    ∷ Plain GetApiVersion ∷ Plain GetAllProcessInfo ∷ Plain GetIdentification ∷ Plain GetPid
+    ∷ OfText GetProcessInfo ∷ Plain GetState ∷ Plain GetSupervisorVersion
+    ∷ ReadLog ∷ OfLog ReadStderr ∷ OfLog ReadStdout
+    ∷ OfTexts SendProcessStdin ∷ OfTexts SendRemoteCommEvent ∷ Plain Shutdown
+    ∷ OfText SignalAllProcesses ∷ OfTexts SignalProcess ∷ OfTexts SignalProcessGroup
+    ∷ OfWait StartAllProcesses ∷ OfTextAndWait StartProcess ∷ OfTextAndWait StartProcessGroup
+    ∷ OfWait StopAllProcesses ∷ OfTextAndWait StopProcess ∷ OfTextAndWait StopProcessGroup
+    ∷ OfLog TailStderr ∷ OfLog TailStdout
+    ∷ Plain ListMethods ∷ OfText MethodSignature ∷ Multicall ∷ []
 
 -- the method of a name
 abbrev pub method_named : List ℕ → Option Method

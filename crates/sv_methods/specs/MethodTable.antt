@@ -51,7 +51,9 @@ texts_tree texts = array (trees_of (map text texts))
 -- the mood as a struct
 abbrev pub state_tree : Mood → Tree
 state_tree mood =
-    structure (members_of ((codes "statecode", integer (mood_number mood)) ∷ (codes "statename", text (mood_name mood)) ∷ []))
+    structure (members_of
+    ((codes "statecode", integer (mood_number mood))
+    ∷ (codes "statename", text (mood_name mood)) ∷ []))
 
 -- the logs of all processes are cleared
 abbrev pub clears_all : Stand → Outcome
@@ -64,7 +66,8 @@ abbrev pub plain_row : PlainMethod → Stand → ℕ → Outcome
 plain_row ClearAllProcessLogs stand now = clears_all stand
 plain_row ClearLog stand now = clears_main stand.config.now.main.file
 plain_row GetApiVersion stand now = Gives (text (codes "3.0"))
-plain_row GetAllProcessInfo stand now = Gives (array (trees_of (infos stand.roster.now stand.children.now now)))
+plain_row GetAllProcessInfo stand now =
+    Gives (array (trees_of (infos stand.roster.now stand.children.now now)))
 plain_row GetIdentification stand now = Gives (text stand.config.now.identifier)
 plain_row GetPid stand now = Gives (integer (pos stand.pid))
 plain_row GetState stand now = Gives (state_tree stand.mood)
@@ -77,14 +80,18 @@ abbrev pub info_row_of : List ℕ → List Tree → Outcome
 info_row_of name [] = refuses BadName (Some name)
 info_row_of name (said ∷ more) = Gives said
 
+-- what was found for a name: one process has a struct, a group and nothing have none
 abbrev pub info_row_found : Stand → List ℕ → ℕ → Found → Outcome
 info_row_found stand name now (One id) =
-    info_row_of name (info_of (slice_get (pairs_of stand.roster.now) id.0) (slice_get stand.children.now id.0) now)
+    info_row_of name
+    (info_of (slice_get (pairs_of stand.roster.now) id.0) (slice_get stand.children.now id.0) now)
 info_row_found stand name now found = refuses BadName (Some name)
 
+-- the same by the name
 abbrev pub info_row : Stand → List ℕ → ℕ → Outcome
 info_row stand name now = info_row_found stand name now (found name stand.roster.now)
 
+-- the signature of a method, where it is one
 abbrev pub signature_row : Option Method → Outcome
 signature_row None = refuses SignatureUnsupported None
 signature_row (Some method) = Gives (texts_tree (signature method))
@@ -117,10 +124,12 @@ abbrev pub is_heard : Option Child → Bool
 is_heard None = false
 is_heard (Some child) = is_heard_state child.state
 
+-- whether the stdin of a process was closed; what isn't known isn't closed
 abbrev pub is_closed : Option Bool → Bool
 is_closed None = false
 is_closed (Some closed) = closed
 
+-- a text for the stdin of what was found for a name
 abbrev pub stdin_found : Stand → List ℕ → List ℕ → Found → Outcome
 stdin_found stand name content (One id) =
     if is_heard (slice_get stand.children.now id.0)
@@ -131,7 +140,8 @@ stdin_found stand name content found = refuses BadName (Some name)
 
 -- methods that take two texts
 abbrev pub texts_row : TextsMethod → Stand → List ℕ → List ℕ → Outcome
-texts_row SendProcessStdin stand name content = stdin_found stand name content (found name stand.roster.now)
+texts_row SendProcessStdin stand name content =
+    stdin_found stand name content (found name stand.roster.now)
 texts_row SendRemoteCommEvent stand sort content = does (request.Remote sort content ∷ []) None
 texts_row SignalProcess stand name content =
     signals_found stand name content (signal_of content) (found name stand.roster.now)
@@ -156,28 +166,37 @@ nothing_in params = ended tt params
 -- what comes of a call of a method; several calls in one aren't planned here
 abbrev pub row : Method → Stand → Trees → ℕ → Outcome
 row (takes.Plain method) stand params now =
-    after_params (takes.Plain method) stand (nothing_in params) (λ given. plain_row method stand now)
+    after_params (takes.Plain method) stand (nothing_in params)
+    (λ given. plain_row method stand now)
 row (takes.OfText method) stand params now =
-    after_params (takes.OfText method) stand (text_in params) (λ given. text_row method stand given now)
+    after_params (takes.OfText method) stand (text_in params)
+    (λ given. text_row method stand given now)
 row (takes.OfWait method) stand params now =
     after_params (takes.OfWait method) stand (wait_in params) (λ given. wait_row method stand given)
 row (takes.OfTextAndWait method) stand params now =
-    after_params (takes.OfTextAndWait method) stand (text_and_wait_in params) (λ given. text_wait_row method stand given.0 given.1)
+    after_params (takes.OfTextAndWait method) stand (text_and_wait_in params)
+    (λ given. text_wait_row method stand given.0 given.1)
 row (takes.OfTexts method) stand params now =
-    after_params (takes.OfTexts method) stand (texts_in params) (λ given. texts_row method stand given.0 given.1)
+    after_params (takes.OfTexts method) stand (texts_in params)
+    (λ given. texts_row method stand given.0 given.1)
 row takes.ReadLog stand params now =
-    after_params takes.ReadLog stand (numbers_in params) (λ given. reads_main stand given.0 given.1)
+    after_params takes.ReadLog stand (numbers_in params)
+    (λ given. reads_main stand given.0 given.1)
 row (takes.OfLog method) stand params now =
-    after_params (takes.OfLog method) stand (log_in params) (λ given. log_row method stand given.0 given.1 given.2)
+    after_params (takes.OfLog method) stand (log_in params)
+    (λ given. log_row method stand given.0 given.1 given.2)
 row takes.Multicall stand params now = refuses IncorrectParameters None
 
+-- without an rpcinterface section only the methods that begin with `system.` are here
 abbrev pub is_here : Config → Method → Bool
 is_here config method = config.rpc || not (is_ours method)
 
+-- the row of a method that is here
 abbrev pub row_if_here : Option Method → Stand → Trees → ℕ → Outcome
 row_if_here None stand params now = refuses UnknownMethod None
 row_if_here (Some method) stand params now =
-    if is_here stand.config.now method then row method stand params now else refuses UnknownMethod None
+    if is_here stand.config.now method then row method stand params now
+    else refuses UnknownMethod None
 
 -- what comes of a call
 abbrev pub planned : Stand → CallTree → ℕ → Outcome

@@ -32,23 +32,27 @@ abbrev pub with_wait : List ℕ → Option Bool → Option (List ℕ × Bool)
 with_wait content None = None
 with_wait content (Some wait) = Some (content, wait)
 
+-- a text, then whether to wait
 abbrev pub text_and_wait_in : Trees → Option (List ℕ × Bool)
 text_and_wait_in params = option_and_then (λ a. with_wait a.0 (wait_in a.1)) (text_first params)
 
 -- two texts
 abbrev pub texts_in : Trees → Option (List ℕ × List ℕ)
 texts_in params =
-    option_and_then (λ a. option_and_then (λ b. ended (a.0, b.0) b.1) (text_first a.1)) (text_first params)
+    option_and_then (λ a. option_and_then (λ b. ended (a.0, b.0) b.1) (text_first a.1))
+    (text_first params)
 
 -- two integers
 abbrev pub numbers_in : Trees → Option (ℤ × ℤ)
 numbers_in params =
-    option_and_then (λ a. option_and_then (λ b. ended (a.0, b.0) b.1) (number_first a.1)) (number_first params)
+    option_and_then (λ a. option_and_then (λ b. ended (a.0, b.0) b.1) (number_first a.1))
+    (number_first params)
 
 -- a text and two integers
 abbrev pub with_text : List ℕ → Option (ℤ × ℤ) → Option (List ℕ × ℤ × ℤ)
 with_text content None = None
 with_text content (Some numbers) = Some (content, numbers.0, numbers.1)
 
+-- a text, then two integers
 abbrev pub log_in : Trees → Option (List ℕ × ℤ × ℤ)
 log_in params = option_and_then (λ a. with_text a.0 (numbers_in a.1)) (text_first params)

@@ -40,10 +40,12 @@ abbrev pub info_of : Option (GroupSpec × Spec) → Option Child → ℕ → Lis
 info_of (Some process) (Some child) now = info process.0.name process.1 child now ∷ []
 info_of process child now = []
 
+-- what is said of these children, the first of which has this place in start order
 abbrev pub infos_from : List GroupSpec → ℕ → List Child → ℕ → List Tree
 infos_from groups place [] now = []
 infos_from groups place (child ∷ children) now =
-    info_of (slice_get (pairs_of groups) place) (Some child) now ++ infos_from groups (place + 1) children now
+    info_of (slice_get (pairs_of groups) place) (Some child) now
+    ++ infos_from groups (place + 1) children now
 
 -- what is said of all processes, in start order
 abbrev pub infos : List GroupSpec → List Child → ℕ → List Tree

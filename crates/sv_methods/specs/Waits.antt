@@ -21,20 +21,23 @@ use Rattle.sv_methods.specs.declared.planned.Waiting.{Waiting}
 use Rattle.sv_methods.specs.declared.stand.Stand.{Stand}
 use Rattle.sv_xmlcall.specs.Trees.{Tree, truth, array, trees_of, Reply, Returns, Faults}
 
--- while a process that was started is STARTING, and one that was stopped isn't at rest, it is waited for
+-- a process that was started is waited for while it is STARTING, one that was stopped until it is at rest
 abbrev pub is_due : Aim → State → Bool
 is_due Started state.Starting = true
 is_due Stopped now = not (is_at_rest now)
 is_due aim now = false
 
+-- the child of a row, where it has one
 abbrev pub child_of : List Child → Option ChildId → Option Child
 child_of children None = None
 child_of children (Some id) = slice_get children id.0
 
+-- the same of a child that is there
 abbrev pub is_due_of : Aim → Option Child → Bool
 is_due_of aim None = false
 is_due_of aim (Some child) = is_due aim child.state
 
+-- whether the child of a row is waited for
 abbrev pub is_waited_for : List Child → Asked → Bool
 is_waited_for children asked = is_due_of asked.aim (child_of children asked.child)
 
@@ -47,10 +50,12 @@ abbrev pub start_fault : List ℕ → Option Fault
 start_fault [] = Some AbnormalTermination
 start_fault (byte ∷ bytes) = Some SpawnError
 
+-- by the state in which a start ended, and the child's fault text
 abbrev pub started : State → List ℕ → Option Fault
 started state.Running cause = None
 started now cause = start_fault cause
 
+-- the same of a child that is there
 abbrev pub started_child : Option Child → Option Fault
 started_child None = None
 started_child (Some child) = started child.state child.fault
@@ -60,6 +65,7 @@ abbrev pub judged_by : Bool → Aim → Option Child → Option Fault
 judged_by true Started child = started_child child
 judged_by wait aim child = None
 
+-- the fault of a row's request goes before that of the states
 abbrev pub judged_row : Option ℕ → Option Fault → Option Fault
 judged_row None fault = fault
 judged_row (Some number) fault = Some (fault_of number)
@@ -74,19 +80,23 @@ abbrev pub status_of : Option (GroupSpec × Spec) → Option Fault → List Tree
 status_of None outcome = []
 status_of (Some process) outcome = status process.0.name process.1.name outcome ∷ []
 
+-- the process of a row, where it has one
 abbrev pub process_of : List GroupSpec → Option ChildId → Option (GroupSpec × Spec)
 process_of groups None = None
 process_of groups (Some id) = slice_get (pairs_of groups) id.0
 
+-- the rows of a status array, in their order
 abbrev pub statuses : List GroupSpec → List Child → Bool → List Asked → List Tree
 statuses groups children wait [] = []
 statuses groups children wait (asked ∷ rows) =
-    status_of (process_of groups asked.child) (judged children wait asked) ++ statuses groups children wait rows
+    status_of (process_of groups asked.child) (judged children wait asked)
+    ++ statuses groups children wait rows
 
 -- the first fault of the rows
 abbrev pub first_fault : List Child → Bool → List Asked → Option Fault
 first_fault children wait [] = None
-first_fault children wait (asked ∷ rows) = or_else (judged children wait asked) (first_fault children wait rows)
+first_fault children wait (asked ∷ rows) =
+    or_else (judged children wait asked) (first_fault children wait rows)
   where
     or_else : Option Fault → Option Fault → Option Fault
     or_else None rest = rest
@@ -97,6 +107,7 @@ abbrev pub single : Option (List ℕ) → Option Fault → Reply
 single name None = Returns (truth true)
 single name (Some fault) = Faults (pos (fault_number fault)) (fault_text fault name)
 
+-- the answer: a status array, or `true` unless a row has a fault
 abbrev pub answer : List GroupSpec → List Child → Waiting → Reply
 answer groups children waiting =
     if waiting.array

@@ -172,7 +172,8 @@ fn asks_fitting(
     name: Option<Text>,
     ids: Vec<ChildId>,
 ) -> Result<Planned, AllocError>
-    ensures { IfOk result (λ planned. outcome planned ≡ asks_fitting act stand.now wait name ids.items) }
+    ensures { IfOk result (λ planned. outcome planned
+        ≡ asks_fitting act stand.now wait name ids.items) }
 {
     let mut ids = ids;
     put_in_order(act, &mut ids);
@@ -232,7 +233,8 @@ pub(crate) fn asks_group(
     group: usize,
 ) -> Result<Planned, AllocError>
     requires { group < length stand.now.roster.now }
-    ensures { IfOk result (λ planned. outcome planned ≡ asks_group act stand.now wait name.now group) }
+    ensures { IfOk result (λ planned. outcome planned
+        ≡ asks_group act stand.now wait name.now group) }
 {
     let ids = members_of_group(alloc, stand.roster, group)?;
     let name = Some(name.clone()?);
@@ -251,7 +253,8 @@ pub(crate) fn find(roster: &Roster, name: &str) -> Found
 /// What the name of a group by itself finds: what is found for it with `:*` after it.
 pub(crate) fn find_group(alloc: Global, roster: &Roster, name: &str) -> Result<Found, AllocError>
     ensures value { IfOk result (λ found. found ≡ group_named name.now roster.now) }
-    ensures group { IfOk result (λ found. (group : ℕ) → found ≡ Group group → group < length roster.now) }
+    ensures group { IfOk result (λ found. (group : ℕ)
+        → found ≡ Group group → group < length roster.now) }
 {
     let mut text = String::from_str(alloc, name)?;
     text.push_str(":*")?;
@@ -268,7 +271,8 @@ pub(crate) fn asks_found(
     found: Found,
 ) -> Result<Planned, AllocError>
     requires { (group : ℕ) → found ≡ Group group → group < length stand.now.roster.now }
-    ensures { IfOk result (λ planned. outcome planned ≡ asks_found act stand.now wait name.now found) }
+    ensures { IfOk result (λ planned. outcome planned
+        ≡ asks_found act stand.now wait name.now found) }
 {
     match found {
         Found::One(id) => asks_one(alloc, act, stand, wait, name, id),
@@ -299,7 +303,8 @@ pub(crate) fn asks_group_named(
     wait: bool,
     name: &Text,
 ) -> Result<Planned, AllocError>
-    ensures { IfOk result (λ planned. outcome planned ≡ asks_group_named act stand.now wait name.now) }
+    ensures { IfOk result (λ planned. outcome planned
+        ≡ asks_group_named act stand.now wait name.now) }
 {
     match find_group(alloc, stand.roster, name.as_str())? {
         Found::Group(group) => asks_group(alloc, act, stand, wait, name, group),

@@ -9,5 +9,6 @@ ghost use Rattle.sv_methods.specs.declared.method.Method.{Method};
 pub fn the_methods()
     ensures rising { IsTrue (are_rising (map spelling all_methods)) }
     ensures named { (method : Method) → method_named (spelling method) ≡ Some method }
-    ensures signed { (method : Method) → signature_row (method_named (spelling method)) ≡ Gives (texts_tree (signature method)) }
+    ensures signed { (method : Method) → signature_row (method_named (spelling method))
+        ≡ Gives (texts_tree (signature method)) }
 {}

@@ -82,7 +82,8 @@ fn reads_log(
     offset: i64,
     length: i64,
 ) -> Result<Planned, AllocError>
-    ensures { IfOk result (λ planned. outcome planned ≡ reads stand.now (Some name.now) log.now offset length) }
+    ensures { IfOk result (λ planned. outcome planned
+        ≡ reads stand.now (Some name.now) log.now offset length) }
 {
     match log {
         Some(file) => reads(stand, file, offset, length),
@@ -111,7 +112,8 @@ fn tails(
 }
 
 fn tails_file(stand: &Stand, file: &Text, offset: i64, length: i64) -> Result<Planned, AllocError>
-    ensures { IfOk result (λ planned. outcome planned ≡ tails stand.now (Some file.now) offset length) }
+    ensures { IfOk result (λ planned. outcome planned
+        ≡ tails stand.now (Some file.now) offset length) }
 {
     let (span, end, missed) = tail_span(size_of(file.as_str(), stand.sizes), offset, length);
     Ok(Planned::Read(file.clone()?, span, ReadShape::Tail(end, missed)))
@@ -127,7 +129,8 @@ fn log_of(
     offset: i64,
     length: i64,
 ) -> Result<Planned, AllocError>
-    ensures { IfOk result (λ planned. outcome planned ≡ log_of method stand.now name.now spec.now offset length) }
+    ensures { IfOk result (λ planned. outcome planned
+        ≡ log_of method stand.now name.now spec.now offset length) }
 {
     match method {
         LogMethod::ReadStderr => reads_log(alloc, stand, name, &spec.stderr.file, offset, length),
@@ -157,7 +160,8 @@ pub(crate) fn log_row(
     offset: i64,
     length: i64,
 ) -> Result<Planned, AllocError>
-    ensures { IfOk result (λ planned. outcome planned ≡ log_row method stand.now name.now offset length) }
+    ensures { IfOk result (λ planned. outcome planned
+        ≡ log_row method stand.now name.now offset length) }
 {
     match process_named(stand.roster, name.as_str()) {
         Some((_, spec)) => log_of(alloc, method, stand, name, spec, offset, length),
@@ -191,7 +195,8 @@ fn clears(requests: Vec<Request>, array: bool, name: Option<Text>, rows: Vec<Ask
 
 /// The main log is cleared.
 pub(crate) fn clears_main(alloc: Global, stand: &Stand) -> Result<Planned, AllocError>
-    ensures { IfOk result (λ planned. outcome planned ≡ clears_main stand.now.config.now.main.file) }
+    ensures { IfOk result (λ planned. outcome planned
+        ≡ clears_main stand.now.config.now.main.file) }
 {
     let Some(file) = &stand.config.main.file else {
         return Ok(refused(Fault::NoFile));

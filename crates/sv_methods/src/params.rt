@@ -9,7 +9,8 @@ use sv_xmlcall::value::Value;
 
 /// A text that comes first, and what follows it.
 fn text_first(params: &[Value]) -> Option<(&Text, &[Value])>
-    ensures { option_map (λ a. (a.0.now, trees_view a.1.now)) result ≡ text_first (trees_view params.now) }
+    ensures { option_map (λ a. (a.0.now, trees_view a.1.now)) result
+        ≡ text_first (trees_view params.now) }
 {
     let [first, rest @ ..] = params else {
         return None;
@@ -22,7 +23,8 @@ fn text_first(params: &[Value]) -> Option<(&Text, &[Value])>
 
 /// An integer that comes first, and what follows it.
 fn number_first(params: &[Value]) -> Option<(i64, &[Value])>
-    ensures { option_map (λ a. (a.0, trees_view a.1.now)) result ≡ number_first (trees_view params.now) }
+    ensures { option_map (λ a. (a.0, trees_view a.1.now)) result
+        ≡ number_first (trees_view params.now) }
 {
     let [first, rest @ ..] = params else {
         return None;

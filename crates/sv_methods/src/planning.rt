@@ -41,7 +41,8 @@ fn row_if_here(
     params: &[Value],
     now: Moment,
 ) -> Result<Planned, AllocError>
-    ensures { IfOk result (λ plan. outcome plan ≡ row_if_here method stand.now (trees_view params.now) now) }
+    ensures { IfOk result (λ plan. outcome plan
+        ≡ row_if_here method stand.now (trees_view params.now) now) }
 {
     match method {
         Some(method) if is_here(stand.config, method) => row(alloc, method, stand, params, now),
@@ -73,7 +74,8 @@ fn row(
     params: &[Value],
     now: Moment,
 ) -> Result<Planned, AllocError>
-    ensures { IfOk result (λ plan. outcome plan ≡ row method stand.now (trees_view params.now) now) }
+    ensures { IfOk result (λ plan. outcome plan
+        ≡ row method stand.now (trees_view params.now) now) }
 {
     match method {
         Method::Plain(method) => plain(alloc, method, stand, params, now),
@@ -95,7 +97,8 @@ fn plain(
     params: &[Value],
     now: Moment,
 ) -> Result<Planned, AllocError>
-    ensures { IfOk result (λ plan. outcome plan ≡ row (Method.Plain method) stand.now (trees_view params.now) now) }
+    ensures { IfOk result (λ plan. outcome plan
+        ≡ row (Method.Plain method) stand.now (trees_view params.now) now) }
 {
     match params {
         [] => plain_alone(alloc, method, stand, now),
@@ -124,7 +127,8 @@ fn of_text(
     params: &[Value],
     now: Moment,
 ) -> Result<Planned, AllocError>
-    ensures { IfOk result (λ plan. outcome plan ≡ row (Method.OfText method) stand.now (trees_view params.now) now) }
+    ensures { IfOk result (λ plan. outcome plan
+        ≡ row (Method.OfText method) stand.now (trees_view params.now) now) }
 {
     match text_in(params) {
         None => Ok(refused(Fault::IncorrectParameters)),
@@ -157,7 +161,8 @@ fn of_text_and_wait(
     params: &[Value],
 ) -> Result<Planned, AllocError>
     ensures { IfOk result (λ plan. outcome plan
-        ≡ after_params (Method.OfTextAndWait method) stand.now (text_and_wait_in (trees_view params.now))
+        ≡ after_params (Method.OfTextAndWait method) stand.now
+        (text_and_wait_in (trees_view params.now))
         (λ given. text_wait_row method stand.now given.0 given.1)) }
 {
     let Some((name, wait)) = text_and_wait_in(params) else {

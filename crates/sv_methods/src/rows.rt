@@ -90,7 +90,8 @@ fn spellings_of(alloc: Global, methods: &[Method]) -> Result<Vec<Value>, AllocEr
 }
 
 fn all_infos(alloc: Global, stand: &Stand, now: Moment) -> Result<Planned, AllocError>
-    ensures { IfOk result (λ planned. outcome planned ≡ plain_row PlainMethod.GetAllProcessInfo stand.now now) }
+    ensures { IfOk result (λ planned. outcome planned
+        ≡ plain_row PlainMethod.GetAllProcessInfo stand.now now) }
 {
     Ok(Planned::Now(Value::Array(infos(alloc, stand.roster, stand.children, now)?)))
 }
@@ -121,7 +122,8 @@ fn push_info(
     values: &mut Vec<Value>,
 ) -> Result<(), AllocError>
     ensures { OnOk result (map view values.new.items
-        ≡ map view values.old.items ++ info_of (slice_get (pairs_of roster.now) place) (Some child.now) now) }
+        ≡ map view values.old.items
+        ++ info_of (slice_get (pairs_of roster.now) place) (Some child.now) now) }
 {
     if let Some((group, spec)) = roster.process(place) {
         values.push(process_info(alloc, &group.name, spec, child, now)?)?;
@@ -185,7 +187,8 @@ fn signature(alloc: Global, method: Method) -> Result<Vec<Value>, AllocError>
 }
 
 fn words(alloc: Global, words: &[&'static str]) -> Result<Vec<Value>, AllocError>
-    ensures { IfOk result (λ values. map view values.items ≡ map (λ word. text word.now) words.now) }
+    ensures { IfOk result (λ values. map view values.items
+        ≡ map (λ word. text word.now) words.now) }
 {
     let mut values = Vec::new(alloc);
     for word in words {
@@ -235,7 +238,8 @@ pub(crate) fn text_wait_row(
     name: &Text,
     wait: bool,
 ) -> Result<Planned, AllocError>
-    ensures { IfOk result (λ planned. outcome planned ≡ text_wait_row method stand.now name.now wait) }
+    ensures { IfOk result (λ planned. outcome planned
+        ≡ text_wait_row method stand.now name.now wait) }
 {
     match method {
         TextWaitMethod::StartProcess => asks_named(alloc, Act::Start, stand, wait, name),
@@ -278,7 +282,8 @@ fn stdin_found(
     content: &Text,
     found: Found,
 ) -> Result<Planned, AllocError>
-    ensures { IfOk result (λ planned. outcome planned ≡ stdin_found stand.now name.now content.now found) }
+    ensures { IfOk result (λ planned. outcome planned
+        ≡ stdin_found stand.now name.now content.now found) }
 {
     let Found::One(id) = found else {
         return refused_for(alloc, Fault::BadName, name.as_str());
@@ -301,7 +306,8 @@ pub(crate) fn texts_row(
     first: &Text,
     second: &Text,
 ) -> Result<Planned, AllocError>
-    ensures { IfOk result (λ planned. outcome planned ≡ texts_row method stand.now first.now second.now) }
+    ensures { IfOk result (λ planned. outcome planned
+        ≡ texts_row method stand.now first.now second.now) }
 {
     match method {
         TextsMethod::SendProcessStdin => {
@@ -322,7 +328,8 @@ pub(crate) fn texts_row(
 
 /// An event of this type with this data is offered.
 fn remote(alloc: Global, sort: &Text, content: &Text) -> Result<Planned, AllocError>
-    ensures { IfOk result (λ planned. outcome planned ≡ does (Request.Remote sort.now content.now ∷ []) None) }
+    ensures { IfOk result (λ planned. outcome planned
+        ≡ does (Request.Remote sort.now content.now ∷ []) None) }
 {
     let bytes = Bytes::from_slice(alloc, content.as_str().as_bytes())?;
     does(alloc, Request::Remote(sort.clone()?, bytes), None)

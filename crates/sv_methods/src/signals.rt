@@ -32,7 +32,8 @@ pub(crate) fn signals_found(
     found: Found,
 ) -> Result<Planned, AllocError>
     requires { (group : ℕ) → found ≡ Group group → group < length stand.now.roster.now }
-    ensures { IfOk result (λ planned. outcome planned ≡ signals_found stand.now name.now content.now signal found) }
+    ensures { IfOk result (λ planned. outcome planned
+        ≡ signals_found stand.now name.now content.now signal found) }
 {
     if found == Found::Nothing {
         return refused_for(alloc, Fault::BadName, name.as_str());
@@ -53,7 +54,8 @@ pub(crate) fn signals_found_group(
     found: Found,
 ) -> Result<Planned, AllocError>
     requires { (group : ℕ) → found ≡ Group group → group < length stand.now.roster.now }
-    ensures { IfOk result (λ planned. outcome planned ≡ signals_found_group stand.now name.now content.now signal found) }
+    ensures { IfOk result (λ planned. outcome planned
+        ≡ signals_found_group stand.now name.now content.now signal found) }
 {
     let Found::Group(group) = found else {
         return refused_for(alloc, Fault::BadName, name.as_str());

@@ -24,7 +24,8 @@ pub fn check(
     stand: &Stand,
     waiting: &Waiting,
 ) -> Result<Option<Answered>, AllocError>
-    ensures { IfOk result (λ answered. option_map reply_view answered ≡ checked stand.now waiting.now) }
+    ensures { IfOk result (λ answered. option_map reply_view answered
+        ≡ checked stand.now waiting.now) }
 {
     if waits(stand.children, waiting) {
         return Ok(None);
@@ -113,7 +114,8 @@ fn answer(
     children: &[Child],
     waiting: &Waiting,
 ) -> Result<Answered, AllocError>
-    ensures { IfOk result (λ answered. reply_view answered ≡ answer roster.now children.now waiting.now) }
+    ensures { IfOk result (λ answered. reply_view answered
+        ≡ answer roster.now children.now waiting.now) }
 {
     let rows = waiting.rows.as_slice();
     if waiting.array {
@@ -163,7 +165,8 @@ fn statuses(
     wait: bool,
     rows: &[Asked],
 ) -> Result<Vec<Value>, AllocError>
-    ensures { IfOk result (λ values. map view values.items ≡ statuses roster.now children.now wait rows.now) }
+    ensures { IfOk result (λ values. map view values.items
+        ≡ statuses roster.now children.now wait rows.now) }
 {
     let mut values = Vec::with_capacity(alloc, rows.len())?;
     for asked in rows {

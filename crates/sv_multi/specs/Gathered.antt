@@ -6,6 +6,7 @@ use Rattle.sv_multi.specs.declared.gather.Gather.{Gather}
 use Rattle.sv_xmlcall.specs.Trees.{Tree, array, trees_of, view}
 use Rattle.sv_xmlcall.specs.declared.value.Value.{Value}
 
+-- the values gathered so far as plain data; none once memory was refused
 abbrev pub trees_so_far : Option (Vec Value) → Option (List Tree)
 trees_so_far None = None
 trees_so_far (Some results) = Some (map view results.items)

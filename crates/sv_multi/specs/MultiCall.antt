@@ -1,5 +1,5 @@
--- Several calls in one (the manual's chapter on its XML-RPC interface, `system.multicall`): the calls that one value asks for, and
--- the one value that their answers make.
+-- Several calls in one (the manual's chapter on its XML-RPC interface, `system.multicall`): the calls that
+-- one value asks for, and the one value that their answers make.
 use Rattle.std.specs.Prelude.{◌≡◌, ℕ, List, [], ◌∷◌, Option, Some, None, codes, if◌then◌else◌}
 use Rattle.std.specs.Option.{option_map}
 use Rattle.std.specs.Str.{bytes_eq}
@@ -38,13 +38,15 @@ called method params = bad_part
 
 -- the part that a struct is, by the first member of each name
 abbrev pub part_of : Members → PartTree
-part_of members = called (member_named (codes "methodName") members) (member_named (codes "params") members)
+part_of members =
+    called (member_named (codes "methodName") members) (member_named (codes "params") members)
 
 -- the part that a value is; none exactly where it isn't a struct
 abbrev pub part_in : Tree → Option PartTree
 part_in (structure members) = Some (part_of members)
 part_in value = None
 
+-- a part before the parts that follow it, where all of them are parts
 abbrev pub with_part : Option PartTree → Option (List PartTree) → Option (List PartTree)
 with_part None parts = None
 with_part (Some part) parts = option_map (λ more. part ∷ more) parts

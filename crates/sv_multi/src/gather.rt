@@ -28,7 +28,8 @@ impl Gather {
     /// Adds an answer: its value in an array of its own, or the struct of its fault. Out of memory is the answer of each
     /// later call too.
     pub fn add(&mut self, alloc: Global, answered: Answered) -> Result<(), AllocError>
-        ensures ok { OnOk result (results_of self.new ≡ adds (results_of self.old) (result_of (reply_view answered))) }
+        ensures ok { OnOk result (results_of self.new
+            ≡ adds (results_of self.old) (result_of (reply_view answered))) }
         ensures err { OnErr result (results_of self.new ≡ None) }
         ensures stays_refused { results_of self.old ≡ None → IsErr result }
     {

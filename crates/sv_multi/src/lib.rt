@@ -9,3 +9,7 @@ pub mod part;
 pub mod parts;
 #[cfg(test)]
 mod tests;
+
+pub use crate::fault::MultiFault;
+pub use crate::gather::Gather;
+pub use crate::part::Part;

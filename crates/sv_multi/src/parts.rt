@@ -17,7 +17,8 @@ use sv_xmlcall::value::Value;
 /// that aren't an array, or that asks for several calls in turn, is the fault 2 in its place. Of members of one name the
 /// first counts, and absent params are empty. `NotParts` exactly where the value isn't an array of structs.
 pub fn parts(alloc: Global, value: &Value) -> Result<Vec<Part>, MultiFault>
-    ensures parts { IfOk result (λ given. parts_of (view value.now) ≡ Some (parts_view given.items)) }
+    ensures parts { IfOk result (λ given. parts_of (view value.now)
+        ≡ Some (parts_view given.items)) }
     ensures refused { IfErr result (IsRefused (parts_of (view value.now))) }
 {
     match value {
@@ -27,7 +28,8 @@ pub fn parts(alloc: Global, value: &Value) -> Result<Vec<Part>, MultiFault>
 }
 
 fn parts_in(alloc: Global, values: &[Value]) -> Result<Vec<Part>, MultiFault>
-    ensures parts { IfOk result (λ given. parts_in (trees_view values.now) ≡ Some (parts_view given.items)) }
+    ensures parts { IfOk result (λ given. parts_in (trees_view values.now)
+        ≡ Some (parts_view given.items)) }
     ensures refused { IfErr result (IsRefused (parts_in (trees_view values.now))) }
 {
     let mut parts = Vec::new(alloc);
@@ -40,7 +42,8 @@ fn parts_in(alloc: Global, values: &[Value]) -> Result<Vec<Part>, MultiFault>
 /// The part that a value is, or `NotParts` exactly where it isn't a struct.
 fn part_in(alloc: Global, value: &Value) -> Result<Part, MultiFault>
     ensures part { IfOk result (λ part. part_in (view value.now) ≡ Some (part_view part)) }
-    ensures refused { IfErr result (λ fault. fault ≡ MultiFault.NotParts → part_in (view value.now) ≡ None) }
+    ensures refused { IfErr result (λ fault. fault ≡ MultiFault.NotParts
+        → part_in (view value.now) ≡ None) }
 {
     match value {
         Value::Struct(members) => Ok(part_of(alloc, members)?),
@@ -59,7 +62,8 @@ fn part_of(alloc: Global, members: &Vec<(Text, Value)>) -> Result<Part, AllocErr
 }
 
 fn called_with(alloc: Global, method: &Text, params: Option<&Value>) -> Result<Part, AllocError>
-    ensures { IfOk result (λ part. part_view part ≡ called_with method.now (option_map view (option_copied params.entry))) }
+    ensures { IfOk result (λ part. part_view part
+        ≡ called_with method.now (option_map view (option_copied params.entry))) }
 {
     match params {
         None => call_of(method, Vec::new(alloc)),
@@ -87,7 +91,8 @@ fn bad_part() -> Part
 
 /// The value of the first member of this name.
 fn member<'a>(members: &'a [(Text, Value)], name: &str) -> Option<&'a Value>
-    ensures { option_map view (option_copied result) ≡ member_named name.now (members_view members.now) }
+    ensures { option_map view (option_copied result)
+        ≡ member_named name.now (members_view members.now) }
 {
     let mut left = members;
     while let [(own, value), rest @ ..] = left {

@@ -30,6 +30,7 @@ after lists (Acknowledge listener) = if holds_one listener lists then acknowledg
 after lists (Reject listener) = if holds_one listener lists then rejected listener lists else lists
 after lists Forget = forgotten lists
 
+-- after these steps
 abbrev pub after_all : Lists → List Step → Lists
 after_all lists [] = lists
 after_all lists (step ∷ steps) = after_all (after lists step) steps

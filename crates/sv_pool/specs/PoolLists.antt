@@ -30,6 +30,7 @@ opened buffer listeners = record {
   given_up = [];
 }
 
+-- one more event may wait
 abbrev pub has_room : Lists → Bool
 has_room lists = nat_lt (length lists.waiting) lists.buffer
 
@@ -39,6 +40,7 @@ make_room lists =
     if has_room lists then lists
     else record lists { waiting = drop 1 lists.waiting; dropped = lists.dropped ++ take 1 lists.waiting }
 
+-- what is reported of an event that is dropped
 abbrev pub report : Taken → Dropped
 report taken = record { serial = taken.event.serial; poolserial = taken.poolserial }
 
@@ -50,6 +52,7 @@ dropped_for_room lists = if has_room lists then None else option_map report (sli
 abbrev pub numbered : Event → ℕ → Taken
 numbered event number = record { event = event; poolserial = number % 2 ^ 64 }
 
+-- an event is taken: it waits as the last
 abbrev pub accepted : Event → Lists → Lists
 accepted event lists =
     record (make_room lists) { taken = lists.taken + 1; waiting = (make_room lists).waiting ++ numbered event lists.taken ∷ [] }
@@ -63,6 +66,7 @@ abbrev pub took : ℕ → Lists → Lists
 took listener lists =
     record lists { waiting = drop 1 lists.waiting; held = slice_set lists.held listener (slice_get lists.waiting 0) }
 
+-- the listener is done with the event that it holds
 abbrev pub acknowledged : ℕ → Lists → Lists
 acknowledged listener lists =
     record lists {
@@ -78,6 +82,7 @@ rejected listener lists =
       waiting = option_to_list (holding listener lists.held) ++ (make_room lists).waiting;
     }
 
+-- the events that listeners hold
 abbrev pub held_events : List (Option Taken) → List Taken
 held_events held = flat_map option_to_list held
 

@@ -50,8 +50,10 @@ impl Pool {
     /// oldest event is dropped first, and its report answered. The event takes no further memory.
     pub fn accept(&mut self, event: Event) -> Result<Option<Dropped>, AllocError>
         ensures taken { IsOk result }
-        ensures lists { (lists : Lists) → StandsFor self.old lists → StandsFor self.new (accepted event lists) }
-        ensures report { (lists : Lists) → StandsFor self.old lists → IfOk result (λ dropped. dropped ≡ dropped_for_room lists) }
+        ensures lists { (lists : Lists) → StandsFor self.old lists
+            → StandsFor self.new (accepted event lists) }
+        ensures report { (lists : Lists) → StandsFor self.old lists
+            → IfOk result (λ dropped. dropped ≡ dropped_for_room lists) }
     {
         let dropped = self.make_room();
         let poolserial = self.next;
@@ -63,7 +65,9 @@ impl Pool {
     /// The event that is handed out next, with its number in the pool.
     #[tactic(auto, using(crate::proofs::Held::none_first))]
     pub fn next_for(&self) -> Option<(&Event, u64)>
-        ensures { MatchOption result (self.now.waiting ≡ []) (λ next. slice_get self.now.waiting 0 ≡ Some (record { event = next.0.now; poolserial = next.1 })) }
+        ensures { MatchOption result (self.now.waiting ≡ [])
+            (λ next. slice_get self.now.waiting 0
+            ≡ Some (record { event = next.0.now; poolserial = next.1 })) }
     {
         match self.waiting.front() {
             Some(taken) => Some((&taken.event, taken.poolserial)),
@@ -73,7 +77,8 @@ impl Pool {
 
     /// Whether the listener is one of the pool's and holds no event.
     pub fn is_free(&self, listener: u32) -> bool
-        ensures { IsTrue result ↔ ((listener < length self.now.held) × (holding listener self.now.held ≡ None)) }
+        ensures { IsTrue result
+            ↔ ((listener < length self.now.held) × (holding listener self.now.held ≡ None)) }
     {
         match self.held.as_slice().get(listener as usize) {
             Some(place) => place.is_none(),
@@ -83,7 +88,8 @@ impl Pool {
 
     /// Whether the listener is one of the pool's and holds an event.
     pub fn is_holding(&self, listener: u32) -> bool
-        ensures { IsTrue result ↔ ((listener < length self.now.held) × IsSome (holding listener self.now.held)) }
+        ensures { IsTrue result
+            ↔ ((listener < length self.now.held) × IsSome (holding listener self.now.held)) }
     {
         match self.held.as_slice().get(listener as usize) {
             Some(place) => place.is_some(),
@@ -96,7 +102,8 @@ impl Pool {
         requires some { 0 < length self.old.waiting }
         requires known { listener < length self.old.held }
         requires free { holding listener self.old.held ≡ None }
-        ensures { (lists : Lists) → StandsFor self.old lists → StandsFor self.new (took listener lists) }
+        ensures { (lists : Lists) → StandsFor self.old lists
+            → StandsFor self.new (took listener lists) }
     {
         self.held[listener as usize] = self.waiting.pop_front();
     }
@@ -105,7 +112,8 @@ impl Pool {
     pub fn acknowledged(&mut self, listener: u32)
         requires known { listener < length self.old.held }
         requires holds { IsSome (holding listener self.old.held) }
-        ensures { (lists : Lists) → StandsFor self.old lists → StandsFor self.new (acknowledged listener lists) }
+        ensures { (lists : Lists) → StandsFor self.old lists
+            → StandsFor self.new (acknowledged listener lists) }
     {
         self.held[listener as usize] = None;
     }
@@ -115,8 +123,10 @@ impl Pool {
     pub fn rejected(&mut self, listener: u32) -> Option<Dropped>
         requires known { listener < length self.old.held }
         requires holds { IsSome (holding listener self.old.held) }
-        ensures lists { (lists : Lists) → StandsFor self.old lists → StandsFor self.new (rejected listener lists) }
-        ensures report { (lists : Lists) → StandsFor self.old lists → result ≡ dropped_for_room lists }
+        ensures lists { (lists : Lists) → StandsFor self.old lists
+            → StandsFor self.new (rejected listener lists) }
+        ensures report { (lists : Lists) → StandsFor self.old lists
+            → result ≡ dropped_for_room lists }
     {
         let dropped = self.make_room();
         if let Some(taken) = self.held[listener as usize].take() {
@@ -127,7 +137,8 @@ impl Pool {
 
     /// Gives up all events that wait or are held, and answers how many there were.
     pub fn forget(&mut self) -> u32
-        ensures lists { (lists : Lists) → StandsFor self.old lists → StandsFor self.new (forgotten lists) }
+        ensures lists { (lists : Lists) → StandsFor self.old lists
+            → StandsFor self.new (forgotten lists) }
         ensures count { result ≡ length self.old.waiting + length (held_events self.old.held) }
     {
         let waiting = self.waiting.len() as u32;
@@ -137,10 +148,15 @@ impl Pool {
 
     /// Drops the oldest event where the buffer is full.
     fn make_room(&mut self) -> Option<Dropped>
-        ensures waiting { self.new.waiting ≡ (if nat_lt (length self.old.waiting) self.old.buffer then self.old.waiting else drop 1 self.old.waiting) }
+        ensures waiting { self.new.waiting
+            ≡ (if nat_lt (length self.old.waiting) self.old.buffer then self.old.waiting
+            else drop 1 self.old.waiting) }
         ensures room { length self.new.waiting < self.new.buffer }
-        ensures others { (self.new.buffer ≡ self.old.buffer) × (self.new.next ≡ self.old.next) × (self.new.held ≡ self.old.held) }
-        ensures report { result ≡ (if nat_lt (length self.old.waiting) self.old.buffer then None else option_map report (slice_get self.old.waiting 0)) }
+        ensures others { (self.new.buffer ≡ self.old.buffer) × (self.new.next ≡ self.old.next) ×
+            (self.new.held ≡ self.old.held) }
+        ensures report { result
+            ≡ (if nat_lt (length self.old.waiting) self.old.buffer then None
+            else option_map report (slice_get self.old.waiting 0)) }
     {
         if self.waiting.is_full() {
             let oldest = self.waiting.pop_front()?;
