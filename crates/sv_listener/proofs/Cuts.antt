@@ -1,8 +1,8 @@
 -- A list and its first cut.
-use Rattle.std.proofs.Common.{◌≡◌, ◌<◌, ◌+◌, ◌-◌, ◌==◌, ℕ, List, [], ◌∷◌, ◌++◌, Bool, true, false, Option, None, Some, length, take, drop, get_or, refl, ap, sym, ◌∙◌, subst, arith, append_assoc, append-nil, length-append}
+use Rattle.std.proofs.Common.{◌≡◌, ◌<◌, ◌==◌, ℕ, zero, suc, List, [], ◌∷◌, ◌++◌, Bool, true, false, Option, None, Some, length, take, drop, refl, ap, ◌∙◌, arith}
 use Rattle.std.specs.Prelude.{option_map, if◌then◌else◌}
-use Rattle.std.proofs.lemmas.List.{take_at, length-take-le}
 use Rattle.std.proofs.lemmas.Bool.Decides.{nat_tests}
+use Rattle.memchr.specs.Find.{Nowhere, Passes, is_byte}
 use Rattle.sv_listener.specs.Reading.{cut_at}
 
 -- what holds of both arms of a choice
@@ -13,6 +13,9 @@ cond_by P false x y f g = g refl
 eq_true : (a b : ℕ) → (a == b) ≡ true → a ≡ b
 eq_true a b e = grind (arith, nat_tests)
 
+eq_is : (a b : ℕ) → a ≡ b → (a == b) ≡ true
+eq_is a b s = grind (arith, nat_tests)
+
 eq_false : (a b : ℕ) → (a == b) ≡ false → a ≡ b → ⊥
 eq_false a b e s = grind (arith, nat_tests)
 
@@ -20,12 +23,6 @@ eq_false a b e s = grind (arith, nat_tests)
 abbrev pub with_front : List ℕ → Option (List ℕ × List ℕ) → Option (List ℕ × List ℕ)
 with_front front None = None
 with_front front (Some parts) = Some (front ++ parts.0, parts.1)
-
-front_on : (front : List ℕ) (byte : ℕ) (cut : Option (List ℕ × List ℕ))
-    → with_front front (option_map (λ parts. (byte ∷ parts.0, parts.1)) cut) ≡ with_front (front ++ byte ∷ []) cut
-front_on front byte None = refl
-front_on front byte (Some parts) =
-    ap (λ (all : List ℕ). Some (all, parts.1)) (sym (append_assoc front (byte ∷ []) parts.0))
 
 cut_other : (stop byte : ℕ) (more : List ℕ) → (byte ≡ stop → ⊥)
     → cut_at stop (byte ∷ more) ≡ option_map (λ parts. (byte ∷ parts.0, parts.1)) (cut_at stop more)
@@ -40,55 +37,23 @@ cut_here stop byte more same =
     (Some ([], more)) (option_map (λ parts. (byte ∷ parts.0, parts.1)) (cut_at stop more))
     (λ _. refl) (λ other. absurd (eq_false byte stop other same))
 
--- one byte more was passed
-pub front_more : (count byte : ℕ) (more bytes : List ℕ) → bytes ≡ take count bytes ++ byte ∷ more → count + length (byte ∷ more) ≡ length bytes
-    → take (count + 1) bytes ≡ take count bytes ++ byte ∷ []
-front_more count byte more bytes parts size =
-    let front : List ℕ = take count bytes in
-    let long : length front ≡ count = length-take-le count bytes (omega (arith, size)) in
-    let whole : bytes ≡ (front ++ byte ∷ []) ++ more = parts ∙ sym (append_assoc front (byte ∷ []) more) in
-    let both : length (front ++ byte ∷ []) ≡ count + 1 = length-append front (byte ∷ []) ∙ ap (λ n. n + 1) long in
-    ap (λ b. take (count + 1) b) whole ∙ take_at (front ++ byte ∷ []) more (count + 1) both
+-- the first byte like this has a place
+pub cut_none : (stop : ℕ) (bytes : List ℕ) → Nowhere (Passes (is_byte stop) bytes) 0 (length bytes) → cut_at stop bytes ≡ None
+cut_none stop [] nowhere = refl
+cut_none stop (byte ∷ bytes) nowhere =
+    cut_other stop byte bytes (λ same. nowhere 0 (omega arith) (omega arith) (eq_is byte stop same))
+    ∙ ap (λ (cut : Option (List ℕ × List ℕ)). option_map (λ parts. (byte ∷ parts.0, parts.1)) cut)
+    (cut_none stop bytes (λ place low high. nowhere (suc place) (omega arith) (omega (arith, high))))
 
-pub same_more : (stop count byte : ℕ) (more bytes : List ℕ) → cut_at stop bytes ≡ with_front (take count bytes) (cut_at stop (byte ∷ more))
-    → bytes ≡ take count bytes ++ byte ∷ more → count + length (byte ∷ more) ≡ length bytes → (byte ≡ stop → ⊥)
-    → cut_at stop bytes ≡ with_front (take (count + 1) bytes) (cut_at stop more)
-same_more stop count byte more bytes same parts size other =
-    same ∙ ap (λ cut. with_front (take count bytes) cut) (cut_other stop byte more other) ∙ front_on (take count bytes) byte (cut_at stop more)
-    ∙ ap (λ front. with_front front (cut_at stop more)) (sym (front_more count byte more bytes parts size))
-
-pub found_here : (stop count byte : ℕ) (more bytes : List ℕ) → cut_at stop bytes ≡ with_front (take count bytes) (cut_at stop (byte ∷ more))
-    → byte ≡ stop → cut_at stop bytes ≡ Some (take count bytes, more)
-found_here stop count byte more bytes same here =
-    same ∙ ap (λ cut. with_front (take count bytes) cut) (cut_here stop byte more here)
-    ∙ ap (λ (all : List ℕ). Some (all, more)) (append-nil (take count bytes))
-
--- the loop goes on
-
-pub record Passed (stop count : ℕ) (bytes rest : List ℕ) : Type 0 where
-  pub same : cut_at stop bytes ≡ with_front (take count bytes) (cut_at stop rest)
-  pub parts : bytes ≡ take count bytes ++ rest
-  pub size : count + length rest ≡ length bytes
-
-tail_is : (byte : ℕ) (more : List ℕ) → take (length (byte ∷ more) - 1) (drop 1 (byte ∷ more)) ≡ more
-tail_is byte more =
-    let size : length (byte ∷ more) - 1 ≡ length more = omega arith in
-    ap (λ n. take n (drop 1 (byte ∷ more))) size ∙ ap (λ b. take (length more) b) (sym (append-nil more)) ∙ take_at more [] (length more) refl
-
-passed_byte : (stop count byte : ℕ) (more bytes : List ℕ) → Passed stop count bytes (byte ∷ more) → (byte ≡ stop → ⊥) → Passed stop (count + 1) bytes more
-passed_byte stop count byte more bytes was other =
-    let front : take (count + 1) bytes ≡ take count bytes ++ byte ∷ [] = front_more count byte more bytes was.parts was.size in
-    record {
-      same = same_more stop count byte more bytes was.same was.parts was.size other;
-      parts = was.parts ∙ sym (append_assoc (take count bytes) (byte ∷ []) more) ∙ ap (λ f. f ++ more) (sym front);
-      size = omega (arith, was.size);
-    }
-
-pub passed_more : (stop count : ℕ) (bytes rest : List ℕ) → Passed stop count bytes rest → 0 < length rest → (get_or rest 0 0 ≡ stop → ⊥)
-    → Passed stop (count + 1) bytes (take (length rest - 1) (drop 1 rest))
-passed_more stop count bytes [] was some other = absurd (omega (arith, some))
-passed_more stop count bytes (byte ∷ more) was some other =
-    subst (λ (b : List ℕ). Passed stop (count + 1) bytes b) (sym (tail_is byte more)) (passed_byte stop count byte more bytes was other)
+pub cut_first : (stop : ℕ) (bytes : List ℕ) (place : ℕ) → place < length bytes → Nowhere (Passes (is_byte stop) bytes) 0 place
+    → Passes (is_byte stop) bytes place
+    → ◌≡◌ {A = Option (List ℕ × List ℕ)} (cut_at stop bytes) (Some (take place bytes, drop (suc place) bytes))
+cut_first stop [] place within before here = absurd (omega (arith, within))
+cut_first stop (byte ∷ bytes) zero within before here = cut_here stop byte bytes (eq_true byte stop here)
+cut_first stop (byte ∷ bytes) (suc place) within before here =
+    cut_other stop byte bytes (λ same. before 0 (omega arith) (omega arith) (eq_is byte stop same))
+    ∙ ap (λ (cut : Option (List ℕ × List ℕ)). option_map (λ parts. (byte ∷ parts.0, parts.1)) cut)
+    (cut_first stop bytes place (omega (arith, within)) (λ k low high. before (suc k) (omega arith) (omega (arith, high))) here)
 
 -- what was cut
 

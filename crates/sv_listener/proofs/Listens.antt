@@ -1,6 +1,6 @@
 -- What was handled and said, part by part.
-use Rattle.std.proofs.Common.{◌≡◌, ◌≤◌, ◌+◌, ◌-◌, ◌++◌, ℕ, List, [], ◌∷◌, Option, None, Some, true, false, inl, inr, length, take, drop, get_or, ◌<◌, length-append, append_assoc, append-nil, ap, sym, ◌∙◌, subst, refl, arith}
-use Rattle.std.specs.Prelude.{is_some}
+use Rattle.std.proofs.Common.{◌≡◌, ◌≤◌, ◌+◌, ◌-◌, ◌++◌, ℕ, List, [], ◌∷◌, Option, None, Some, Result, Ok, Err, true, false, inl, inr, length, take, drop, get_or, ◌<◌, length-append, append_assoc, append-nil, ap, sym, ◌∙◌, subst, refl, arith}
+use Rattle.std.specs.Prelude.{IfErr, OnErr, OnOk, is_some}
 use Rattle.std.specs.Io.KnownBytes.{Appends, Consumes, IsAtEnd, Keeps}
 use Rattle.std.proofs.KnownBytes.{Appends-trans, Appends-nil, Consumes-trans, Consumes-nil, Consumes-kept}
 use Rattle.std.proofs.lemmas.List.{take_more, take-append-drop}
@@ -31,16 +31,7 @@ answers_append (verdict ∷ verdicts) others =
     ap (λ (text : List ℕ). answer_of verdict ++ text) (answers_append verdicts others)
     ∙ sym (append_assoc (answer_of verdict) (answers verdicts) (answers others))
 
-answers_one : (verdict : Verdict) → answers (verdict ∷ []) ≡ answer_of verdict
-answers_one verdict = append-nil (answer_of verdict)
-
 -- ---- texts
-
-nothing_before : (a b c : Option (List ℕ)) (text : List ℕ) → Keeps a b → Appends b c text → Appends a c text
-nothing_before None b c text kept wrote = tt
-nothing_before (Some x) None c text kept wrote = absurd kept
-nothing_before (Some x) (Some y) None text kept wrote = absurd wrote
-nothing_before (Some x) (Some y) (Some z) text kept wrote = wrote ∙ ap (λ (front : List ℕ). front ++ text) kept
 
 front_of_none : (a : Option (List ℕ)) (text : List ℕ) → AppendsFront a a text
 front_of_none a text = record { front = []; rest = text; parts = refl; appends = Appends-nil a }
@@ -70,12 +61,6 @@ front_within a b text more part = record {
 pub answered_none : (a : Option (List ℕ)) (Told : List Heard → List Verdict → Type 0) → Told [] [] → Answers a a Told []
 answered_none a Told told = record { verdicts = []; told = told; each = refl; wrote = Appends-nil a }
 
-pub answered_one : (a b : Option (List ℕ)) (Told : List Heard → List Verdict → Type 0) (event : Heard) (verdict : Verdict)
-    → Told (event ∷ []) (verdict ∷ []) → Appends a b (answer_of verdict) → Answers a b Told (event ∷ [])
-answered_one a b Told event verdict told wrote =
-    let P : List ℕ → Type 0 = λ text. Appends a b text in
-    record { verdicts = verdict ∷ []; told = told; each = refl; wrote = subst P (sym (answers_one verdict)) wrote }
-
 pub answered_more : (a b c : Option (List ℕ)) (One Two Both : List Heard → List Verdict → Type 0) (events more : List Heard)
     → Joins One Two Both → Answers a b One events → Answers b c Two more → Answers a c Both (events ++ more)
 answered_more a b c One Two Both events more joins first second =
@@ -89,21 +74,6 @@ answered_more a b c One Two Both events more joins first second =
           (Appends-trans a b c (answers first.verdicts) (answers second.verdicts) first.wrote second.wrote);
     }
 
--- the sink failed: a verdict was given
-pub unsaid : (a b : Option (List ℕ)) (Told : List Heard → List Verdict → Type 0) (event : Heard) (verdict : Verdict)
-    → Told (event ∷ []) (verdict ∷ []) → AppendsFront a b (answer_of verdict) → Stops ends.SinkFailed a b Told (event ∷ [])
-unsaid a b Told event verdict told part =
-    let P : List ℕ → Type 0 = λ text. AppendsFront a b text in
-    record {
-      given = event ∷ [];
-      later = [];
-      parts = refl;
-      verdicts = verdict ∷ [];
-      told = told;
-      has = refl;
-      wrote = subst P (sym (answers_one verdict)) part;
-    }
-
 has_more : (end : ListenEnd) (verdicts events others more : ℕ) → verdicts ≡ events → HasVerdicts end others more
     → HasVerdicts end (verdicts + others) (events + more)
 has_more ends.SinkFailed verdicts events others more same has = omega (arith, same, has)
@@ -113,12 +83,6 @@ has_more ends.Broken verdicts events others more same has = omega (arith, same, 
 has_more ends.OutOfMemory verdicts events others more same has = omega (arith, same, has)
 has_more ends.HandlerFailed verdicts events others more same has = omega (arith, same, has)
 has_more ends.TooMuch verdicts events others more same has = omega (arith, same, has)
-
--- the handler failed, or had no memory: there is no verdict
-pub unhandled : (end : ListenEnd) (a : Option (List ℕ)) (Told : List Heard → List Verdict → Type 0) (event : Heard)
-    → HasVerdicts end 0 1 → Told (event ∷ []) [] → Stops end a a Told (event ∷ [])
-unhandled end a Told event has told =
-    record { given = event ∷ []; later = []; parts = refl; verdicts = []; told = told; has = has; wrote = front_of_none a [] }
 
 -- nothing was given
 pub ungiven : (end : ListenEnd) (a b : Option (List ℕ)) (Told : List Heard → List Verdict → Type 0) (events : List Heard)
@@ -179,6 +143,66 @@ stops_on end a b c One Two Both events count event joins within is first stop =
     subst P (ap (λ (l : List Heard). l ++ drop (count + 1) events) (one_more events count event within is) ∙ take-append-drop (count + 1) events)
     (stops_before end a c Both (take count events ++ event ∷ []) (drop (count + 1) events)
     (stops_behind end a b c One Two Both (take count events) (event ∷ []) joins first stop))
+
+-- ---- answers in a text, which is then said
+
+text_is : (start text said : List ℕ) → start ≡ [] → text ≡ start ++ said → text ≡ said
+text_is start text said none is = is ∙ ap (λ (t : List ℕ). t ++ said) none
+
+-- the sink failed: all verdicts were given
+answers_unsaid : (start text : List ℕ) (a b : Option (List ℕ)) (Told : List Heard → List Verdict → Type 0) (events : List Heard)
+    → start ≡ [] → Answers (Some start) (Some text) Told events → AppendsFront a b text → Stops ends.SinkFailed a b Told events
+answers_unsaid start text a b Told events none all part =
+    let P : List ℕ → Type 0 = λ t. AppendsFront a b t in
+    record {
+      given = events;
+      later = [];
+      parts = sym (append-nil events);
+      verdicts = all.verdicts;
+      told = all.told;
+      has = all.each;
+      wrote = subst P (text_is start text (answers all.verdicts) none all.wrote) part;
+    }
+
+-- one wasn't handled, and of the answers before it a front was said
+stops_said : (end : ListenEnd) (start text : List ℕ) (a b : Option (List ℕ)) (Told : List Heard → List Verdict → Type 0) (events : List Heard)
+    → start ≡ [] → Stops end (Some start) (Some text) Told events → AppendsFront a b text → Stops end a b Told events
+stops_said end start text a b Told events none stop part =
+    let P : List ℕ → Type 0 = λ t. AppendsFront a b t in
+    let same : text ≡ stop.wrote.front = text_is start text stop.wrote.front none stop.wrote.appends in
+    record {
+      given = stop.given;
+      later = stop.later;
+      parts = stop.parts;
+      verdicts = stop.verdicts;
+      told = stop.told;
+      has = stop.has;
+      wrote =
+          subst P (ap (λ (t : List ℕ). t ++ stop.wrote.rest) same ∙ sym stop.wrote.parts)
+          (front_within a b text stop.wrote.rest part);
+    }
+
+-- what was said of the text, whether the sink failed or not
+front_said : {A E : Type 0} (result : Result A E) (a b : Option (List ℕ)) (text : List ℕ)
+    → OnOk result (Appends a b text) → OnErr result (AppendsFront a b text) → AppendsFront a b text
+front_said (Ok value) a b text all part = front_of_all a b text all
+front_said (Err fault) a b text all part = part
+
+pub said_or_not : {A : Type 0} (result : Result A ListenEnd) (start text shown : List ℕ) (a b : Option (List ℕ))
+    (Told : List Heard → List Verdict → Type 0) (events : List Heard) → start ≡ [] → shown ≡ text → Answers (Some start) (Some text) Told events
+    → IfErr result (λ end. end ≡ ends.SinkFailed) → OnErr result (AppendsFront a b shown) → IfErr result (λ end. Stops end a b Told events)
+said_or_not (Ok value) start text shown a b Told events none same all is part = tt
+said_or_not (Err end) start text shown a b Told events none same all is part =
+    let P : ListenEnd → Type 0 = λ e. Stops e a b Told events in
+    let Q : List ℕ → Type 0 = λ t. AppendsFront a b t in
+    subst P (sym is) (answers_unsaid start text a b Told events none all (subst Q same part))
+
+pub stopped_said : {A E : Type 0} (result : Result A E) (end : ListenEnd) (start text shown : List ℕ) (a b : Option (List ℕ))
+    (Told : List Heard → List Verdict → Type 0) (events : List Heard) → start ≡ [] → shown ≡ text → Stops end (Some start) (Some text) Told events
+    → OnOk result (Appends a b shown) → OnErr result (AppendsFront a b shown) → Stops end a b Told events
+stopped_said result end start text shown a b Told events none same stop all part =
+    let Q : List ℕ → Type 0 = λ t. AppendsFront a b t in
+    stops_said end start text a b Told events none stop (subst Q same (front_said result a b shown all part))
 
 -- ---- the whole stream
 

@@ -1,18 +1,16 @@
--- Numbers in digits, and what parsing gives of them.
-use Rattle.std.proofs.Common.{◌≡◌, ◌<◌, ◌^◌, ◌==◌, ◌&&◌, ℕ, List, Bool, true, false, not, Result, Ok, Err, Option, None, Some, length, get_or, nat_lt, refl, ap, sym, ◌∙◌, subst, arith}
-use Rattle.std.proofs.Common.{rules}
+-- Numbers in digits, and what reading gives of them.
+use Rattle.std.proofs.Common.{◌≡◌, ◌<◌, ◌≤◌, ◌+◌, ◌-◌, ◌*◌, ◌^◌, ◌==◌, ◌&&◌, ℕ, zero, suc, List, [], ◌∷◌, Bool, true, false, not, Option, None, Some, length, get_or, nat_lt, refl, ap, sym, ◌∙◌, arith}
 use Rattle.std.proofs.lemmas.Bool.{and_parts}
 use Rattle.std.proofs.lemmas.Bool.Decides.{nat_tests}
-use Rattle.std.proofs.lemmas.Str.Parse.{IsNumeralModel, numerals_by_value, parse_digits}
-use Rattle.std.specs.Char.{is_ascii_digit}
+use Rattle.std.proofs.lemmas.Grind.{common_steps}
+use Rattle.std.specs.Char.{digit_value, is_ascii_digit}
 use Rattle.std.specs.List.{list_all}
-use Rattle.std.specs.Result.{OkIff}
-use Rattle.std.specs.Str.Parse.{digits_value, ParsesUnsigned}
-use Rattle.std.specs.Prelude.{◌||◌, MatchOption, slice_index, if◌then◌else◌}
+use Rattle.std.specs.Str.Parse.{digits_value, digits_value_after}
+use Rattle.std.specs.Prelude.{◌||◌, option_map, slice_index, if◌then◌else◌}
 use Rattle.std.specs.Str.{IsUtf8, is_utf8}
-use Rattle.std.proofs.lemmas.Str.{IsUtf8-from_is_utf8, is_utf8-from_IsUtf8}
+use Rattle.std.proofs.lemmas.Str.{IsUtf8-from_ascii, IsUtf8-from_is_utf8, is_utf8-from_IsUtf8}
 use Rattle.sv_listener.specs.ExitBody.{pid_in, pid_of}
-use Rattle.sv_listener.specs.Reading.{◌>>=◌, provided, cut_at, is_number, text_at, small_number, size_of, size_at}
+use Rattle.sv_listener.specs.Reading.{◌>>=◌, provided, cut_at, is_number, text_at, number_at, small_number, size_of, size_at}
 use Rattle.sv_listener.specs.declared.header.Size.{Size}
 use Rattle.sv_listener.specs.declared.header.Size.TheVariants.{Bytes, Endless}
 
@@ -22,18 +20,11 @@ lt_true a b is = grind (arith, nat_tests)
 lt_is : (a b : ℕ) → a < b → nat_lt a b ≡ true
 lt_is a b less = grind (arith, nat_tests)
 
-own : IsNumeralModel (λ ds. list_all is_ascii_digit ds ≡ true) (digits_value 10)
-own = numerals_by_value _ (search rules)
-
 pub number_digits : (ds : List ℕ) → is_number ds ≡ true → (list_all is_ascii_digit ds ≡ true) × (0 < length ds)
 number_digits ds is =
     let front = (and_parts (list_all is_ascii_digit ds && nat_lt 0 (length ds)) (length ds == 1 || not (slice_index ds 0 == 48)) is).0 in
     let both = and_parts (list_all is_ascii_digit ds) (nat_lt 0 (length ds)) front in
     (both.0, lt_true 0 (length ds) both.1)
-
-pub parsed : {E : Type 0} (ds : List ℕ) (r : Result ℕ E) → ParsesUnsigned 64 10 ds r → is_number ds ≡ true
-    → OkIff r ((0 < length ds) × (digits_value 10 ds < 2 ^ 64)) (digits_value 10 ds)
-parsed ds r parses is = parse_digits own 64 ds r parses (number_digits ds is).0
 
 -- a test that holds, or doesn't
 
@@ -53,10 +44,6 @@ and_true true false x y = absurd (cc)
 left_false : (a b : Bool) → a ≡ false → (a && b) ≡ false
 left_false false b x = refl
 left_false true b x = absurd (cc)
-
-right_false : (a b : Bool) → b ≡ false → (a && b) ≡ false
-right_false false b x = refl
-right_false true b x = x
 
 lt_false : (a b : ℕ) → (a < b → ⊥) → nat_lt a b ≡ false
 lt_false a b no_less = grind (arith, nat_tests)
@@ -82,77 +69,89 @@ text_bad bytes word rest cut bad =
     ap (λ (c : Option (List ℕ × List ℕ)). c >>= (λ parts. provided (is_utf8 parts.0) parts)) cut
     ∙ provided_false (is_utf8 word) (word, rest) (not_utf8 word bad)
 
+-- digits are a text
+
+digits_ascii : (ds : List ℕ) → list_all is_ascii_digit ds ≡ true → (i : ℕ) → slice_index ds i < 128
+digits_ascii [] all i = omega arith
+digits_ascii (d ∷ ds) all zero = grind (arith, nat_tests, common_steps)
+digits_ascii (d ∷ ds) all (suc i) = digits_ascii ds (grind (arith, common_steps)) i
+
+number_utf8 : (ds : List ℕ) → is_number ds ≡ true → is_utf8 ds ≡ true
+number_utf8 ds is = is_utf8-from_IsUtf8 ds (IsUtf8-from_ascii ds (digits_ascii ds (number_digits ds is).0))
+
+-- their value, digit by digit
+
+grows : (n : ℕ) (ds : List ℕ) → n ≤ digits_value_after 10 n ds
+grows n [] = omega arith
+grows n (d ∷ ds) = omega (arith, grows (n * 10 + digit_value d) ds)
+
+value_digit : (d : ℕ) → is_ascii_digit d ≡ true → digit_value d ≡ d - 48
+value_digit d is = grind (arith, nat_tests, common_steps)
+
+all_parts : (d : ℕ) (more : List ℕ) → list_all is_ascii_digit (d ∷ more) ≡ true → (is_ascii_digit d ≡ true) × (list_all is_ascii_digit more ≡ true)
+all_parts d more all = and_parts (is_ascii_digit d) (list_all is_ascii_digit more) all
+
+-- these digits follow those of the value
+pub record Follow (total value : ℕ) (rest : List ℕ) : Type 0 where
+  pub same : digits_value_after 10 value rest ≡ total
+  pub all : list_all is_ascii_digit rest ≡ true
+
+pub value_large : (total value : ℕ) (rest : List ℕ) → Follow total value rest → 0 < length rest
+    → (value * 10 + (get_or rest 0 0 - 48) < 2 ^ 64 → ⊥) → total < 2 ^ 64 → ⊥
+value_large total value [] was some large small = omega (arith, some)
+value_large total value (d ∷ more) was some large small =
+    let parts = all_parts d more was.all in
+    large (omega (arith, value_digit d parts.0, grows (value * 10 + digit_value d) more, was.same, small))
+
 -- numbers
 
-pub small_none : {E : Type 0} (ds : List ℕ) (r : Result ℕ E) (e : E) → ParsesUnsigned 64 10 ds r → r ≡ Err e → is_number ds ≡ true
-    → small_number ds ≡ None
-small_none ds r e parses failed is =
-    let few = subst (λ (x : Result ℕ _). OkIff x ((0 < length ds) × (digits_value 10 ds < 2 ^ 64)) (digits_value 10 ds)) failed (parsed ds r parses is) in
-    let large : nat_lt (digits_value 10 ds) (2 ^ 64) ≡ false
-    = lt_false (digits_value 10 ds) (2 ^ 64) (λ less. few ((number_digits ds is).1, less)) in
+small_other : (ds : List ℕ) → is_number ds ≡ false → small_number ds ≡ None
+small_other ds not_one =
     provided_false (is_number ds && nat_lt (digits_value 10 ds) (2 ^ 64)) (digits_value 10 ds)
-    (right_false (is_number ds) (nat_lt (digits_value 10 ds) (2 ^ 64)) large)
+    (left_false (is_number ds) (nat_lt (digits_value 10 ds) (2 ^ 64)) not_one)
 
-size_is : (bytes : List ℕ) (size : Size) → IsUtf8 bytes → is_number bytes ≡ true → size_of (digits_value 10 bytes) ≡ size → size_at bytes ≡ Some size
-size_is bytes size good is same =
+-- a small number is a text
+small_utf8 : (ds : List ℕ) (value : ℕ) → small_number ds ≡ Some value → is_utf8 ds ≡ true
+small_utf8 ds value is = by_test (is_number ds) refl
+  where
+    by_test : (test : Bool) → is_number ds ≡ test → is_utf8 ds ≡ true
+    by_test true one = number_utf8 ds one
+    by_test false not_one = let none : None ≡ Some value = sym (small_other ds not_one) ∙ is in absurd (cc)
+
+pub number_good : (bytes word rest : List ℕ) (value : ℕ) → ◌≡◌ {A = Option (List ℕ × List ℕ)} (cut_at 32 bytes) (Some (word, rest))
+    → small_number word ≡ Some value → ◌≡◌ {A = Option (ℕ × List ℕ)} (number_at bytes) (Some (value, rest))
+number_good bytes word rest value cut is =
+    ap (λ (t : Option (List ℕ × List ℕ)). t >>= (λ parts. option_map (λ v. (v, parts.1)) (small_number parts.0)))
+    (ap (λ (c : Option (List ℕ × List ℕ)). c >>= (λ parts. provided (is_utf8 parts.0) parts)) cut
+    ∙ provided_true (is_utf8 word) (word, rest) (small_utf8 word value is))
+    ∙ ap (λ (found : Option ℕ). option_map (λ v. (v, rest)) found) is
+
+size_is : (bytes : List ℕ) (size : Size) → is_number bytes ≡ true → size_of (digits_value 10 bytes) ≡ size → size_at bytes ≡ Some size
+size_is bytes size is same =
     provided_true (is_utf8 bytes && is_number bytes) (size_of (digits_value 10 bytes))
-    (and_true (is_utf8 bytes) (is_number bytes) (is_utf8-from_IsUtf8 bytes good) is) ∙ ap (λ (s : Size). Some s) same
+    (and_true (is_utf8 bytes) (is_number bytes) (number_utf8 bytes is) is) ∙ ap (λ (s : Size). Some s) same
 
-pub size_good : {E : Type 0} (bytes ds : List ℕ) (r : Result ℕ E) (n : ℕ) → ParsesUnsigned 64 10 ds r → r ≡ Ok n → is_number ds ≡ true
-    → ds ≡ bytes → IsUtf8 bytes → size_at bytes ≡ Some (Bytes n)
-size_good bytes ds r n parses done is same good =
-    let few = subst (λ (x : Result ℕ _). OkIff x ((0 < length ds) × (digits_value 10 ds < 2 ^ 64)) (digits_value 10 ds)) done (parsed ds r parses is) in
-    let small : nat_lt (digits_value 10 ds) (2 ^ 64) ≡ true = lt_is (digits_value 10 ds) (2 ^ 64) few.0.1 in
-    let sized : size_of (digits_value 10 ds) ≡ Bytes n
-    = ap (λ test. if test then Bytes (digits_value 10 ds) else Endless) small ∙ ap (λ value. Bytes value) (sym few.1) in
-    size_is bytes (Bytes n) good (ap is_number (sym same) ∙ is) (ap (λ b. size_of (digits_value 10 b)) (sym same) ∙ sized)
+pub size_good : (bytes : List ℕ) (value : ℕ) → is_number bytes ≡ true → value ≡ digits_value 10 bytes → digits_value 10 bytes < 2 ^ 64
+    → size_at bytes ≡ Some (Bytes value)
+size_good bytes value is same less =
+    let small : nat_lt (digits_value 10 bytes) (2 ^ 64) ≡ true = lt_is (digits_value 10 bytes) (2 ^ 64) less in
+    size_is bytes (Bytes value) is
+    (ap (λ test. if test then Bytes (digits_value 10 bytes) else Endless) small ∙ ap (λ v. Bytes v) (sym same))
 
-pub size_endless : {E : Type 0} (bytes ds : List ℕ) (r : Result ℕ E) (e : E) → ParsesUnsigned 64 10 ds r → r ≡ Err e → is_number ds ≡ true
-    → ds ≡ bytes → IsUtf8 bytes → size_at bytes ≡ Some Endless
-size_endless bytes ds r e parses failed is same good =
-    let few = subst (λ (x : Result ℕ _). OkIff x ((0 < length ds) × (digits_value 10 ds < 2 ^ 64)) (digits_value 10 ds)) failed (parsed ds r parses is) in
-    let large : nat_lt (digits_value 10 ds) (2 ^ 64) ≡ false
-    = lt_false (digits_value 10 ds) (2 ^ 64) (λ less. few ((number_digits ds is).1, less)) in
-    let sized : size_of (digits_value 10 ds) ≡ Endless = ap (λ test. if test then Bytes (digits_value 10 ds) else Endless) large in
-    size_is bytes Endless good (ap is_number (sym same) ∙ is) (ap (λ b. size_of (digits_value 10 b)) (sym same) ∙ sized)
+pub size_endless : (bytes : List ℕ) → is_number bytes ≡ true → (digits_value 10 bytes < 2 ^ 64 → ⊥) → size_at bytes ≡ Some Endless
+size_endless bytes is above =
+    let large : nat_lt (digits_value 10 bytes) (2 ^ 64) ≡ false = lt_false (digits_value 10 bytes) (2 ^ 64) above in
+    size_is bytes Endless is (ap (λ test. if test then Bytes (digits_value 10 bytes) else Endless) large)
 
-pub size_none : (bytes : List ℕ) → (IsUtf8 bytes → ⊥) → size_at bytes ≡ None
-size_none bytes bad =
-    provided_false (is_utf8 bytes && is_number bytes) (size_of (digits_value 10 bytes)) (left_false (is_utf8 bytes) (is_number bytes) (not_utf8 bytes bad))
+-- the number of a process is a text
 
--- digits that begin with another digit than 0
-eqb_false : (a b : ℕ) → (a ≡ b → ⊥) → (a == b) ≡ false
-eqb_false a b other = grind (arith, nat_tests)
+pub pid_is : (bytes : List ℕ) → pid_of bytes ≡ pid_in bytes
+pid_is bytes = by_test (is_utf8 bytes) refl
+  where
+    none_of : (found : Option ℕ) → small_number bytes ≡ found → is_utf8 bytes ≡ false → (found >>= (λ value. provided (nat_lt value (2 ^ 32)) value)) ≡ None
+    none_of None is bad = refl
+    none_of (Some value) is bad = let both : true ≡ false = sym (small_utf8 bytes value is) ∙ bad in absurd (cc)
 
-or_true : (a b : Bool) → b ≡ true → (a || b) ≡ true
-or_true true b is = refl
-or_true false b is = is
-
-and_of_true : (a b c : Bool) → b ≡ true → c ≡ true → a ≡ ((a && b) && c)
-and_of_true true true true x y = refl
-and_of_true false b c x y = refl
-and_of_true true false c x y = absurd (cc)
-and_of_true true true false x y = absurd (cc)
-
-not_false : (a : Bool) → a ≡ false → not a ≡ true
-not_false false is = refl
-not_false true is = absurd (cc)
-
-pub long_number : (ds : List ℕ) → 0 < length ds → (get_or ds 0 0 ≡ 48 → ⊥) → list_all is_ascii_digit ds ≡ is_number ds
-long_number ds some other =
-    and_of_true (list_all is_ascii_digit ds) (nat_lt 0 (length ds)) (length ds == 1 || not (slice_index ds 0 == 48))
-    (lt_is 0 (length ds) some)
-    (or_true (length ds == 1) (not (slice_index ds 0 == 48)) (not_false (slice_index ds 0 == 48) (eqb_false (slice_index ds 0) 48 other)))
-
--- the number of a process
-
-pub pid_none : (bytes : List ℕ) → (IsUtf8 bytes → ⊥) → pid_in bytes ≡ None
-pid_none bytes bad = ap (λ test. if test then pid_of bytes else None) (not_utf8 bytes bad)
-
-pub pid_good : (bytes text : List ℕ) (found : Option ℕ) → IsUtf8 bytes → text ≡ bytes
-    → MatchOption found (pid_of text ≡ None) (λ pid. pid_of text ≡ Some pid) → MatchOption found (pid_in bytes ≡ None) (λ pid. pid_in bytes ≡ Some pid)
-pid_good bytes text found good same is =
-    let read : pid_of text ≡ pid_in bytes
-    = ap pid_of same ∙ sym (ap (λ test. if test then pid_of bytes else None) (is_utf8-from_IsUtf8 bytes good)) in
-    let P : Option ℕ → Type 0 = λ said. MatchOption found (said ≡ None) (λ pid. said ≡ Some pid) in
-    subst P read is
+    by_test : (test : Bool) → is_utf8 bytes ≡ test → pid_of bytes ≡ (if test then pid_of bytes else None)
+    by_test true is = refl
+    by_test false is = none_of (small_number bytes) refl is

@@ -216,7 +216,7 @@ kind_lacks_space ProcessGroup = refl
 kind_lacks_space ProcessGroupAdded = refl
 kind_lacks_space ProcessGroupRemoved = refl
 
-kind_is_found : (kind : Kind) → kind_in (kind_name kind) ≡ Some kind
+pub kind_is_found : (kind : Kind) → kind_in (kind_name kind) ≡ Some kind
 kind_is_found Event = refl
 kind_is_found ProcessState = refl
 kind_is_found ProcessStateStarting = refl

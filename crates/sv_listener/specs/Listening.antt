@@ -125,6 +125,12 @@ IsStop ends.SinkFailed = Unit {0}
 IsStop ends.HandlerFailed = Unit {0}
 IsStop end = ⊥
 
+-- there is no verdict, or no memory for its answer
+abbrev pub IsUnhandled : ListenEnd → Type 0
+IsUnhandled ends.OutOfMemory = Unit {0}
+IsUnhandled ends.HandlerFailed = Unit {0}
+IsUnhandled end = ⊥
+
 -- the piece comes, its events are handled and answered
 abbrev pub Goes : ListenerSide → List ℕ → ListenerSide → Option (List ℕ) → Option (List ℕ)
     → (List Heard → List Verdict → Type 0) → Type 0

@@ -9,7 +9,6 @@ ghost use Rattle.sv_listener.specs.ExitCalls.{Reads, said_of};
 
 use crate::events::Heard;
 use crate::header::{after, small_number, text};
-use std::str;
 use sv_base::state::State;
 
 /// An exit, as the body of its event tells it.
@@ -131,16 +130,13 @@ fn truth_of(digit: &str) -> Option<bool>
 }
 
 /// The number of a process, in digits.
-fn pid(bytes: &[u8]) -> Option<u32>
-    ensures { MatchOption result (pid_in bytes.now ≡ None) (λ pid. pid_in bytes.now ≡ Some pid) }
+fn pid(digits: &[u8]) -> Option<u32>
+    ensures { MatchOption result (pid_in digits.now ≡ None) (λ pid. pid_in digits.now ≡ Some pid) }
 {
-    match str::from_utf8(bytes) {
-        Ok(digits) => pid_of(digits),
-        Err(_) => None,
-    }
+    pid_of(digits)
 }
 
-fn pid_of(digits: &str) -> Option<u32>
+fn pid_of(digits: &[u8]) -> Option<u32>
     ensures { MatchOption result (pid_of digits.now ≡ None) (λ pid. pid_of digits.now ≡ Some pid) }
 {
     let value = small_number(digits)?;

@@ -1,13 +1,15 @@
 //! Reading the header line of an event.
 
-ghost use Rattle.std.specs.Prelude.{◌≡◌, ◌+◌, None, Some, IfSome, MatchOption, length};
+ghost use Rattle.std.specs.Prelude.{◌≡◌, ◌<◌, ◌+◌, ◌^◌, None, Some, IfSome, SomeIff, MatchOption, length, true};
 ghost use Rattle.std.specs.Char.{is_ascii_digit};
 ghost use Rattle.std.specs.List.{list_all};
-ghost use Rattle.sv_listener.specs.Reading.{cut_at, is_number, text_at, number_at, kind_at, size_at, small_number};
+ghost use Rattle.std.specs.Str.Parse.{digits_value};
+ghost use Rattle.sv_listener.specs.Reading.{cut_at, is_number, text_at, number_at, kind_at, kind_in, size_at, small_number};
 ghost use Rattle.sv_listener.specs.HeaderLine.{header_of, named, pooled};
 ghost use Rattle.sv_listener.specs.HeaderCalls.{Reads};
 ghost use Rattle.sv_pipes.specs.StreamCut.{rest_after};
 
+use memchr::memchr;
 use std::str;
 use sv_base::kind::Kind;
 use sv_base::words::kind_of;
@@ -91,16 +93,14 @@ pub(crate) fn cut(stop: u8, bytes: &[u8]) -> Option<(&[u8], &[u8])>
     ensures cut { MatchOption result (cut_at stop bytes.now ≡ None)
         (λ parts. cut_at stop bytes.now ≡ Some (parts.0.now, parts.1.now)) }
 {
-    let mut rest = bytes;
-    let mut count = 0usize;
-    while let [byte, more @ ..] = rest {
-        if *byte == stop {
-            return Some((&bytes[..count], more));
+    match memchr(stop, bytes) {
+        Some(count) => {
+            let (front, _) = bytes.split_at(count);
+            let (_, rest) = bytes.split_at(count + 1);
+            Some((front, rest))
         }
-        count += 1;
-        rest = more;
+        None => None,
     }
-    None
 }
 
 /// A text up to a space, and what follows that.
@@ -120,21 +120,22 @@ fn number(bytes: &[u8]) -> Option<(u64, &[u8])>
     ensures { MatchOption result (number_at bytes.now ≡ None)
         (λ parts. number_at bytes.now ≡ Some (parts.0, parts.1.now)) }
 {
-    let (word, rest) = text(bytes)?;
-    let value = small_number(word)?;
-    Some((value, rest))
+    let (word, rest) = cut(b' ', bytes)?;
+    match small_number(word) {
+        Some(value) => Some((value, rest)),
+        None => None,
+    }
 }
 
-pub(crate) fn small_number(digits: &str) -> Option<u64>
+/// A number below 2^64, in digits.
+pub(crate) fn small_number(digits: &[u8]) -> Option<u64>
     ensures { MatchOption result (small_number digits.now ≡ None)
         (λ value. small_number digits.now ≡ Some value) }
 {
-    if !is_number(digits) {
-        return None;
-    }
-    match digits.parse() {
-        Ok(value) => Some(value),
-        Err(_) => None,
+    if is_number(digits) {
+        value_of(digits)
+    } else {
+        None
     }
 }
 
@@ -144,31 +145,57 @@ fn event_type(bytes: &[u8]) -> Option<(Kind, &[u8])>
         (λ parts. kind_at bytes.now ≡ Some (parts.0, parts.1.now)) }
 {
     let (name, rest) = text(bytes)?;
-    let kind = kind_of(name)?;
+    let kind = kind_named(name)?;
     Some((kind, rest))
+}
+
+/// The type of this name. The most usual one among the names of its length is tried before all others.
+fn kind_named(name: &str) -> Option<Kind>
+    ensures { result ≡ kind_in name.now }
+{
+    let usual = usual_kind(name.len());
+    if usual.name() == name {
+        return Some(usual);
+    }
+    kind_of(name)
+}
+
+/// The most usual type among those whose names have so many bytes, or any type where there is none.
+fn usual_kind(size: usize) -> Kind {
+    match size {
+        4 => Kind::Tick,
+        6 => Kind::Tick5,
+        7 => Kind::Tick60,
+        9 => Kind::Tick3600,
+        18 => Kind::ProcessLogStdout,
+        19 => Kind::ProcessStateFatal,
+        20 => Kind::ProcessStateExited,
+        21 => Kind::ProcessStateRunning,
+        22 => Kind::ProcessStateStarting,
+        28 => Kind::ProcessCommunicationStdout,
+        31 => Kind::SupervisorStateChangeRunning,
+        32 => Kind::SupervisorStateChangeStopping,
+        _ => Kind::Event,
+    }
 }
 
 /// The number of a body's bytes, in digits.
 fn body_size(bytes: &[u8]) -> Option<Size>
     ensures { MatchOption result (size_at bytes.now ≡ None) (λ size. size_at bytes.now ≡ Some size) }
 {
-    let Ok(digits) = str::from_utf8(bytes) else {
-        return None;
-    };
-    if !is_number(digits) {
+    if !is_number(bytes) {
         return None;
     }
-    match digits.parse() {
-        Ok(bytes) => Some(Size::Bytes(bytes)),
-        Err(_) => Some(Size::Endless),
+    match value_of(bytes) {
+        Some(value) => Some(Size::Bytes(value)),
+        None => Some(Size::Endless),
     }
 }
 
 /// Whether these are digits, at least one, without a leading zero.
-fn is_number(digits: &str) -> bool
-    ensures { result ≡ is_number digits.now }
+fn is_number(bytes: &[u8]) -> bool
+    ensures { result ≡ is_number bytes.now }
 {
-    let bytes = digits.as_bytes();
     match bytes {
         [] => false,
         [first] => first.is_ascii_digit(),
@@ -180,4 +207,19 @@ fn all_digits(bytes: &[u8]) -> bool
     ensures { result ≡ list_all is_ascii_digit bytes.now }
 {
     bytes.iter().all(|byte| byte.is_ascii_digit())
+}
+
+/// The number that these digits write, where it is below 2^64.
+fn value_of(digits: &[u8]) -> Option<u64>
+    requires { is_number digits.now ≡ true }
+    ensures { SomeIff result (digits_value 10 digits.now < 2 ^ 64) (digits_value 10 digits.now) }
+{
+    let mut value = 0u64;
+    let mut rest = digits;
+    while let [digit, more @ ..] = rest {
+        let tens = value.checked_mul(10)?;
+        value = tens.checked_add(u64::from(digit.saturating_sub(b'0')))?;
+        rest = more;
+    }
+    Some(value)
 }

@@ -1,9 +1,9 @@
 //! A listener's loop: it says that it is ready, handles each event of its stream, and answers it.
 
-ghost use Rattle.std.specs.Prelude.{◌≡◌, ◌≤◌, ◌<◌, ◌^◌, ◌∷◌, [], IfOk, IfErr, OnErr, OnOk, Err, length, take};
+ghost use Rattle.std.specs.Prelude.{◌≡◌, ◌≤◌, ◌<◌, ◌^◌, ◌∷◌, ◌++◌, [], IfOk, IfErr, OnErr, OnOk, Err, Some, length, take};
 ghost use Rattle.std.specs.Io.KnownBytes.{Appends, Consumes, IsAtEnd, Keeps};
 ghost use Rattle.sv_listener.specs.Answers.{answer_of, answers};
-ghost use Rattle.sv_listener.specs.Listening.{Answers, Goes, IsStop, Listens, Says, Stops, StopsIn, end_number};
+ghost use Rattle.sv_listener.specs.Listening.{Answers, Goes, IsStop, IsUnhandled, Listens, Says, Stops, StopsIn, end_number};
 ghost use Rattle.sv_out.specs.Faults.{HasCause, Rose};
 ghost use Rattle.sv_out.specs.Written.{AppendsFront};
 
@@ -57,7 +57,8 @@ impl ListenEnd {
 }
 
 /// Listens: says `READY`, then takes each event of the source as soon as its last byte is there, gives it to the handler,
-/// and says the result and `READY`, before the next event is given.
+/// and says the result and `READY`, before more is asked for. The answers to events that came in one read are said with
+/// one write, in order.
 ///
 /// The answer is `Ended` where the source ended between two events; `SourceFailed` where it failed; `Broken` where it
 /// ended inside an event, or where a header line is faulty or a body too long; `OutOfMemory`; `SinkFailed` where the sink
@@ -101,6 +102,8 @@ fn hear<R: Source, K: Sink, H: Handler>(
         → Rose (H.faults handler.old) (H.faults handler.new) }
 {
     let mut side = ListenerSide::new(alloc);
+    let mut heard = Vec::new(alloc);
+    let mut text = Vec::new(alloc);
     let mut buffer = [0u8; PIECE];
     let mut room = MOST_TAKEN;
     while room > 0 {
@@ -115,7 +118,9 @@ fn hear<R: Source, K: Sink, H: Handler>(
             return ListenEnd::Broken;
         }
         let (piece, _) = buffer.split_at(count);
-        match take_piece(alloc, piece, &mut side, sink, handler) {
+        match take_piece(
+            alloc, piece, &mut side, &mut heard, &mut text, sink, handler,
+        ) {
             Ok(()) => {}
             Err(end) => return end,
         }
@@ -144,11 +149,14 @@ fn read_piece<R: Source>(source: &mut R, buffer: &mut [u8], most: u64) -> Result
     Ok(count)
 }
 
-/// Takes the next bytes of the stream: the events that they complete are handled and answered.
+/// Takes the next bytes of the stream: the events that they complete are handled and answered. The two lists are for
+/// these events and for their answers; what they held goes.
 fn take_piece<K: Sink, H: Handler>(
     alloc: Global,
     piece: &[u8],
     side: &mut ListenerSide,
+    heard: &mut Vec<Heard>,
+    text: &mut Vec<u8>,
     sink: &mut K,
     handler: &mut H,
 ) -> Result<(), ListenEnd>
@@ -164,15 +172,17 @@ fn take_piece<K: Sink, H: Handler>(
     ensures handler_failed { result ≡ Err ListenEnd.HandlerFailed
         → Rose (H.faults handler.old) (H.faults handler.new) }
 {
-    match side.feed(alloc, piece) {
-        Ok(heard) => answer_all(heard.as_slice(), sink, handler),
+    match side.feed_into(alloc, piece, heard) {
+        Ok(()) => answer_all(heard.as_slice(), text, sink, handler),
         Err(_) => Err(ListenEnd::OutOfMemory),
     }
 }
 
-/// Handles and answers these events.
+/// Handles these events, which came together, and says their answers together. Where one isn't handled, those before it
+/// are answered. The answers are put together in the text.
 fn answer_all<K: Sink, H: Handler>(
     events: &[Heard],
+    text: &mut Vec<u8>,
     sink: &mut K,
     handler: &mut H,
 ) -> Result<(), ListenEnd>
@@ -188,8 +198,32 @@ fn answer_all<K: Sink, H: Handler>(
     ensures handler_failed { result ≡ Err ListenEnd.HandlerFailed
         → Rose (H.faults handler.old) (H.faults handler.new) }
 {
+    text.clear();
+    let handled = handle_all(events, handler, text);
+    let said = say(text.as_slice(), sink);
+    match handled {
+        Ok(()) => said,
+        Err(end) => Err(end),
+    }
+}
+
+/// Handles these events, and adds their answers to the text.
+fn handle_all<H: Handler>(
+    events: &[Heard],
+    handler: &mut H,
+    text: &mut Vec<u8>,
+) -> Result<(), ListenEnd>
+    ensures answered { OnOk result (Answers (Some text.old.items) (Some text.new.items)
+        (H.told handler.old handler.new) events.now) }
+    ensures stops { IfErr result (λ end. Stops end (Some text.old.items) (Some text.new.items)
+        (H.told handler.old handler.new) events.now) }
+    ensures unhandled { IfErr result IsUnhandled }
+    ensures handler_later { H.faults handler.old ≤ H.faults handler.new }
+    ensures handler_failed { result ≡ Err ListenEnd.HandlerFailed
+        → Rose (H.faults handler.old) (H.faults handler.new) }
+{
     for event in events {
-        match answer(event, sink, handler) {
+        match answer(event, handler, text) {
             Ok(()) => {}
             Err(end) => return Err(end),
         }
@@ -197,42 +231,45 @@ fn answer_all<K: Sink, H: Handler>(
     Ok(())
 }
 
-/// Handles an event, and says the verdict's result.
-fn answer<K: Sink, H: Handler>(
-    event: &Heard,
-    sink: &mut K,
-    handler: &mut H,
-) -> Result<(), ListenEnd>
-    ensures answered { OnOk result (Answers (K.written sink.old) (K.written sink.new)
+/// Handles an event, and adds its answer to the text.
+fn answer<H: Handler>(event: &Heard, handler: &mut H, text: &mut Vec<u8>) -> Result<(), ListenEnd>
+    ensures answered { OnOk result (Answers (Some text.old.items) (Some text.new.items)
         (H.told handler.old handler.new) (event.now ∷ [])) }
-    ensures stops { IfErr result (λ end. Stops end (K.written sink.old) (K.written sink.new)
+    ensures stops { IfErr result (λ end. Stops end (Some text.old.items) (Some text.new.items)
         (H.told handler.old handler.new) (event.now ∷ [])) }
-    ensures stop { IfErr result IsStop }
-    ensures sink_later { K.faults sink.old ≤ K.faults sink.new }
+    ensures unhandled { IfErr result IsUnhandled }
     ensures handler_later { H.faults handler.old ≤ H.faults handler.new }
-    ensures sink_failed { result ≡ Err ListenEnd.SinkFailed
-        → Rose (K.faults sink.old) (K.faults sink.new) }
     ensures handler_failed { result ≡ Err ListenEnd.HandlerFailed
         → Rose (H.faults handler.old) (H.faults handler.new) }
 {
     match handler.handle(event) {
-        Ok(verdict) => say(verdict, sink),
+        Ok(verdict) => add_answer(verdict, text),
         Err(HandleFault::Failed) => Err(ListenEnd::HandlerFailed),
         Err(HandleFault::OutOfMemory) => Err(ListenEnd::OutOfMemory),
     }
 }
 
-/// Says the result of a verdict, and that the listener is ready for the next event.
-fn say<K: Sink>(verdict: Verdict, sink: &mut K) -> Result<(), ListenEnd>
-    ensures said { OnOk result (Appends (K.written sink.old) (K.written sink.new)
-        (answer_of verdict)) }
-    ensures unsaid { OnErr result (AppendsFront (K.written sink.old) (K.written sink.new)
-        (answer_of verdict)) }
+/// Adds to the text the result of a verdict, and that the listener is ready for the next event.
+fn add_answer(verdict: Verdict, text: &mut Vec<u8>) -> Result<(), ListenEnd>
+    ensures added { OnOk result (text.new.items ≡ text.old.items ++ answer_of verdict) }
+    ensures kept { OnErr result (text.new.items ≡ text.old.items) }
+    ensures end { IfErr result (λ end. end ≡ ListenEnd.OutOfMemory) }
+{
+    match text.extend_from_slice(verdict.answer()) {
+        Ok(()) => Ok(()),
+        Err(_) => Err(ListenEnd::OutOfMemory),
+    }
+}
+
+/// Says this text.
+fn say<K: Sink>(text: &[u8], sink: &mut K) -> Result<(), ListenEnd>
+    ensures said { OnOk result (Appends (K.written sink.old) (K.written sink.new) text.now) }
+    ensures unsaid { OnErr result (AppendsFront (K.written sink.old) (K.written sink.new) text.now) }
     ensures stop { IfErr result (λ end. end ≡ ListenEnd.SinkFailed) }
     ensures later { K.faults sink.old ≤ K.faults sink.new }
     ensures failed { OnErr result (Rose (K.faults sink.old) (K.faults sink.new)) }
 {
-    match write_all(sink, verdict.answer()) {
+    match write_all(sink, text) {
         Ok(()) => Ok(()),
         Err(_) => Err(ListenEnd::SinkFailed),
     }

@@ -1,12 +1,15 @@
 //! The listener's side of its standard input: a reader that takes the stream in pieces and gives its events.
 
-ghost use Rattle.std.specs.Prelude.{◌≡◌, ◌≤◌, [], IfOk, IsErr, OnErr, drop, length};
+ghost use Rattle.std.specs.Prelude.{◌≡◌, ◌≤◌, [], IfOk, IsErr, OnErr, OnOk, drop, length};
 ghost use Rattle.sv_listener.specs.Takes.{Takes};
 
 use crate::events::{Heard, HeardFault};
 use crate::first::{First, first_of};
 use std::alloc::{AllocError, Global};
 use std::mem;
+
+/// How much memory is used again, in bytes; more goes back.
+const MOST_KEPT: usize = 65_536;
 
 /// What a listener got so far, of which only the bytes of an event that isn't whole are kept.
 #[derive(Debug, Drop)]
@@ -42,21 +45,41 @@ impl ListenerSide {
         ensures none { OnErr result (StandsForNone self.new) }
         ensures stays_refused { IsBroken self.old → IsErr result }
     {
+        let mut events = Vec::new(alloc);
+        match self.feed_into(alloc, piece, &mut events) {
+            Ok(()) => Ok(events),
+            Err(refused) => Err(refused),
+        }
+    }
+
+    /// The same into a list, whose memory is used again. What it held goes.
+    pub(crate) fn feed_into(
+        &mut self,
+        alloc: Global,
+        piece: &[u8],
+        events: &mut Vec<Heard>,
+    ) -> Result<(), AllocError>
+        ensures heard { OnOk result (Feeds self.old piece.now events.new.items self.new) }
+        ensures read { OnOk result (Tells self.old piece.now events.new.items) }
+        ensures refused { OnErr result (IsBroken self.new) }
+        ensures none { OnErr result (StandsForNone self.new) }
+        ensures stays_refused { IsBroken self.old → IsErr result }
+    {
+        events.clear();
         if self.broken {
             return Err(AllocError);
         }
-        let mut events = Vec::new(alloc);
         if self.fault.is_some() {
-            return Ok(events);
+            return Ok(());
         }
         self.broken = true;
         let mut bytes = mem::replace(&mut self.held, Vec::new(alloc));
         bytes.extend_from_slice(piece)?;
-        let taken = take_events(alloc, bytes.as_slice(), &mut events)?;
+        let taken = take_events(alloc, bytes.as_slice(), events)?;
         self.held = rest_of(alloc, bytes, taken.count)?;
         self.fault = taken.fault;
         self.broken = false;
-        Ok(events)
+        Ok(())
     }
 
     /// The fault of the stream so far.
@@ -106,14 +129,20 @@ fn take_events(alloc: Global, bytes: &[u8], events: &mut Vec<Heard>) -> Result<T
     }
 }
 
-/// The bytes that aren't done with.
-fn rest_of(alloc: Global, bytes: Vec<u8>, count: usize) -> Result<Vec<u8>, AllocError>
+/// The bytes that aren't done with, in the same memory where there is little of it.
+fn rest_of(alloc: Global, mut bytes: Vec<u8>, count: usize) -> Result<Vec<u8>, AllocError>
     requires { count ≤ length bytes.items }
     ensures { IfOk result (λ rest. rest.items ≡ drop count bytes.items) }
 {
     if count == 0 {
         return Ok(bytes);
     }
-    let (_, rest) = bytes.as_slice().split_at(count);
-    Vec::from_slice(alloc, rest)
+    let (_, left) = bytes.as_slice().split_at(count);
+    let rest = Vec::from_slice(alloc, left)?;
+    if bytes.len() > MOST_KEPT {
+        return Ok(rest);
+    }
+    bytes.clear();
+    bytes.extend_from_slice(rest.as_slice())?;
+    Ok(bytes)
 }

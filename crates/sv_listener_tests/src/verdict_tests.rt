@@ -42,17 +42,68 @@ impl Handler for Judge {
     ghost further = { λ first middle last events more verdicts others each one two. tt };
 }
 
+/// The event at which the handler stops and why, the call of the sink that fails, how it ends, and what was said.
+type Run = (u64, HandleFault, u64, ListenEnd, &'static str);
+
+// The sink takes 50 bytes a call, and all answers have 53; they came together, so they take its calls 2 and 3.
+const RUNS: [Run; 6] = [
+    (
+        0,
+        HandleFault::Failed,
+        4,
+        ListenEnd::Broken,
+        "READY\nRESULT 2\nOKREADY\nRESULT 4\nFAILREADY\nRESULT 2\nOKREADY\n",
+    ),
+    (
+        3,
+        HandleFault::Failed,
+        3,
+        ListenEnd::HandlerFailed,
+        "READY\nRESULT 2\nOKREADY\nRESULT 4\nFAILREADY\n",
+    ),
+    (
+        1,
+        HandleFault::Failed,
+        0,
+        ListenEnd::HandlerFailed,
+        "READY\n",
+    ),
+    (
+        2,
+        HandleFault::OutOfMemory,
+        0,
+        ListenEnd::OutOfMemory,
+        "READY\nRESULT 2\nOKREADY\n",
+    ),
+    (
+        0,
+        HandleFault::Failed,
+        3,
+        ListenEnd::SinkFailed,
+        "READY\nRESULT 2\nOKREADY\nRESULT 4\nFAILREADY\nRESULT 2\nOKREA",
+    ),
+    (
+        3,
+        HandleFault::Failed,
+        2,
+        ListenEnd::HandlerFailed,
+        "READY\n",
+    ),
+];
+
 fn play(
     rt: &impl Abort,
     alloc: Global,
     stops_at: u64,
     fault: HandleFault,
+    sink_fails: u64,
     end: ListenEnd,
     said: &str,
 ) {
     let bytes = Vec::from_slice(alloc, STREAM).expect(rt, "ample memory");
+    let failing = Vec::from_slice(alloc, &[sink_fails]).expect(rt, "ample memory");
     let mut source = ListSource::new(bytes, 65_536, Vec::new(alloc));
-    let mut sink = ListSink::new(alloc, 65_536, Vec::new(alloc));
+    let mut sink = ListSink::new(alloc, 50, failing);
     let mut judge = Judge {
         stops_at,
         fault,
@@ -64,28 +115,7 @@ fn play(
 
 #[test]
 fn each_event_gets_its_result(rt: HostRuntime) {
-    let runs = [
-        (
-            0,
-            HandleFault::Failed,
-            ListenEnd::Broken,
-            "READY\nRESULT 2\nOKREADY\nRESULT 4\nFAILREADY\nRESULT 2\nOKREADY\n",
-        ),
-        (
-            3,
-            HandleFault::Failed,
-            ListenEnd::HandlerFailed,
-            "READY\nRESULT 2\nOKREADY\nRESULT 4\nFAILREADY\n",
-        ),
-        (1, HandleFault::Failed, ListenEnd::HandlerFailed, "READY\n"),
-        (
-            2,
-            HandleFault::OutOfMemory,
-            ListenEnd::OutOfMemory,
-            "READY\nRESULT 2\nOKREADY\n",
-        ),
-    ];
-    for (stops_at, fault, end, said) in runs {
-        play(&rt, rt.alloc(), stops_at, fault, end, said);
+    for (stops_at, fault, sink_fails, end, said) in RUNS {
+        play(&rt, rt.alloc(), stops_at, fault, sink_fails, end, said);
     }
 }

@@ -1,8 +1,9 @@
-use Rattle.sv_listener.proofs.Numbers.{pid_good, pid_none}
+use Rattle.std.proofs.Common.{◌≡◌, Option, None, Some, ℕ, subst}
+use Rattle.std.specs.Prelude.{MatchOption}
+use Rattle.sv_listener.proofs.Numbers.{pid_is}
 use Rattle.sv_listener.proofs.exits.pid.Goals as goal
 
-pub returns-in-Ok : goal.returns-in-Ok
-returns-in-Ok c = pid_good c.args.bytes.now c.in-Ok.digits.now c.pid_of.result c.in-Ok.ensures.cases.1 c.in-Ok.ensures.cases.0 c.pid_of.ensures
-
-pub returns-in-Err : goal.returns-in-Err
-returns-in-Err c = pid_none c.args.bytes.now c.in-Err.ensures.cases.0
+pub returns : goal.returns
+returns c =
+    let P : Option ℕ → Type 0 = λ said. MatchOption c.pid_of.result (said ≡ None) (λ pid. said ≡ Some pid) in
+    subst P (pid_is c.args.digits.now) c.pid_of.ensures

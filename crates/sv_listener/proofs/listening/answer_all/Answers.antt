@@ -1,23 +1,16 @@
-use Rattle.std.proofs.Common.{arith}
-use Rattle.sv_listener.proofs.Listens.{answers_on, stops_on}
+use Rattle.sv_listener.proofs.Listens.{said_or_not, stopped_said}
 use Rattle.sv_listener.proofs.listening.answer_all.Goals as goal
+
+pub returns-in-Ok-clause-stops : goal.returns-in-Ok-clause-stops
+returns-in-Ok-clause-stops g c =
+    said_or_not c.say-said.result c.clear.new.self.items c.handle_all-handled.new.text.items c.as_slice.result.now
+    (g.K.Sink.written c.args.sink.now) (g.K.Sink.written c.say-said.new.sink)
+    (g.H.Handler.told c.args.handler.now c.handle_all-handled.new.handler) c.args.events.now
+    c.clear.ensures.items c.as_slice.ensures.value c.in-Ok.ensures.answered c.say-said.ensures.stop c.say-said.ensures.unsaid
 
 pub returns-in-Err-clause-stops : goal.returns-in-Err-clause-stops
 returns-in-Err-clause-stops g c =
-    stops_on c.in-Err.end (g.K.Sink.written c.args.sink.now) (g.K.Sink.written c.loop-event.sink) (g.K.Sink.written c.answer.new.sink)
-    (g.H.Handler.told c.args.handler.now c.loop-event.handler) (g.H.Handler.told c.loop-event.handler c.answer.new.handler)
-    (g.H.Handler.told c.args.handler.now c.answer.new.handler) c.args.events.now c.loop-event.event-index c.event-item.result
-    (g.met.H.Handler.further c.args.handler.now c.loop-event.handler c.answer.new.handler)
-    c.loop-event-test.true c.event-item.is c.loop-event.invariant.answered c.in-Err.ensures.stops
-
-pub loop-event-preserved : goal.loop-event-preserved
-loop-event-preserved g c = record {
-  sink_later = omega (arith, c.loop-event.invariant.sink_later, c.in-Ok.ensures.sink_later);
-  handler_later = omega (arith, c.loop-event.invariant.handler_later, c.in-Ok.ensures.handler_later);
-  answered =
-      answers_on (g.K.Sink.written c.args.sink.now) (g.K.Sink.written c.loop-event.sink) (g.K.Sink.written c.answer.new.sink)
-      (g.H.Handler.told c.args.handler.now c.loop-event.handler) (g.H.Handler.told c.loop-event.handler c.answer.new.handler)
-      (g.H.Handler.told c.args.handler.now c.answer.new.handler) c.args.events.now c.loop-event.event-index c.event-item.result
-      (g.met.H.Handler.further c.args.handler.now c.loop-event.handler c.answer.new.handler)
-      c.loop-event-test.true c.event-item.is c.loop-event.invariant.answered c.in-Ok.ensures.answered;
-}
+    stopped_said c.say-said.result c.in-Err.end c.clear.new.self.items c.handle_all-handled.new.text.items c.as_slice.result.now
+    (g.K.Sink.written c.args.sink.now) (g.K.Sink.written c.say-said.new.sink)
+    (g.H.Handler.told c.args.handler.now c.handle_all-handled.new.handler) c.args.events.now
+    c.clear.ensures.items c.as_slice.ensures.value c.in-Err.ensures.stops c.say-said.ensures.said c.say-said.ensures.unsaid

@@ -1,15 +1,15 @@
 use Rattle.std.proofs.Common.{◌++◌, drop, ap, sym, ◌∙◌, refl}
 use Rattle.sv_listener.proofs.Hearings.{fed, stands_hearing}
 use Rattle.sv_listener.specs.Hearing.{Hearing}
-use Rattle.sv_listener.proofs.side.ListenerSide.feed.Goals as goal
+use Rattle.sv_listener.proofs.side.ListenerSide.feed_into.Goals as goal
 
 stands_after : goal.returns-clause-heard
 stands_after c = λ stream events stands. (
   refl,
   fed c.args.self.now.held.items c.args.piece.now c.as_slice.result.now c.in_ok-self.field-0.items (drop c.in_ok-taken.taken.count c.as_slice.result.now) c.args.self.now.fault c.in_ok-taken.taken.fault
-      c.new-events.result.items c.take_events.new.events.items stream events (sym c.is_some.ensures ∙ c.if-is_some.false)
+      c.clear.new.self.items c.take_events.new.events.items stream events (sym c.is_some.ensures ∙ c.if-is_some.false)
       (c.as_slice.ensures.value ∙ c.in_ok-extend_from_slice.ensures.items ∙ ap (λ b. b.items ++ c.args.piece.now) c.replace-bytes.ensures.value)
-      c.new-events.ensures.items c.in_ok-taken.ensures.takes
+      c.clear.ensures.items c.in_ok-taken.ensures.takes
       (c.in_ok-self.ensures ∙ ap (λ b. drop c.in_ok-taken.taken.count b) (sym c.as_slice.ensures.value)) stands.1,
 )
 
