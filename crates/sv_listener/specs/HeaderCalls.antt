@@ -13,6 +13,7 @@ said_of header = record {
   size = header.size;
 }
 
+-- what was read is what the line says
 abbrev pub Reads : Option Header → Option Said → Type 0
 Reads None said = said ≡ None
 Reads (Some header) said = said ≡ Some (said_of header)

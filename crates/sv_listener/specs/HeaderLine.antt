@@ -58,12 +58,14 @@ sized pool serial poolserial kind bytes = do
     size = size;
   })
 
+-- the line from the event type on
 abbrev pub named : List ℕ → ℕ → ℕ → List ℕ → Option Header
 named pool serial poolserial bytes = do
   a ← rest_after (codes "eventname:") bytes
   kind ← kind_at a
   sized pool serial poolserial kind.0 kind.1
 
+-- the line from the pool on
 abbrev pub pooled : ℕ → List ℕ → Option Header
 pooled serial bytes = do
   a ← rest_after (codes "pool:") bytes

@@ -59,13 +59,16 @@ by_line bytes (Some (line, after)) =
 unfoldable pub first_of : List ℕ → First
 first_of bytes = by_line bytes (cut_at 10 bytes)
 
+-- where bytes end that are no whole event
 abbrev pub end_of : List ℕ → End
 end_of [] = Between
 end_of rest = Within
 
+-- an event before what is heard further
 abbrev pub with_event : Heard → Hearing → Hearing
 with_event event hearing = record { events = event ∷ hearing.events; end = hearing.end }
 
+-- what is heard of bytes, by what stands first
 abbrev pub hears_by : (List ℕ → Hearing) → List ℕ → First → Hearing
 hears_by further bytes Open = record { events = []; end = end_of bytes }
 hears_by further bytes (Fault fault) = record { events = []; end = Faulty fault }

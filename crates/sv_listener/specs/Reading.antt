@@ -9,8 +9,8 @@ use Rattle.sv_base.specs.declared.kind.Kind.{Kind}
 use Rattle.sv_listener.specs.declared.header.Size.{Size}
 use Rattle.sv_listener.specs.declared.header.Size.TheVariants.{Bytes, Endless}
 
--- what is read after what was read
 infixl 10 ◌>>=◌
+-- what is read after what was read
 abbrev pub ◌>>=◌ : {A B : Type 0} → Option A → (A → Option B) → Option B
 None >>= next = None
 (Some value) >>= next = next value
@@ -36,26 +36,29 @@ is_number digits =
 abbrev pub text_at : List ℕ → Option (List ℕ × List ℕ)
 text_at bytes = cut_at 32 bytes >>= (λ parts. provided (is_utf8 parts.0) parts)
 
--- a number below 2^64, and what follows the space after it
+-- a number below 2^64
 abbrev pub small_number : List ℕ → Option ℕ
 small_number digits =
     provided (is_number digits && nat_lt (digits_value 10 digits) (2 ^ 64)) (digits_value 10 digits)
 
+-- such a number at the front, and what follows the space after it
 abbrev pub number_at : List ℕ → Option (ℕ × List ℕ)
 number_at bytes =
     text_at bytes >>= (λ parts. option_map (λ value. (value, parts.1)) (small_number parts.0))
 
--- the event type of this name, and what follows the space after it
+-- the event type of this name
 abbrev pub kind_in : List ℕ → Option Kind
 kind_in text = find (λ kind. bytes_eq (kind_name kind) text) all_kinds
 
+-- an event type at the front, and what follows the space after it
 abbrev pub kind_at : List ℕ → Option (Kind × List ℕ)
 kind_at bytes =
     text_at bytes >>= (λ parts. option_map (λ kind. (kind, parts.1)) (kind_in parts.0))
 
--- the number of a body's bytes, which is the rest of the line
+-- the size that a number says
 abbrev pub size_of : ℕ → Size
 size_of value = if nat_lt value (2 ^ 64) then Bytes value else Endless
 
+-- the size at the front, which is all of the bytes
 abbrev pub size_at : List ℕ → Option Size
 size_at bytes = provided (is_utf8 bytes && is_number bytes) (size_of (digits_value 10 bytes))

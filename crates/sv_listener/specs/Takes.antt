@@ -20,6 +20,7 @@ abbrev pub IsOver : HeardFault → List ℕ → List Heard → Type 0
 IsOver fault stream events =
     (more : List ℕ) → hearing_of (stream ++ more) ≡ record { events = events; end = Faulty fault }
 
+-- the fault and the bytes kept stand for a stream of which these events were heard
 abbrev pub Stands : Option HeardFault → List ℕ → List ℕ → List Heard → Type 0
 Stands None held stream events = GoesOn held stream events × (first_of held ≡ Open)
 Stands (Some fault) held stream events = IsOver fault stream events × (held ≡ [])

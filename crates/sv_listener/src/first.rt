@@ -27,6 +27,7 @@ pub(crate) enum First {
     Whole(Heard, usize),
 }
 
+/// What stands first in these bytes.
 #[tactic(auto, unfolding(crate::specs::Hearing::first_of))]
 pub(crate) fn first_of(alloc: Global, bytes: &[u8]) -> Result<First, AllocError>
     ensures first { IfOk result (λ first. first ≡ first_of bytes.now) }
@@ -56,7 +57,8 @@ fn with_body(
 ) -> Result<First, AllocError>
     requires some { 1 ≤ before }
     requires room { before + length after.now < 2 ^ 64 }
-    ensures first { IfOk result (λ first. first ≡ with_header before (Some (said_of header.now)) after.now) }
+    ensures first { IfOk result (λ first.
+        first ≡ with_header before (Some (said_of header.now)) after.now) }
     ensures within { IfOk result (λ first. IsWithin first (before + length after.now)) }
 {
     let size = match header.size {

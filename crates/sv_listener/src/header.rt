@@ -89,7 +89,8 @@ pub(crate) fn after<'a>(word: &[u8], bytes: &'a [u8]) -> Option<&'a [u8]>
 
 /// The bytes before the first one like this, and those after it.
 pub(crate) fn cut(stop: u8, bytes: &[u8]) -> Option<(&[u8], &[u8])>
-    ensures size { IfSome result (λ parts. length parts.0.now + 1 + length parts.1.now ≡ length bytes.now) }
+    ensures size { IfSome result (λ parts.
+        length parts.0.now + 1 + length parts.1.now ≡ length bytes.now) }
     ensures cut { MatchOption result (cut_at stop bytes.now ≡ None)
         (λ parts. cut_at stop bytes.now ≡ Some (parts.0.now, parts.1.now)) }
 {
@@ -181,7 +182,8 @@ fn usual_kind(size: usize) -> Kind {
 
 /// The number of a body's bytes, in digits.
 fn body_size(bytes: &[u8]) -> Option<Size>
-    ensures { MatchOption result (size_at bytes.now ≡ None) (λ size. size_at bytes.now ≡ Some size) }
+    ensures { MatchOption result (size_at bytes.now ≡ None)
+        (λ size. size_at bytes.now ≡ Some size) }
 {
     if !is_number(bytes) {
         return None;

@@ -264,7 +264,8 @@ fn add_answer(verdict: Verdict, text: &mut Vec<u8>) -> Result<(), ListenEnd>
 /// Says this text.
 fn say<K: Sink>(text: &[u8], sink: &mut K) -> Result<(), ListenEnd>
     ensures said { OnOk result (Appends (K.written sink.old) (K.written sink.new) text.now) }
-    ensures unsaid { OnErr result (AppendsFront (K.written sink.old) (K.written sink.new) text.now) }
+    ensures unsaid { OnErr result
+        (AppendsFront (K.written sink.old) (K.written sink.new) text.now) }
     ensures stop { IfErr result (λ end. end ≡ ListenEnd.SinkFailed) }
     ensures later { K.faults sink.old ≤ K.faults sink.new }
     ensures failed { OnErr result (Rose (K.faults sink.old) (K.faults sink.new)) }

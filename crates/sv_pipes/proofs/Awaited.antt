@@ -1,18 +1,16 @@
 -- A token of which a part came, over plain lists. Its first byte, 60, stands in it once.
-use Rattle.std.proofs.Common.{◌≡◌, ◌≢◌, ◌<◌, ◌≤◌, ◌+◌, ◌==◌, ◌⊎◌, ℕ, List, [], ◌∷◌, ◌++◌, length, take, drop, get_or, Bool, true, not, refl, ap, sym, ◌∙◌, inl, inr, arith, append_assoc, append-nil, length-append, length-drop}
+use Rattle.std.proofs.Common.{◌≡◌, ◌≢◌, ◌<◌, ◌≤◌, ◌+◌, ◌⊎◌, ℕ, List, [], ◌∷◌, ◌++◌, length, take, drop, get_or, true, refl, ap, sym, ◌∙◌, inl, inr, arith, append_assoc, append-nil, length-append, length-drop}
 use Rattle.std.proofs.lemmas.Bool.{and_parts}
 use Rattle.std.proofs.lemmas.List.{take-append-drop}
 use Rattle.std.specs.List.{list_all}
 use Rattle.sv_pipes.proofs.Fronts.{no_bytes, word_more, word_outside}
 use Rattle.sv_pipes.specs.CaptureCut.{Lacks, IsFirst, IsLongest}
-
-abbrev pub is_other : ℕ → Bool
-is_other byte = not (byte == 60)
+use Rattle.sv_pipes.specs.Kept.{is_plain}
 
 pub record IsToken (token : List ℕ) : Type 0 where
   pub body : List ℕ
   pub is : token ≡ 60 ∷ body
-  pub once : list_all is_other body ≡ true
+  pub once : list_all is_plain body ≡ true
 
 -- how much of the token came last
 pub record At (token shown : List ℕ) (matched : ℕ) : Type 0 where
@@ -64,9 +62,9 @@ tails [] held before tail same short = (before, same)
 tails (s ∷ ss) held [] tail same short = absurd (omega (arith, ap length same, length-append ss held))
 tails (s ∷ ss) held (b ∷ bs) tail same short = let rest : ss ++ held ≡ bs ++ tail = cc in tails ss held bs tail rest short
 
-pub once_not : (xs ys : List ℕ) → list_all is_other (xs ++ 60 ∷ ys) ≡ true → ⊥
-once_not [] ys all = let no : is_other 60 ≡ true = (and_parts (is_other 60) (list_all is_other ys) all).0 in absurd (cc)
-once_not (x ∷ xs) ys all = once_not xs ys (and_parts (is_other x) (list_all is_other (xs ++ 60 ∷ ys)) all).1
+pub once_not : (xs ys : List ℕ) → list_all is_plain (xs ++ 60 ∷ ys) ≡ true → ⊥
+once_not [] ys all = let no : is_plain 60 ≡ true = (and_parts (is_plain 60) (list_all is_plain ys) all).0 in absurd (cc)
+once_not (x ∷ xs) ys all = once_not xs ys (and_parts (is_plain x) (list_all is_plain (xs ++ 60 ∷ ys)) all).1
 
 pub length_take : (token : List ℕ) (n : ℕ) → n ≤ length token → length (take n token) ≡ n
 length_take token n within = omega (arith, ap length (take-append-drop n token), length-append (take n token) (drop n token), length-drop n token)
@@ -91,7 +89,7 @@ one_byte token matched byte (y ∷ ys) rest (z ∷ zs) size marks within other s
     ∙ take-append-drop matched token ∙ marks.is in
     let again : marks.body ≡ zs ++ y ∷ (ys ++ drop matched token) = cc in
     absurd (once_not zs (ys ++ drop matched token)
-    (ap (λ bytes. list_all is_other bytes) (sym (again ∙ ap (λ b. zs ++ b ∷ (ys ++ drop matched token)) is_first)) ∙ marks.once))
+    (ap (λ bytes. list_all is_plain bytes) (sym (again ∙ ap (λ b. zs ++ b ∷ (ys ++ drop matched token)) is_first)) ∙ marks.once))
 
 -- nothing came of the token
 pub at_start : (token : List ℕ) → 0 < length token → At token [] 0

@@ -4,6 +4,8 @@ pub mod Digits
 pub mod Fronts
 pub mod OneStream
 pub mod OneTalk
+pub mod PlainBytes
+pub mod ResultBytes
 pub mod Steps
 pub mod StreamReading
 pub mod TalkReading

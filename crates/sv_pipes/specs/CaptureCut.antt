@@ -7,9 +7,11 @@ use Rattle.sv_pipes.specs.declared.parts.Part.TheVariants as part
 use Rattle.sv_pipes.specs.declared.parts.Side.{Side}
 use Rattle.sv_pipes.specs.declared.parts.Side.TheVariants.{Outside, Inside}
 
+-- the token at which a message begins
 abbrev pub begin_token : List ℕ
 begin_token = codes "<!--XSUPERVISOR:BEGIN-->"
 
+-- the token at which it ends
 abbrev pub end_token : List ℕ
 end_token = codes "<!--XSUPERVISOR:END-->"
 
@@ -32,6 +34,7 @@ pub data Stretch : Type 0 where
   Plain : (bytes : List ℕ) → Stretch
   Captured : (bytes : List ℕ) → Stretch
 
+-- how a stretch stands in the stream, with its token
 abbrev pub spelled : Stretch → List ℕ
 spelled (Plain bytes) = bytes ++ begin_token
 spelled (Captured bytes) = bytes ++ end_token
@@ -55,6 +58,7 @@ Leads Outside (Plain bytes) Inside = IsFirst begin_token bytes
 Leads Inside (Captured bytes) Outside = IsFirst end_token bytes
 Leads from stretch to = ⊥
 
+-- stretches one after the other lead from one side to the other
 abbrev pub Lead : Side → List Stretch → Side → Type 0
 Lead from [] to = from ≡ to
 Lead from (stretch ∷ stretches) to = (next : Side) × Leads from stretch next × Lead next stretches to
@@ -90,11 +94,12 @@ IsClosed limit stream decided =
     (before : List Decided) × (side : Side) × (shown : List ℕ) × (held : List ℕ)
     × IsCut limit stream before side shown held × (decided ≡ before ++ decided_open side held)
 
--- the parts of what is decided: neighbouring bytes are one, and none is empty
+-- a byte before the parts of what is decided: neighbouring bytes are one part, and none is empty
 abbrev pub with_byte : ℕ → List Part → List Part
 with_byte byte (part.Logged bytes ∷ parts) = part.Logged (byte ∷ bytes) ∷ parts
 with_byte byte parts = part.Logged (byte ∷ []) ∷ parts
 
+-- all parts of what is decided
 abbrev pub grouped : List Decided → List Part
 grouped [] = []
 grouped (Byte byte ∷ decided) = with_byte byte (grouped decided)

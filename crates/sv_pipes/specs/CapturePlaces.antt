@@ -14,6 +14,7 @@ abbrev pub IsKept : ℕ → Side → List ℕ → List ℕ → Type 0
 IsKept limit Outside shown body = body ≡ []
 IsKept limit Inside shown body = body ≡ last_of limit shown
 
+-- the side, how much of its token came and the bytes kept stand for a stream of which this is decided
 abbrev pub Stands : ℕ → Side → ℕ → List ℕ → List ℕ → List Decided → Type 0
 Stands limit side matched body stream decided =
     (shown : List ℕ) × IsCut limit stream decided side shown (take matched (awaited side))
@@ -43,6 +44,7 @@ pub record Reading : Type 0 where
   pub parts : List Part
   pub logged : List ℕ
 
+-- what the value keeps, with the parts so far and the bytes of the next one
 abbrev pub shown : Capture → List Part → List ℕ → Reading
 shown value parts logged =
     record {
@@ -53,10 +55,12 @@ shown value parts logged =
       logged = logged;
     }
 
+-- the same of bare values
 abbrev pub reads : Side → ℕ → List ℕ → List Part → List ℕ → Reading
 reads side matched body parts logged =
     record { side = side; matched = matched; body = body; parts = parts; logged = logged }
 
+-- what one more byte outside makes of it: the token goes on, ends, or is text after all
 abbrev pub step_outside : ℕ → ℕ → List ℕ → List Part → List ℕ → Reading
 step_outside matched byte body parts logged =
     if is_next begin_token matched byte
@@ -65,6 +69,7 @@ step_outside matched byte body parts logged =
     else (if byte == 60 then reads Outside 1 body parts (logged ++ take matched begin_token)
     else reads Outside 0 body parts (logged ++ take matched begin_token ++ byte ∷ []))
 
+-- what one more byte inside makes of it
 abbrev pub step_inside : ℕ → ℕ → ℕ → List ℕ → List Part → List ℕ → Reading
 step_inside limit matched byte body parts logged =
     if is_next end_token matched byte
@@ -73,10 +78,12 @@ step_inside limit matched byte body parts logged =
     else (if byte == 60 then reads Inside 1 (all_kept limit body (take matched end_token)) parts logged
     else reads Inside 0 (kept limit (all_kept limit body (take matched end_token)) byte) parts logged)
 
+-- what one more byte makes of it
 abbrev pub step : ℕ → Side → ℕ → ℕ → List ℕ → List Part → List ℕ → Reading
 step limit Outside matched byte body parts logged = step_outside matched byte body parts logged
 step limit Inside matched byte body parts logged = step_inside limit matched byte body parts logged
 
+-- what further bytes make of it
 abbrev pub steps : ℕ → Reading → List ℕ → Reading
 steps limit reading [] = reading
 steps limit reading (byte ∷ bytes) =

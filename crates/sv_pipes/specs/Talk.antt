@@ -50,6 +50,7 @@ spelled Ready = said (codes "READY\n")
 spelled Event = Sent ∷ []
 spelled (Result digits body) = said (result_text digits body)
 
+-- how all parts stand in it
 abbrev pub talk_of : List Phrase → List Mark
 talk_of phrases = flat_map spelled phrases
 
@@ -87,6 +88,7 @@ told_by Ready = token.Ready ∷ []
 told_by Event = []
 told_by (Result digits body) = token.Result body ∷ []
 
+-- what all parts tell
 abbrev pub tokens_of : List Phrase → List Token
 tokens_of phrases = flat_map told_by phrases
 

@@ -28,10 +28,11 @@ after_marks told (mark ∷ marks) = after_marks (after_mark told mark) marks
 unfoldable pub told_of : List Mark → Told
 told_of talk = after_marks (goes (place.Greeting 0) [] []) talk
 
--- the tokens of a whole talk, and the state in which it leaves the listener
+-- the tokens of a whole talk
 abbrev pub talk_tokens : List Mark → List Token
 talk_tokens talk = (told_of talk).tokens
 
+-- the state in which a whole talk leaves the listener
 abbrev pub talk_state : List Mark → TalkState
 talk_state talk = state_of (told_of talk).place
 

@@ -11,12 +11,15 @@ use Rattle.sv_pipes.specs.declared.tokens.TalkState.TheVariants as state
 use Rattle.sv_pipes.specs.declared.tokens.Token.{Token}
 use Rattle.sv_pipes.specs.declared.tokens.Token.TheVariants as token
 
+-- how a listener says that it is ready
 abbrev pub ready_line : List ℕ
 ready_line = codes "READY\n"
 
+-- how a result begins
 abbrev pub result_word : List ℕ
 result_word = codes "RESULT "
 
+-- the state of a listener at a place
 abbrev pub state_of : Place → TalkState
 state_of (place.Greeting count) = state.Acknowledged
 state_of place.Idle = state.Ready
@@ -44,6 +47,7 @@ abbrev pub Stands : Place → List ℕ → List Mark → List Token → Type 0
 Stands place.Lost held talk tokens = IsLost talk tokens
 Stands at held talk tokens = (rest : List ℕ) × GoesOn talk tokens (state_of at) rest × IsKept at held rest
 
+-- the value stands for a talk whose cut gave these tokens
 abbrev pub StandsFor : ListenerTalk → List Mark → List Token → Type 0
 StandsFor value talk tokens = Stands value.place value.held.items talk tokens
 
@@ -61,9 +65,11 @@ pub record Told : Type 0 where
   pub held : List ℕ
   pub tokens : List Token
 
+-- the place and the bytes of a value, with the tokens so far
 abbrev pub shown : ListenerTalk → List Token → Told
 shown value tokens = record { place = value.place; held = value.held.items; tokens = tokens }
 
+-- the same of bare values
 abbrev pub goes : Place → List ℕ → List Token → Told
 goes to held tokens = record { place = to; held = held; tokens = tokens }
 
@@ -71,9 +77,11 @@ goes to held tokens = record { place = to; held = held; tokens = tokens }
 abbrev pub is_next : List ℕ → ℕ → ℕ → Bool
 is_next word count byte = nat_lt count (length word) && get_or word count 0 == byte
 
+-- the talk can't go on
 abbrev pub lost : List ℕ → List Token → Told
 lost held tokens = goes place.Lost held (tokens ++ token.Wrong ∷ [])
 
+-- one more byte of READY
 abbrev pub after_greeting : ℕ → ℕ → List ℕ → List Token → Told
 after_greeting count byte held tokens =
     if is_next ready_line count byte
@@ -81,6 +89,7 @@ after_greeting count byte held tokens =
     else goes (place.Greeting (count + 1)) held tokens)
     else lost held tokens
 
+-- one more byte of the word before a result's length
 abbrev pub after_word : ℕ → ℕ → List ℕ → List Token → Told
 after_word count byte held tokens =
     if is_next result_word count byte
@@ -88,12 +97,14 @@ after_word count byte held tokens =
     else goes (place.Word (count + 1)) held tokens)
     else lost held tokens
 
+-- one more digit of the length, with the number that is then written
 abbrev pub after_digit : ℕ → ℕ → List ℕ → List Token → Told
 after_digit count number held tokens =
     if nat_lt count 7 && nat_le number result_limit
     then goes (place.Length (count + 1) number) held tokens
     else lost held tokens
 
+-- the line feed behind the length
 abbrev pub after_length : ℕ → ℕ → List ℕ → List Token → Told
 after_length count number held tokens =
     if nat_lt 0 count
@@ -101,6 +112,7 @@ after_length count number held tokens =
     else goes (place.Body count number) held tokens)
     else lost held tokens
 
+-- one more byte of the body, which has then these bytes
 abbrev pub after_body : ℕ → ℕ → List ℕ → List Token → Told
 after_body count number body tokens =
     if nat_lt (length body) number
@@ -118,6 +130,7 @@ step (place.Length count number) byte held tokens =
 step (place.Body count number) byte held tokens = after_body count number (held ++ byte ∷ []) tokens
 step at byte held tokens = goes at held tokens
 
+-- what further bytes make of it
 abbrev pub steps : Told → List ℕ → Told
 steps told [] = told
 steps told (byte ∷ bytes) = steps (step told.place byte told.held told.tokens) bytes

@@ -1,10 +1,13 @@
 //! A captured stream: its bytes for the log, and the messages between its marks.
 
-ghost use Rattle.std.specs.Prelude.{◌≡◌, ◌<◌, ◌≤◌, ◌++◌, ◌∷◌, [], List, ℕ, length, take, IfOk, IsOkAnd, OnOk, OnErr, IsErr};
-ghost use Rattle.sv_pipes.specs.Kept.{kept, all_kept, logged_part};
+ghost use Rattle.std.specs.List.{list_all};
+ghost use Rattle.std.specs.Prelude.{◌≡◌, ◌<◌, ◌≤◌, ◌++◌, ◌∷◌, [], List, ℕ, ◌+◌, length, take, true, IfOk, IsOkAnd, OnOk, OnErr, IsErr};
+ghost use Rattle.sv_pipes.specs.Kept.{all_kept, is_plain, logged_part};
+ghost use Rattle.sv_pipes.specs.CaptureCut.{last_of};
 
 use crate::parts::{Part, Side};
 use crate::word::is_next;
+use memchr::memchr;
 use std::alloc::{AllocError, Global};
 use std::collections::VecDeque;
 use std::mem;
@@ -36,6 +39,7 @@ pub struct Capture {
 impl Capture {
     ghost use Rattle.sv_pipes.specs.CaptureCalls.{Feeds, Tells, Closes, TellsEnd, StandsForNone};
     ghost use Rattle.sv_pipes.specs.CapturePlaces.{StandsFor, IsBroken, shown, step, steps, step_outside, step_inside, held_outside};
+    ghost use Rattle.sv_pipes.specs.declared.parts.Part.{Part};
 
     /// A capture of a stream that has no bytes yet, whose messages have at most so many bytes. It takes no memory, so
     /// it always succeeds.
@@ -122,10 +126,53 @@ impl Capture {
     {
         let mut rest = piece;
         while let [byte, more @ ..] = rest {
-            self.take(alloc, *byte, parts, logged)?;
-            rest = more;
+            let front = self.plain_front(rest);
+            if front == 0 {
+                self.take(alloc, *byte, parts, logged)?;
+                rest = more;
+            } else {
+                let (plain, behind) = rest.split_at(front);
+                self.take_plain(plain, logged)?;
+                rest = behind;
+            }
         }
         Ok(())
+    }
+
+    /// The number of bytes that can be taken all at once: those before the first with which a mark begins, and none where
+    /// bytes of the awaited mark came last.
+    fn plain_front(&self, bytes: &[u8]) -> usize
+        ensures within { result ≤ length bytes.now }
+        ensures plain { list_all is_plain (take result bytes.now) ≡ true }
+        ensures apart { 0 < result → self.now.matched ≡ 0 }
+    {
+        if self.matched == 0 {
+            plain_front(bytes)
+        } else {
+            0
+        }
+    }
+
+    /// Takes bytes with which no mark begins all at once, where none of the awaited mark came last.
+    fn take_plain(&mut self, plain: &[u8], logged: &mut Vec<u8>) -> Result<(), AllocError>
+        requires apart { self.old.matched ≡ 0 }
+        requires plain { list_all is_plain plain.now ≡ true }
+        ensures steps { (parts : List Part) → OnOk result (shown self.new parts logged.new.items
+            ≡ steps self.old.limit (shown self.old parts logged.old.items) plain.now) }
+        ensures matched { self.new.matched ≡ 0 }
+        ensures limit { self.new.limit ≡ self.old.limit }
+        ensures broken { self.new.broken ≡ self.old.broken }
+    {
+        match self.side {
+            Side::Outside => {
+                logged.extend_from_slice(plain)?;
+                Ok(())
+            }
+            Side::Inside => {
+                keep(&mut self.body, self.limit, plain)?;
+                Ok(())
+            }
+        }
     }
 
     fn take(
@@ -203,7 +250,7 @@ impl Capture {
             if byte == b'<' {
                 self.matched = 1;
             } else {
-                keep(&mut self.body, self.limit, byte)?;
+                keep(&mut self.body, self.limit, &[byte])?;
                 self.matched = 0;
             }
         }
@@ -213,7 +260,8 @@ impl Capture {
 
 /// Makes a part of the outside bytes, where there are some.
 fn flush(alloc: Global, parts: &mut Vec<Part>, logged: &mut Vec<u8>) -> Result<(), AllocError>
-    ensures parts { OnOk result (parts.new.items ≡ parts.old.items ++ logged_part logged.old.items) }
+    ensures parts { OnOk result
+        (parts.new.items ≡ parts.old.items ++ logged_part logged.old.items) }
     ensures logged { OnOk result (logged.new.items ≡ []) }
 {
     if logged.as_slice().is_empty() {
@@ -232,17 +280,48 @@ fn push_front(bytes: &mut Vec<u8>, word: &[u8], count: usize) -> Result<(), Allo
     bytes.extend_from_slice(&word[..count])
 }
 
-/// Keeps a further byte of a message, of whose bytes only the last ones are kept.
-fn keep(body: &mut VecDeque<u8>, limit: u64, byte: u8) -> Result<(), AllocError>
+/// Keeps further bytes of a message, of whose bytes only the last ones are kept.
+fn keep(body: &mut VecDeque<u8>, limit: u64, bytes: &[u8]) -> Result<(), AllocError>
     requires { length body.old.items ≤ limit }
-    ensures kept { OnOk result (body.new.items ≡ kept limit body.old.items byte) }
+    ensures kept { OnOk result (body.new.items ≡ all_kept limit body.old.items bytes.now) }
     ensures within { length body.new.items ≤ limit }
 {
-    body.push_back(byte)?;
-    if body.len() as u64 > limit {
+    let most = limit as usize;
+    let (_, last) = bytes.split_at(bytes.len().saturating_sub(most));
+    keep_last(body, most - last.len());
+    push_all(body, last)?;
+    Ok(())
+}
+
+/// Keeps at most so many bytes, the last ones.
+fn keep_last(body: &mut VecDeque<u8>, most: usize)
+    ensures { body.new.items ≡ last_of most body.old.items }
+{
+    while most < body.len() {
         body.pop_front();
     }
+}
+
+/// Adds bytes at the back.
+fn push_all(body: &mut VecDeque<u8>, bytes: &[u8]) -> Result<(), AllocError>
+    ensures items { OnOk result (body.new.items ≡ body.old.items ++ bytes.now) }
+    ensures within { length body.new.items ≤ length body.old.items + length bytes.now }
+{
+    for byte in bytes {
+        body.push_back(*byte)?;
+    }
     Ok(())
+}
+
+/// The number of bytes before the first with which a mark begins.
+fn plain_front(bytes: &[u8]) -> usize
+    ensures within { result ≤ length bytes.now }
+    ensures plain { list_all is_plain (take result bytes.now) ≡ true }
+{
+    match memchr(b'<', bytes) {
+        None => bytes.len(),
+        Some(place) => place,
+    }
 }
 
 /// Keeps the first bytes of a word.
@@ -253,14 +332,10 @@ fn keep_front(
     count: usize,
 ) -> Result<(), AllocError>
     requires { length body.old.items ≤ limit }
-    ensures kept { OnOk result (body.new.items ≡ all_kept limit body.old.items (take count word.now)) }
+    ensures kept { OnOk result
+        (body.new.items ≡ all_kept limit body.old.items (take count word.now)) }
     ensures within { length body.new.items ≤ limit }
 {
     let count = count.min(word.len());
-    let mut rest = &word[..count];
-    while let [byte, more @ ..] = rest {
-        keep(body, limit, *byte)?;
-        rest = more;
-    }
-    Ok(())
+    keep(body, limit, &word[..count])
 }

@@ -23,7 +23,8 @@ pub fn each_talk_has_one_cut()
 /// A law: each talk in which events were sent where the listener waited for one has a cut, and the functions of the
 /// whole talk give it.
 pub fn each_talk_has_its_cut()
-    ensures { (talk : List Mark) → IsAttended talk → IsTalkCut talk (talk_tokens talk) (talk_state talk) }
+    ensures { (talk : List Mark) → IsAttended talk
+        → IsTalkCut talk (talk_tokens talk) (talk_state talk) }
 {}
 
 /// A law: whatever cut a talk has, the functions of the whole talk give it.

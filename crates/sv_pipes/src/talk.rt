@@ -1,6 +1,6 @@
 //! The talk of an event listener: what it says on its standard output, and the events that were sent to it.
 
-ghost use Rattle.std.specs.Prelude.{◌≡◌, ◌↔◌, ◌<◌, ◌≤◌, ◌++◌, ◌∷◌, [], List, length, IfOk, OnOk, OnErr, IsTrue, IsErr};
+ghost use Rattle.std.specs.Prelude.{◌≡◌, ◌↔◌, ◌+◌, ◌<◌, ◌≤◌, ◌++◌, ◌∷◌, [], List, length, IfOk, OnOk, OnErr, IsTrue, IsErr};
 ghost use Rattle.sv_pipes.specs.PlaceBounds.{digits_in, length_in, room_in};
 
 use crate::tokens::{TalkState, Token};
@@ -137,8 +137,15 @@ impl ListenerTalk {
     {
         let mut rest = piece;
         while let [byte, more @ ..] = rest {
-            self.take(alloc, *byte, tokens)?;
-            rest = more;
+            if let Place::Body { count, number } = self.place {
+                let missing = number as usize - self.held.len();
+                let (bytes, behind) = rest.split_at(missing.min(rest.len()));
+                self.body(alloc, bytes, count, number, tokens)?;
+                rest = behind;
+            } else {
+                self.take(alloc, *byte, tokens)?;
+                rest = more;
+            }
         }
         Ok(())
     }
@@ -165,7 +172,7 @@ impl ListenerTalk {
                 count: _,
                 number: _,
             } => self.lose(tokens),
-            Place::Body { count, number } => self.body(alloc, byte, count, number, tokens),
+            Place::Body { count, number } => self.body(alloc, &[byte], count, number, tokens),
             Place::Lost | Place::Broken => Ok(()),
         }
     }
@@ -252,23 +259,25 @@ impl ListenerTalk {
         Ok(())
     }
 
+    /// Takes bytes of a result that are no more than its missing ones, all at once.
     fn body(
         &mut self,
         alloc: Global,
-        byte: u8,
+        bytes: &[u8],
         count: u8,
         number: u32,
         tokens: &mut Vec<Token>,
     ) -> Result<(), AllocError>
-        requires { self.old.place ≡ Place.Body count number }
+        requires place { self.old.place ≡ Place.Body count number }
+        requires within { length self.old.held.items + length bytes.now ≤ number }
         ensures { OnOk result (shown self.new tokens.new.items
-            ≡ after_body count number (self.old.held.items ++ byte ∷ []) tokens.old.items) }
+            ≡ after_body count number (self.old.held.items ++ bytes.now) tokens.old.items) }
     {
-        if self.held.as_slice().len() + 1 < number as usize {
-            self.held.push(byte)?;
+        if self.held.len() + bytes.len() < number as usize {
+            self.held.extend_from_slice(bytes)?;
         } else {
             let mut body = mem::replace(&mut self.held, Vec::new(alloc));
-            body.push(byte)?;
+            body.extend_from_slice(bytes)?;
             tokens.push(Token::Result(Bytes::from_vec(body)))?;
             self.place = Place::Greeting { count: 0 };
         }
