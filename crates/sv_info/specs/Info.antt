@@ -6,9 +6,9 @@ use Rattle.sv_base.specs.Names.{state_name, state_number}
 use Rattle.sv_base.specs.declared.spec.LogSpec.{LogSpec}
 use Rattle.sv_base.specs.declared.spec.Spec.{Spec}
 use Rattle.sv_base.specs.declared.state.State.{State}
-use Rattle.sv_base.specs.declared.state.State.TheVariants.{Stopped, Starting, Running, Backoff, Stopping, Exited, Fatal, Unknown}
+use Rattle.sv_base.specs.declared.state.State.TheVariants.{Stopped, Running, Backoff, Exited, Fatal}
 use Rattle.sv_child.specs.declared.child.Child.{Child}
-use Rattle.sv_info.specs.Faults.{fault_name, fault_number, fault_text}
+use Rattle.sv_info.specs.Faults.{fault_number, fault_text}
 use Rattle.sv_info.specs.Times.{moment_text, seconds_since, uptime_text}
 use Rattle.sv_info.specs.declared.fault.Fault.{Fault}
 use Rattle.sv_xmlcall.specs.Trees.{Tree, integer, text, structure, members_of}

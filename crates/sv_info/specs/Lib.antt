@@ -1,4 +1,3 @@
-pub mod Dates
 pub mod Examples
 pub mod Faults
 pub mod Info

@@ -1,7 +1,8 @@
 -- The texts of times: how long a process is up, and when it stopped.
 use Rattle.std.specs.Prelude.{ℕ, ◌+◌, ◌-◌, ◌/◌, ◌%◌, List, [], ◌∷◌, ◌++◌, Option, Some, None, codes, ◌==◌, nat_lt, if◌then◌else◌}
 use Rattle.std.specs.Fmt.{decimal}
-use Rattle.sv_info.specs.Dates.{date_of, Day}
+use Rattle.sv_dates.specs.Dates.{date_of}
+use Rattle.sv_dates.specs.declared.dates.Day.{Day}
 
 -- a number below 100 by two digits
 abbrev pub two_digits : ℕ → List ℕ

@@ -1,21 +1,15 @@
 //! The texts of times: how long a process is up, and when it stopped.
-ghost use Rattle.std.specs.Prelude.{◌≡◌, ◌+◌, ◌<◌, ◌≤◌, ◌/◌, ◌%◌, ◌++◌, ◌∷◌, [], OnOk, codes, pos, string_bytes};
+ghost use Rattle.std.specs.Prelude.{◌≡◌, ◌+◌, ◌<◌, ◌≤◌, ◌++◌, ◌∷◌, OnOk, string_bytes};
 ghost use Rattle.std.specs.Fmt.{decimal};
-ghost use Rattle.jiff_core.specs.Date.{epoch_day};
-ghost use Rattle.sv_base.specs.Limits.{moment_limit};
-ghost use Rattle.sv_info.specs.Dates.{date_of};
 ghost use Rattle.sv_info.specs.Times.{clock_text, days_text, half_name, hour_of_twelve, hours_text, moment_text, month_name, seconds_since, two_digits, uptime_text};
 
 use itoa::Buffer;
-use jiff_core::civil::Date;
 use std::alloc::AllocError;
 use sv_base::moment::Moment;
+use sv_dates::date_of;
 
 /// Milliseconds of a day.
 const DAY: u64 = 86_400_000;
-
-/// The days from the calendar's first one, -9999-01-01, to 1970-01-01.
-const FIRST_DAY: u32 = 4_371_587;
 
 /// Whole seconds from a start to now, 0 where there was no start.
 pub(crate) fn seconds_since(start: Option<Moment>, now: Moment) -> u64
@@ -68,20 +62,10 @@ pub(crate) fn push_number(text: &mut String, number: u64) -> Result<(), AllocErr
 pub(crate) fn push_moment(text: &mut String, moment: Moment) -> Result<(), AllocError>
     ensures { OnOk result (string_bytes text.new ≡ string_bytes text.old ++ moment_text moment) }
 {
-    let moment = moment.milliseconds();
-    let date = date_of(moment / DAY);
+    let date = date_of(moment);
     push_day(text, date.month, date.day)?;
     text.push_str(" ")?;
-    push_clock(text, moment % DAY / 60_000)
-}
-
-/// The date so many days after 1 January 1970.
-fn date_of(day: u64) -> Date
-    requires { day ≤ 2928240 }
-    ensures month { result.month ≡ (date_of day).month }
-    ensures day { result.day ≡ (date_of day).day }
-{
-    Date::from_days_since_min(day as u32 + FIRST_DAY)
+    push_clock(text, moment.milliseconds() % DAY / 60_000)
 }
 
 /// Adds `Mon DD` of a date.

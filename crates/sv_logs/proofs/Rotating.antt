@@ -5,7 +5,7 @@ use Rattle.std.proofs.lemmas.Fmt.{decimal_injective}
 use Rattle.std.proofs.lemmas.Slice.Eq.{bytes_eq-Decides}
 use Rattle.std.proofs.lemmas.Bool.Decides.{nat_tests}
 use Rattle.std.specs.Bool.{MatchBool}
-use Rattle.std.specs.Option.{option_or}
+use Rattle.std.specs.Option.{option_or, unwrap_or}
 use Rattle.std.specs.Prelude.{if◌then◌else◌}
 use Rattle.std.specs.Str.{bytes_eq}
 use Rattle.std.specs.Fmt.{decimal}
@@ -170,3 +170,88 @@ stays_known false plan piece files few known =
 pub is_known : (plan : LogPlan) (piece : List ℕ) (files : Files) → plan.backups < 2 ^ 64 → IsKnown plan files
     → IsKnown (after_append plan piece) (all_carried (orders_of plan piece) files)
 is_known plan piece files few known = stays_known (is_over plan.maxbytes (grown_size plan piece)) plan piece files few known
+
+-- names that are neither the file's nor its backups' stay as they are
+leaves_if : (over : Bool) (plan : LogPlan) (piece : List ℕ) (files : Files) (name : List ℕ)
+    → ((number : ℕ) → number ≤ plan.backups → name ≢ kept plan.file number)
+    → all_carried (if over then Append plan.file piece ∷ moves plan.file plan.backups ++ Fresh plan.file ∷ [] else Append plan.file piece ∷ []) files name
+    ≡ files name
+leaves_if true plan piece files name h =
+    let grown = put plan.file (Some (bytes_of files plan.file ++ piece)) files in
+    ap (λ (after : Files). after name) (carried-append (moves plan.file plan.backups) (Fresh plan.file ∷ []) grown)
+    ∙ put_other plan.file (Some []) (all_carried (moves plan.file plan.backups) grown) name (h zero (omega arith))
+    ∙ moves_others plan.file plan.backups grown name h
+    ∙ put_other plan.file (Some (bytes_of files plan.file ++ piece)) files name (h zero (omega arith))
+leaves_if false plan piece files name h =
+    put_other plan.file (Some (bytes_of files plan.file ++ piece)) files name (h zero (omega arith))
+
+pub append_leaves : (plan : LogPlan) (piece : List ℕ) (files : Files) (name : List ℕ)
+    → ((number : ℕ) → number ≤ plan.backups → name ≢ kept plan.file number)
+    → all_carried (orders_of plan piece) files name ≡ files name
+append_leaves plan piece files name h = leaves_if (is_over plan.maxbytes (grown_size plan piece)) plan piece files name h
+
+-- files that agree on a log's file and so many backups
+abbrev pub Agree : List ℕ → ℕ → Files → Files → Type 0
+Agree file bound one other = (number : ℕ) → number ≤ bound → one (kept file number) ≡ other (kept file number)
+
+put_agrees : (file : List ℕ) (bound : ℕ) (name : List ℕ) (held : Option (List ℕ)) (one other : Files) → Agree file bound one other
+    → Agree file bound (put name held one) (put name held other)
+put_agrees file bound name held one other agree number le =
+    ap (λ (there : Option (List ℕ)). if bytes_eq (kept file number) name then held else there) (agree number le)
+
+renamed_agrees : (file : List ℕ) (bound : ℕ) (from to : List ℕ) (held : Option (List ℕ)) (one other : Files) → Agree file bound one other
+    → Agree file bound (renamed from to held one) (renamed from to held other)
+renamed_agrees file bound from to None one other agree = agree
+renamed_agrees file bound from to (Some bytes) one other agree =
+    put_agrees file bound to (Some bytes) (put from None one) (put from None other) (put_agrees file bound from None one other agree)
+
+within_or_past : (number bound : ℕ) → (number ≤ bound) ⊎ (bound < number)
+within_or_past number bound = grind arith
+
+shift_agrees : (file : List ℕ) (bound number : ℕ) (one other : Files) → suc number < 2 ^ 64 → Agree file bound one other
+    → Agree file bound (carried (Shift (kept file number) (kept file (suc number))) one) (carried (Shift (kept file number) (kept file (suc number))) other)
+shift_agrees file bound number one other small agree =
+    let from = kept file number in
+    let to = kept file (suc number) in
+    elim (within_or_past number bound) [
+      | inl within ↦
+          subst (λ (held : Option (List ℕ)). Agree file bound (renamed from to held one) (renamed from to (other from) other)) (sym (agree number within))
+          (renamed_agrees file bound from to (other from) one other agree)
+      | inr past ↦ λ (place : ℕ) (le : place ≤ bound).
+          let before = kept_apart file place number (omega arith) (omega arith) (omega arith) in
+          let behind = kept_apart file place (suc number) (omega arith) small (omega arith) in
+          renamed_elsewhere from to (one from) one (kept file place) before behind
+          ∙ agree place le
+          ∙ sym (renamed_elsewhere from to (other from) other (kept file place) before behind)
+    ]
+
+moves_agree : (file : List ℕ) (bound backups : ℕ) (one other : Files) → backups < 2 ^ 64 → Agree file bound one other
+    → Agree file bound (all_carried (moves file backups) one) (all_carried (moves file backups) other)
+moves_agree file bound zero one other small agree = agree
+moves_agree file bound (suc number) one other small agree =
+    moves_agree file bound number (carried (Shift (kept file number) (kept file (suc number))) one) (carried (Shift (kept file number) (kept file (suc number))) other)
+    (omega arith) (shift_agrees file bound number one other small agree)
+
+grown_agrees : (plan : LogPlan) (piece : List ℕ) (bound : ℕ) (one other : Files) → Agree plan.file bound one other
+    → Agree plan.file bound (carried (Append plan.file piece) one) (carried (Append plan.file piece) other)
+grown_agrees plan piece bound one other agree =
+    subst (λ (held : Option (List ℕ)). Agree plan.file bound (put plan.file (Some (unwrap_or held [] ++ piece)) one) (carried (Append plan.file piece) other)) (sym (agree zero (omega arith)))
+    (put_agrees plan.file bound plan.file (Some (bytes_of other plan.file ++ piece)) one other agree)
+
+agrees_if : (over : Bool) (plan : LogPlan) (piece : List ℕ) (bound : ℕ) (one other : Files) → plan.backups < 2 ^ 64 → Agree plan.file bound one other
+    → Agree plan.file bound
+    (all_carried (if over then Append plan.file piece ∷ moves plan.file plan.backups ++ Fresh plan.file ∷ [] else Append plan.file piece ∷ []) one)
+    (all_carried (if over then Append plan.file piece ∷ moves plan.file plan.backups ++ Fresh plan.file ∷ [] else Append plan.file piece ∷ []) other)
+agrees_if true plan piece bound one other small agree =
+    let grown = carried (Append plan.file piece) one in
+    let grown_other = carried (Append plan.file piece) other in
+    rw (carried-append (moves plan.file plan.backups) (Fresh plan.file ∷ []) grown, carried-append (moves plan.file plan.backups) (Fresh plan.file ∷ []) grown_other)
+    (put_agrees plan.file bound plan.file (Some []) (all_carried (moves plan.file plan.backups) grown) (all_carried (moves plan.file plan.backups) grown_other)
+    (moves_agree plan.file bound plan.backups grown grown_other small (grown_agrees plan piece bound one other agree)))
+agrees_if false plan piece bound one other small agree = grown_agrees plan piece bound one other agree
+
+-- an append leaves files that agree so
+pub append_agrees : (plan : LogPlan) (piece : List ℕ) (bound : ℕ) (one other : Files) → plan.backups < 2 ^ 64 → Agree plan.file bound one other
+    → Agree plan.file bound (all_carried (orders_of plan piece) one) (all_carried (orders_of plan piece) other)
+append_agrees plan piece bound one other small agree =
+    agrees_if (is_over plan.maxbytes (grown_size plan piece)) plan piece bound one other small agree

@@ -1,9 +1,9 @@
 -- The lines of the main log (the manual's chapter on logging, `loglevel`).
-use Rattle.std.specs.Prelude.{◌≡◌, ℕ, ◌+◌, ◌/◌, ◌%◌, List, [], ◌∷◌, ◌++◌, codes, pos, unsigned_abs}
-use Rattle.jiff_core.specs.Date.{epoch_day}
-use Rattle.jiff_core.specs.declared.civil.date.Date.{Date}
+use Rattle.std.specs.Prelude.{ℕ, ◌+◌, ◌/◌, ◌%◌, List, [], ◌∷◌, ◌++◌, codes}
 use Rattle.sv_base.specs.declared.state.Level.{Level}
 use Rattle.sv_base.specs.declared.state.Level.TheVariants.{Blather, Trace, Debug, Info, Warn, Error, Critical}
+use Rattle.sv_dates.specs.Dates.{date_of}
+use Rattle.sv_dates.specs.declared.dates.Day.{Day}
 
 -- the word for a level
 abbrev pub level_word : Level → List ℕ
@@ -26,8 +26,8 @@ abbrev pub four_digits : ℕ → List ℕ
 four_digits n = two_digits (n / 100) ++ two_digits (n % 100)
 
 -- YYYY-MM-DD
-abbrev pub date_text : Date → List ℕ
-date_text date = four_digits (unsigned_abs date.year) ++ 45 ∷ two_digits date.month ++ 45 ∷ two_digits date.day
+abbrev pub date_text : Day → List ℕ
+date_text date = four_digits date.year ++ 45 ∷ two_digits date.month ++ 45 ∷ two_digits date.day
 
 -- HH:MM:SS,mmm of the milliseconds of a day
 abbrev pub time_text : ℕ → List ℕ
@@ -35,8 +35,7 @@ time_text n =
     two_digits (n / 3600000) ++ 58 ∷ two_digits (n / 60000 % 60) ++ 58 ∷ two_digits (n / 1000 % 60)
     ++ 44 ∷ three_digits (n % 1000)
 
--- YYYY-MM-DD HH:MM:SS,mmm LEVEL TEXT and a line feed, where the day is that of the moment, in UTC
-pub record IsMainLine (now : ℕ) (level : Level) (text line : List ℕ) : Type 0 where
-  pub date : Date
-  pub day : epoch_day date ≡ pos (now / 86400000)
-  pub line_is : line ≡ date_text date ++ 32 ∷ time_text (now % 86400000) ++ 32 ∷ level_word level ++ 32 ∷ text ++ 10 ∷ []
+-- YYYY-MM-DD HH:MM:SS,mmm LEVEL TEXT and a line feed: the one line of this moment, level and text, in UTC
+abbrev pub main_text : ℕ → Level → List ℕ → List ℕ
+main_text now level text =
+    date_text (date_of (now / 86400000)) ++ 32 ∷ time_text (now % 86400000) ++ 32 ∷ level_word level ++ 32 ∷ text ++ 10 ∷ []

@@ -1,32 +1,27 @@
 //! A line of the main log.
-ghost use Rattle.std.specs.Prelude.{◌≡◌, ◌<◌, ◌≤◌, ◌+◌, ◌++◌, ◌∷◌, [], IfOk, OnOk, length, pos, ◌/◌, ◌%◌};
-ghost use Rattle.jiff_core.specs.Date.{epoch_day};
-ghost use Rattle.sv_base.specs.Limits.{moment_limit};
-ghost use Rattle.sv_logs.specs.MainLine.{level_word, two_digits, three_digits, four_digits, date_text, time_text, IsMainLine};
+ghost use Rattle.std.specs.Prelude.{◌≡◌, ◌<◌, ◌+◌, ◌++◌, ◌∷◌, [], IfOk, OnOk, length};
+ghost use Rattle.sv_dates.specs.Dates.{IsOfCalendar};
+ghost use Rattle.sv_logs.specs.MainLine.{level_word, two_digits, three_digits, four_digits, date_text, time_text, main_text};
 
-use jiff_core::civil::Date;
 use std::alloc::{AllocError, Global};
 use sv_base::bytes::Bytes;
 use sv_base::moment::Moment;
 use sv_base::state::Level;
+use sv_dates::{Day, date_of};
 
 /// Milliseconds of a day.
 const DAY: u64 = 86_400_000;
 
-/// The days from the calendar's first one, -9999-01-01, to 1970-01-01.
-const FIRST_DAY: u32 = 4_371_587;
-
 /// The line of the main log for this text: `YYYY-MM-DD HH:MM:SS,mmm LEVEL TEXT` and a line feed, in UTC. Every
 /// moment has a year of four digits.
 pub fn main_line(alloc: Global, now: Moment, level: Level, text: &str) -> Result<Bytes, AllocError>
-    ensures line { IfOk result (λ line. IsMainLine now level text.now line) }
+    ensures line { IfOk result (λ line. line ≡ main_text now level text.now) }
     ensures length { IfOk result (λ line. length line ≡ 30 + length text.now) }
 {
-    let now = now.milliseconds();
     let mut line = Vec::new(alloc);
-    push_date(&mut line, civil_date(now))?;
+    push_date(&mut line, date_of(now))?;
     line.push(b' ')?;
-    push_time(&mut line, now % DAY)?;
+    push_time(&mut line, now.milliseconds() % DAY)?;
     line.push(b' ')?;
     line.extend_from_slice(level_word(level).as_bytes())?;
     line.push(b' ')?;
@@ -35,19 +30,12 @@ pub fn main_line(alloc: Global, now: Moment, level: Level, text: &str) -> Result
     Ok(Bytes::from_vec(line))
 }
 
-/// The day of a moment, in UTC.
-fn civil_date(now: u64) -> Date
-    requires { now ≤ moment_limit }
-    ensures { epoch_day result ≡ pos (now / 86400000) }
-{
-    Date::from_days_since_min((now / DAY) as u32 + FIRST_DAY)
-}
-
 /// Adds `YYYY-MM-DD`.
-fn push_date(line: &mut Vec<u8>, date: Date) -> Result<(), AllocError>
+fn push_date(line: &mut Vec<u8>, date: Day) -> Result<(), AllocError>
+    requires { IsOfCalendar date }
     ensures { OnOk result (line.new.items ≡ line.old.items ++ date_text date) }
 {
-    line.extend_from_slice(&four_digits(u64::from(date.year.unsigned_abs())))?;
+    line.extend_from_slice(&four_digits(u64::from(date.year)))?;
     push_two(line, b'-', u64::from(date.month))?;
     push_two(line, b'-', u64::from(date.day))
 }

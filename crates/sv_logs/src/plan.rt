@@ -73,7 +73,8 @@ fn rotate(
     backups: u32,
     orders: &mut Vec<FileOrder>,
 ) -> Result<(), AllocError>
-    ensures { OnOk result (orders.new.items ≡ orders.old.items ++ moves file.now backups ++ FileOrder.Fresh file.now ∷ []) }
+    ensures { OnOk result (orders.new.items
+        ≡ orders.old.items ++ moves file.now backups ++ FileOrder.Fresh file.now ∷ []) }
 {
     let mut number = backups;
     while number > 0 {
