@@ -1,14 +1,14 @@
 //! The event that an edge of a child gives.
-ghost use Rattle.std.specs.Prelude.{◌≡◌, IfOk, not, pos};
+ghost use Rattle.std.specs.Prelude.{◌≡◌, IfOk, pos};
 ghost use Rattle.std.specs.List.{list_any};
 ghost use Rattle.std.specs.Ordering.{int_eq};
-ghost use Rattle.sv_base.specs.declared.state.Autorestart.{Autorestart};
-ghost use Rattle.sv_child.specs.Moves.{restarts_by};
-ghost use Rattle.sv_facts.specs.EdgeFacts.{fact_at, fact_of, kind_of, pid_at};
+ghost use Rattle.sv_facts.specs.EdgeFacts.{fact_at, fact_of, is_expected, kind_of, pid_at};
 
 use std::alloc::AllocError;
 use sv_base::kind::Kind;
+use sv_base::spec::Spec;
 use sv_base::state::State;
+use sv_child::child::Child;
 use sv_child::step::Edge;
 use sv_children::{Children, Member};
 use sv_events::Fact;
@@ -85,18 +85,18 @@ fn fact_of(member: &Member<'_>, pid: u32, edge: Edge) -> Result<Fact, AllocError
             name,
             group,
             from,
-            expected: is_expected(member.spec.exitcodes.as_slice(), member.child.exit),
+            expected: is_expected(member.spec, member.child),
             pid,
         },
         State::Fatal | State::Unknown => Fact::GaveUp { name, group, from },
     })
 }
 
-/// Whether this exit is among the expected codes.
-fn is_expected(codes: &[u8], exit: i32) -> bool
-    ensures { result ≡ not (restarts_by Autorestart.Unexpected codes.now exit) }
+/// Whether the last exit of a child was expected: its code is among those that the configuration names.
+pub fn is_expected(spec: &Spec, child: &Child) -> bool
+    ensures { result ≡ is_expected spec.now child.now }
 {
-    is_among(codes, exit)
+    is_among(spec.exitcodes.as_slice(), child.exit)
 }
 
 fn is_among(codes: &[u8], exit: i32) -> bool

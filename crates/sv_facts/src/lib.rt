@@ -5,4 +5,4 @@ mod edge_facts;
 #[cfg(test)]
 mod tests;
 
-pub use edge_facts::{fact_at, kind_of, pid_at};
+pub use edge_facts::{fact_at, is_expected, kind_of, pid_at};

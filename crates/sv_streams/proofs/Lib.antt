@@ -4,3 +4,4 @@ pub mod Captured
 pub mod Changes
 pub mod Kept
 pub mod Unchanged
+pub mod Wholes

@@ -5,7 +5,8 @@ use Rattle.std.specs.List.{flat_map}
 use Rattle.sv_base.specs.declared.ids.Run.{Run}
 use Rattle.sv_base.specs.declared.state.Stream.{Stream}
 use Rattle.sv_base.specs.declared.state.Stream.TheVariants.{Out, Err}
-use Rattle.sv_pipes.specs.CaptureCut.{grouped}
+use Rattle.sv_pipes.specs.CaptureCut.{Decided, grouped}
+use Rattle.sv_pipes.specs.CaptureCut.Decided.{Byte, Message}
 use Rattle.sv_pipes.specs.Kept.{logged_part}
 use Rattle.sv_pipes.specs.StreamCut.{closed_of, decided_of}
 use Rattle.sv_pipes.specs.declared.parts.Part.{Part}
@@ -200,6 +201,14 @@ logged_by (part.Message bytes) = []
 
 abbrev pub logged_in : List Part → List ℕ
 logged_in parts = flat_map logged_by parts
+
+-- what a part decides
+abbrev pub decided_by : Part → List Decided
+decided_by (part.Logged bytes) = map Byte bytes
+decided_by (part.Message bytes) = Message bytes ∷ []
+
+abbrev pub decided_in : List Part → List Decided
+decided_in parts = flat_map decided_by parts
 
 -- all parts of a channel that comes in these pieces, up to its end
 abbrev pub parts_through : ℕ → List ℕ → List (List ℕ) → List Part

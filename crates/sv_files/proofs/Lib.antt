@@ -1,0 +1,3 @@
+pub mod LoggedFiles
+pub mod Opens
+pub mod Places

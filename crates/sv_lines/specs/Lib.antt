@@ -1,0 +1,4 @@
+pub mod EdgeLines
+pub mod Ends
+pub mod Rows
+pub mod Written

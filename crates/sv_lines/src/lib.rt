@@ -1,0 +1,13 @@
+//! The lines of the main log: which of them an edge of a child gives, those of its spawn and its KILL, and that of a full
+//! buffer.
+#![tactic(auto)]
+
+mod child_lines;
+mod edge_lines;
+pub mod line;
+#[cfg(test)]
+mod tests;
+
+pub use crate::child_lines::{killing_at, spawned_at};
+pub use crate::edge_lines::{how_of, line_at};
+pub use crate::line::{Line, is_written, overflowed, written};
