@@ -1,17 +1,21 @@
 -- What a turn does to the event pools: they go on by what happens to them, and no other order drops or writes an event.
-use Rattle.std.proofs.Common.{◌≡◌, ℕ, List, [], ◌∷◌, ◌++◌, filter, Bool, true, false, Option, Some, None, append-nil, append_assoc, refl, sym, ap, ◌∙◌, if◌then◌else◌}
+use Rattle.std.proofs.Common.{◌≡◌, ℕ, List, [], ◌∷◌, ◌++◌, filter, map, Bool, true, false, Option, Some, None, append-nil, append_assoc, refl, sym, ap, ◌∙◌, if◌then◌else◌}
 use Rattle.std.specs.Prelude.{slice_get}
 use Rattle.std.specs.List.{flat_map}
 use Rattle.std.specs.Option.{option_map, option_to_list}
 use Rattle.std.proofs.lemmas.List.Elements.{filter-append}
 use Rattle.sv_base.specs.Roster.{is_roster}
 use Rattle.sv_base.specs.declared.config.Config.{Config}
+use Rattle.sv_base.specs.declared.config.FileOrder.{FileOrder}
+use Rattle.sv_base.specs.declared.config.FileOrder.TheVariants as file
 use Rattle.sv_base.specs.declared.config.Host.{Host}
 use Rattle.sv_base.specs.declared.ids.Run.{Run}
 use Rattle.sv_base.specs.declared.kind.Kind.{Kind}
 use Rattle.sv_base.specs.declared.signal.Signal.{Signal}
 use Rattle.sv_base.specs.declared.spec.GroupSpec.{GroupSpec}
+use Rattle.sv_base.specs.declared.spec.LogSpec.{LogSpec}
 use Rattle.sv_base.specs.declared.spec.Spec.{Spec}
+use Rattle.sv_base.specs.declared.state.How.{How}
 use Rattle.sv_child.specs.Moves.{Answer}
 use Rattle.sv_child.specs.declared.child.Child.{Child}
 use Rattle.sv_child.specs.declared.step.Edge.{Edge}
@@ -22,18 +26,26 @@ use Rattle.sv_children.specs.Orders.{kill, kill_at, kill_of, reports_at, reports
 use Rattle.sv_core.proofs.Accounts.{all_dropped, found_after, fresh_at, in_order, only_of_roster, some_at}
 use Rattle.sv_core.proofs.Reported.{all_given}
 use Rattle.sv_core.proofs.Steps.{Steps, kept_after}
+use Rattle.sv_core.proofs.Told.{AreDrops, is_drop, offer_drops, rejection_drops}
 use Rattle.sv_core.specs.Account.{Happening, HoldSome, PoolsAreAccountedFor, PoolsHaveAHistory, all_happened, all_ordered, drop_told, drops_told, happened, is_of_pools, ordered}
 use Rattle.sv_core.specs.Account.Happening.{Offered, Handed, Acknowledged, Rejected}
 use Rattle.sv_core.specs.Deeds.{after, deeds}
 use Rattle.sv_core.specs.Events.{offers, offers_if}
 use Rattle.sv_core.specs.HandingOut.{sends}
 use Rattle.sv_core.specs.Listening.{gives_back, id_of, is_done_with}
+use Rattle.sv_core.specs.Logging.{drop_line, logs, logs_if, notes_if, tells_drop, tells_drops}
 use Rattle.sv_core.specs.MachineState.{now, opening}
 use Rattle.sv_core.specs.Moves.{changed, goes_edge, goes_edge_if, goes_edges, moves, reported, says}
 use Rattle.sv_core.specs.World.{World}
 use Rattle.sv_events.specs.declared.fact.Fact.{Fact}
 use Rattle.sv_facts.specs.EdgeFacts.{fact_at, kind_of, pid_at}
+use Rattle.sv_files.specs.Logging.{log_orders, order_of, orders_if, plan_as}
+use Rattle.sv_files.specs.Sizes.{Sizes, size_in}
 use Rattle.sv_groups.specs.StartOrder.{pairs_of}
+use Rattle.sv_lines.specs.EdgeLines.{line_at}
+use Rattle.sv_lines.specs.Written.{written}
+use Rattle.sv_lines.specs.declared.line.Line.{Line}
+use Rattle.sv_logs.specs.Rotation.{orders_of}
 use Rattle.sv_out.specs.declared.input.Input.{Input}
 use Rattle.sv_out.specs.declared.order.Order.{Order}
 use Rattle.sv_out.specs.declared.order.Order.TheVariants as order
@@ -42,8 +54,8 @@ use Rattle.sv_pool.specs.declared.taken.Dropped.{Dropped}
 use Rattle.sv_pool.specs.declared.taken.Taken.{Taken}
 use Rattle.sv_pools.specs.EventPools as all_pools
 use Rattle.sv_pools.specs.EventPools.{EventPool, EventPools}
-use Rattle.sv_pools.specs.Listeners.{front_written, is_holding, may_get, orders_to, reports_of_rejection, written}
-use Rattle.sv_pools.specs.Offers.{drop_report, event_of, reports_of_offer, room_reports, takes}
+use Rattle.sv_pools.specs.Listeners.{front_written, is_holding, may_get, orders_to, rejection_reports, rejects, reports_of_rejection, written as order_written}
+use Rattle.sv_pools.specs.Offers.{drop_report, event_of, offer_reports, offered as pools_after, reports_of_offer, room_reports, takes}
 
 -- from one world to a later one: what happened to the pools meanwhile, and which orders tell of it
 pub record Deals (w v : World) : Type 0 where
@@ -109,7 +121,7 @@ of_room : (p : EventPool) → AreOfPools (room_reports p)
 of_room p = of_drop p.group (dropped_for_room p.lists)
 
 of_front : (server : List ℕ) (run : Run) (group : List ℕ) (front : Option Taken)
-    → AreOfPools (option_to_list (option_map (written server run group) front))
+    → AreOfPools (option_to_list (option_map (order_written server run group) front))
 of_front server run group None = refl
 of_front server run group (Some taken) = refl
 
@@ -141,8 +153,124 @@ unmoved : (w v : World) (more : List Order) → v.config.identifier ≡ w.config
     → filter is_of_pools more ≡ [] → Deals w v
 unmoved w v more server pools added none = record { server = server; all = []; pools = pools; more = more; added = added; told = none }
 
+-- ---- logs
+
+no_pools_file : (f : FileOrder) → filter is_of_pools (order_of f ∷ []) ≡ []
+no_pools_file (file.Append name bytes) = refl
+no_pools_file (file.Shift from to) = refl
+no_pools_file (file.Fresh name) = refl
+
+no_pools_files : (fs : List FileOrder) → filter is_of_pools (map order_of fs) ≡ []
+no_pools_files [] = refl
+no_pools_files (f ∷ fs) =
+    filter-append is_of_pools (order_of f ∷ []) (map order_of fs)
+    ∙ ap (λ (orders : List Order). orders ++ filter is_of_pools (map order_of fs)) (no_pools_file f)
+    ∙ no_pools_files fs
+
+no_pools_log : (log : LogSpec) (piece : List ℕ) (sizes : Sizes) → filter is_of_pools (log_orders log piece sizes) ≡ []
+no_pools_log log piece sizes = by_file log.file where
+  by_file : (name : Option (List ℕ)) → filter is_of_pools (orders_if name log piece sizes) ≡ []
+  by_file None = refl
+  by_file (Some name) = no_pools_files (orders_of (plan_as name (size_in name sizes) log) piece)
+
+logged : (log : LogSpec) (piece : List ℕ) (w : World) → Deals w (logs log piece w)
+logged log piece w = unmoved w (logs log piece w) (log_orders log piece w.sizes) refl refl refl (no_pools_log log piece w.sizes)
+
+-- ---- reports, each with its line of the main log
+
+-- from one world to a later one with the same pools: these orders of pools were given, among others
+record Reports (reports : List Order) (w v : World) : Type 0 where
+  server : v.config.identifier ≡ w.config.identifier
+  pools : v.pools ≡ w.pools
+  more : List Order
+  added : v.given ≡ w.given ++ more
+  told : filter is_of_pools more ≡ reports
+
+reports_none : (w : World) → Reports [] w w
+reports_none w = record { server = refl; pools = refl; more = []; added = sym (append-nil w.given); told = refl }
+
+reports_both : (one other : List Order) (u v w : World) → Reports one u v → Reports other v w → Reports (one ++ other) u w
+reports_both one other u v w a b = record {
+  server = b.server ∙ a.server;
+  pools = b.pools ∙ a.pools;
+  more = a.more ++ b.more;
+  added = b.added ∙ ap (λ (given : List Order). given ++ b.more) a.added ∙ append_assoc u.given a.more b.more;
+  told = filter-append is_of_pools a.more b.more
+      ∙ ap (λ (orders : List Order). orders ++ filter is_of_pools b.more) a.told
+      ∙ ap (λ (orders : List Order). one ++ orders) b.told;
+}
+
+reports_log : (log : LogSpec) (bytes : Option (List ℕ)) (w : World) → Reports [] w (logs_if log bytes w)
+reports_log log None w = reports_none w
+reports_log log (Some bytes) w = record {
+  server = refl;
+  pools = refl;
+  more = log_orders log bytes w.sizes;
+  added = refl;
+  told = no_pools_log log bytes w.sizes;
+}
+
+reports_line : (line : Option Line) (w : World) → Reports [] w (notes_if line w)
+reports_line None w = reports_none w
+reports_line (Some line) w = reports_log w.config.main (written w.config.level w.moment line) w
+
+one_drop : (o : Order) → is_drop o ≡ true → filter is_of_pools (o ∷ []) ≡ o ∷ []
+one_drop (order.Dropped pool serial poolserial) is = refl
+one_drop (order.State group name from to) is = cc
+one_drop (order.Spawn spawning) is = cc
+one_drop (order.Kill run signal group) is = cc
+one_drop (order.Stdin run bytes) is = cc
+one_drop (order.Append name bytes) is = cc
+one_drop (order.Shift from to) is = cc
+one_drop (order.Fresh name) is = cc
+one_drop (order.ReadFile name start length) is = cc
+one_drop (order.ClearFile name) is = cc
+one_drop (order.Send link bytes) is = cc
+one_drop (order.More link) is = cc
+one_drop (order.Close link) is = cc
+one_drop order.Halt is = cc
+
+reports_drop : (o : Order) (w : World) → is_drop o ≡ true → Reports (o ∷ []) w (tells_drop o w)
+reports_drop o w is =
+    let told = record w { given = w.given ++ o ∷ [] } in
+    reports_both (o ∷ []) [] w told (tells_drop o w)
+    (record { server = refl; pools = refl; more = o ∷ []; added = refl; told = one_drop o is })
+    (reports_line (drop_line o) told)
+
+reports_drops : (os : List Order) (w : World) → AreDrops os → Reports os w (tells_drops os w)
+reports_drops [] w are = reports_none w
+reports_drops (o ∷ os) w are =
+    let v = tells_drop o w in
+    reports_both (o ∷ []) os w v (tells_drops os v) (reports_drop o w are.0) (reports_drops os v are.1)
+
+-- what happened to the pools is told so
+deals_told : (h : Happening) (w v : World) → (u : World) → u.config.identifier ≡ w.config.identifier → u.pools ≡ happened h w.pools
+    → u.given ≡ w.given → Reports (ordered w.config.identifier h w.pools) u v → Deals w v
+deals_told h w v u server pools given t = record {
+  server = t.server ∙ server;
+  all = h ∷ [];
+  pools = t.pools ∙ pools;
+  more = t.more;
+  added = t.added ∙ ap (λ (orders : List Order). orders ++ t.more) given;
+  told = t.told ∙ sym (append-nil (ordered w.config.identifier h w.pools));
+}
+
 offered : (kind : Kind) (fact : Fact) (w : World) → Deals w (offers kind fact w)
-offered kind fact w = once (Offered kind fact) w (offers kind fact w) refl refl refl
+offered kind fact w =
+    let u = record w { pools = pools_after kind fact w.pools } in
+    deals_told (Offered kind fact) w (offers kind fact w) u refl refl refl
+    (reports_drops (offer_reports kind fact w.pools) u (offer_drops kind fact w.pools))
+
+returned : (c : ℕ) (w : World) → Deals w (gives_back c w)
+returned c w =
+    let u = record w { pools = rejects (id_of c) w.pools } in
+    deals_told (Rejected (id_of c)) w (gives_back c w) u refl refl refl
+    (reports_drops (rejection_reports (id_of c) w.pools) u (rejection_drops (id_of c) w.pools))
+
+noted : (line : Option Line) (w : World) → Deals w (notes_if line w)
+noted line w =
+    let t = reports_line line w in
+    unmoved w (notes_if line w) t.more t.server t.pools t.added t.told
 
 offered_if : (kind : Kind) (fact : Option Fact) (w : World) → Deals w (offers_if kind fact w)
 offered_if kind None w = same w
@@ -154,29 +282,32 @@ no_pools_report crew c edge = by_pair (slice_get (pairs_of crew.roster) c) where
   by_pair None = refl
   by_pair (Some pair) = refl
 
-edge_gone : (c pid : ℕ) (edge : Option Edge) (w : World) → Deals w (goes_edge_if c pid edge w)
-edge_gone c pid None w = same w
-edge_gone c pid (Some edge) w =
+edge_gone : (how : Option How) (c pid : ℕ) (edge : Option Edge) (w : World) → Deals w (goes_edge_if how c pid edge w)
+edge_gone how c pid None w = same w
+edge_gone how c pid (Some edge) w =
     let own = reports_at w.children c (Some edge ∷ []) in
     let told = record w { given = w.given ++ own } in
-    follow w told (goes_edge c pid edge w) (unmoved w told own refl refl refl (no_pools_report w.children c edge))
-    (offered_if (kind_of edge.to) (fact_at w.children c pid edge) told)
+    let line = line_at w.children c how edge in
+    let lined = notes_if line told in
+    follow w told (goes_edge how c pid edge w) (unmoved w told own refl refl refl (no_pools_report w.children c edge))
+    (follow told lined (goes_edge how c pid edge w) (noted line told)
+    (offered_if (kind_of edge.to) (fact_at w.children c pid edge) lined))
 
-edges_gone : (c pid : ℕ) (edges : List (Option Edge)) (w : World) → Deals w (goes_edges c pid edges w)
-edges_gone c pid [] w = same w
-edges_gone c pid (edge ∷ edges) w =
-    let v = goes_edge_if c pid edge w in
-    follow w v (goes_edges c pid edges v) (edge_gone c pid edge w) (edges_gone c pid edges v)
+edges_gone : (how : Option How) (c pid : ℕ) (edges : List (Option Edge)) (w : World) → Deals w (goes_edges how c pid edges w)
+edges_gone how c pid [] w = same w
+edges_gone how c pid (edge ∷ edges) w =
+    let v = goes_edge_if how c pid edge w in
+    follow w v (goes_edges how c pid edges v) (edge_gone how c pid edge w) (edges_gone how c pid edges v)
 
-step_gone : (c pid : ℕ) (step : Option Step) (w : World) → Deals w (reported c pid step w)
-step_gone c pid None w = same w
-step_gone c pid (Some step) w = edges_gone c pid step.edges w
+step_gone : (how : Option How) (c pid : ℕ) (step : Option Step) (w : World) → Deals w (reported how c pid step w)
+step_gone how c pid None w = same w
+step_gone how c pid (Some step) w = edges_gone how c pid step.edges w
 
-moved : (c : ℕ) (answer : Option Answer) (w : World) → Deals w (moves c answer w)
-moved c answer w =
+moved : (how : Option How) (c : ℕ) (answer : Option Answer) (w : World) → Deals w (moves how c answer w)
+moved how c answer w =
     let v = changed c answer w in
-    follow w v (moves c answer w) (unmoved w v [] refl refl (sym (append-nil w.given)) refl)
-    (step_gone c (pid_at w.children c) (step_of answer) v)
+    follow w v (moves how c answer w) (unmoved w v [] refl refl (sym (append-nil w.given)) refl)
+    (step_gone how c (pid_at w.children c) (step_of answer) v)
 
 no_pools_kill : (crew : Crew) (c : ℕ) (signal : Signal) (group : Bool) → filter is_of_pools (kill_at crew c signal group) ≡ []
 no_pools_kill crew c signal group = by_child (slice_get crew.all c) where
@@ -193,7 +324,7 @@ deals_steps = record {
   same = same;
   follow = follow;
   rewound = λ at w. record { server = refl; all = []; pools = refl; more = []; added = sym (append-nil w.given); told = refl };
-  came = λ stimulus c w. moved c (says stimulus c w) w;
+  came = λ how stimulus c w. moved how c (says stimulus c w) w;
   killed = λ c signal group w. record {
     server = refl;
     all = [];
@@ -209,8 +340,10 @@ deals_steps = record {
   clocked = λ clock w. record { server = refl; all = []; pools = refl; more = []; added = sym (append-nil w.given); told = refl };
   booked = λ runs w. record { server = refl; all = []; pools = refl; more = []; added = sym (append-nil w.given); told = refl };
   done = λ c w. once (Acknowledged (id_of c)) w (is_done_with c w) refl refl (sym (append-nil w.given));
-  returned = λ c w. once (Rejected (id_of c)) w (gives_back c w) refl refl refl;
+  returned = returned;
   sent = λ run c w. once (Handed run (id_of c)) w (sends run c w) refl refl refl;
+  logged = logged;
+  written = λ streams w. record { server = refl; all = []; pools = refl; more = []; added = sym (append-nil w.given); told = refl };
 }
 
 -- ---- all inputs

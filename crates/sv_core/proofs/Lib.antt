@@ -1,5 +1,7 @@
 mod Account
 mod Accounts
+mod LogHistory
+mod Logged
 mod Moved
 mod Named
 mod NumbersBegin

@@ -7,8 +7,10 @@ use Rattle.sv_base.specs.declared.config.Config.{Config}
 use Rattle.sv_base.specs.declared.config.Host.{Host}
 use Rattle.sv_base.specs.Roster.{is_roster}
 use Rattle.sv_base.specs.declared.spec.GroupSpec.{GroupSpec}
+use Rattle.sv_base.specs.declared.spec.LogSpec.{LogSpec}
 use Rattle.sv_base.specs.declared.kind.Kind.{Kind}
 use Rattle.sv_base.specs.declared.spec.Spec.{Spec}
+use Rattle.sv_base.specs.declared.state.How.{How}
 use Rattle.sv_base.specs.declared.state.State.{State}
 use Rattle.sv_child.proofs.Walks.{walk_append}
 use Rattle.sv_child.specs.ChildTable.{Stimulus}
@@ -23,21 +25,26 @@ use Rattle.sv_children.specs.Reported.{edge_told, edges_told, state_at}
 use Rattle.sv_core.proofs.Steps.{Steps, Onward, kept_next, kept_after}
 use Rattle.sv_core.specs.Deeds.{after, deeds}
 use Rattle.sv_core.specs.MachineState.{Model, accepts, hand, next, now, opening, orders}
-use Rattle.sv_core.proofs.Told.{IsSilent, parted, reports_more, reports_skip, silent_hand, silent_none, silent_offer, silent_rejection}
+use Rattle.sv_core.proofs.Told.{AreDrops, IsSilent, is_drop, offer_drops, parted, rejection_drops, reports_more, reports_skip, silent_both, silent_drop, silent_hand, silent_log, silent_none}
 use Rattle.sv_core.specs.Events.{offers, offers_if}
 use Rattle.sv_core.specs.HandingOut.{sends}
 use Rattle.sv_core.specs.Listening.{gives_back, id_of, is_done_with}
+use Rattle.sv_core.specs.Logging.{drop_line, logs, logs_if, notes_if, tells_drop, tells_drops}
 use Rattle.sv_core.specs.Moves.{changed, goes_edges, moves, says}
 use Rattle.sv_core.specs.Path.{ChildrenWalk}
 use Rattle.sv_core.specs.World.{World}
 use Rattle.sv_events.specs.declared.fact.Fact.{Fact}
 use Rattle.sv_facts.specs.EdgeFacts.{fact_at, kind_of, pid_at}
+use Rattle.sv_files.specs.Logging.{log_orders}
 use Rattle.sv_groups.specs.StartOrder.{pairs_of, processes}
+use Rattle.sv_lines.specs.EdgeLines.{line_at}
+use Rattle.sv_lines.specs.Written.{written}
+use Rattle.sv_lines.specs.declared.line.Line.{Line}
 use Rattle.sv_out.specs.declared.input.Input.{Input}
 use Rattle.sv_out.specs.declared.order.Order.{Order}
 use Rattle.sv_out.specs.declared.order.Order.TheVariants as order
-use Rattle.sv_pools.specs.Listeners.{hand_orders, rejection_reports}
-use Rattle.sv_pools.specs.Offers.{offer_reports}
+use Rattle.sv_pools.specs.Listeners.{hand_orders, rejection_reports, rejects}
+use Rattle.sv_pools.specs.Offers.{offer_reports, offered as pools_after}
 
 -- from one world to a later one: the same roster, more orders, and what these report of a child leads from its state in
 -- the one to its state in the other
@@ -87,13 +94,49 @@ adds_nothing : (w v : World) → v.children ≡ w.children → v.given ≡ w.giv
 adds_nothing w v crew given =
     record { crew = crew; more = []; added = given ∙ sym (append-nil w.given); silent = silent_none }
 
-offered : (kind : Kind) (fact : Fact) (w : World) → Adds w (offers kind fact w)
-offered kind fact w = record {
-  crew = refl;
-  more = offer_reports kind fact w.pools;
-  added = refl;
-  silent = silent_offer kind fact w.pools;
+adds_follow : (u v w : World) → Adds u v → Adds v w → Adds u w
+adds_follow u v w a b = record {
+  crew = b.crew ∙ a.crew;
+  more = a.more ++ b.more;
+  added = b.added ∙ ap (λ (given : List Order). given ++ b.more) a.added ∙ append_assoc u.given a.more b.more;
+  silent = silent_both a.more b.more a.silent b.silent;
 }
+
+logged : (log : LogSpec) (piece : List ℕ) (w : World) → Adds w (logs log piece w)
+logged log piece w =
+    record { crew = refl; more = log_orders log piece w.sizes; added = refl; silent = silent_log log piece w.sizes }
+
+logged_if : (log : LogSpec) (bytes : Option (List ℕ)) (w : World) → Adds w (logs_if log bytes w)
+logged_if log None w = adds_nothing w w refl refl
+logged_if log (Some bytes) w = logged log bytes w
+
+noted : (line : Option Line) (w : World) → Adds w (notes_if line w)
+noted None w = adds_nothing w w refl refl
+noted (Some line) w = logged_if w.config.main (written w.config.level w.moment line) w
+
+drop_told : (report : Order) (w : World) → is_drop report ≡ true → Adds w (tells_drop report w)
+drop_told report w is =
+    let told = record w { given = w.given ++ report ∷ [] } in
+    adds_follow w told (tells_drop report w) (record { crew = refl; more = report ∷ []; added = refl; silent = silent_drop report is })
+    (noted (drop_line report) told)
+
+drops_told : (reports : List Order) (w : World) → AreDrops reports → Adds w (tells_drops reports w)
+drops_told [] w are = adds_nothing w w refl refl
+drops_told (report ∷ reports) w are =
+    let v = tells_drop report w in
+    adds_follow w v (tells_drops reports v) (drop_told report w are.0) (drops_told reports v are.1)
+
+offered : (kind : Kind) (fact : Fact) (w : World) → Adds w (offers kind fact w)
+offered kind fact w =
+    let v = record w { pools = pools_after kind fact w.pools } in
+    adds_follow w v (offers kind fact w) (adds_nothing w v refl refl)
+    (drops_told (offer_reports kind fact w.pools) v (offer_drops kind fact w.pools))
+
+returned : (c : ℕ) (w : World) → Adds w (gives_back c w)
+returned c w =
+    let v = record w { pools = rejects (id_of c) w.pools } in
+    adds_follow w v (gives_back c w) (adds_nothing w v refl refl)
+    (drops_told (rejection_reports (id_of c) w.pools) v (rejection_drops (id_of c) w.pools))
 
 offered_if : (kind : Kind) (fact : Option Fact) (w : World) → Adds w (offers_if kind fact w)
 offered_if kind None w = adds_nothing w w refl refl
@@ -119,15 +162,15 @@ joined_walk group name from between to one other first second =
     subst (λ told. IsWalk from told to) (sym (map-append (edge_told group name) one other))
     (walk_append from between to (edges_told group name one) (edges_told group name other) first second)
 
-told_edges : (c pid : ℕ) (edges : List (Option Edge)) (w : World) → Tells c edges w (goes_edges c pid edges w)
-told_edges c pid [] w = record {
+told_edges : (how : Option How) (c pid : ℕ) (edges : List (Option Edge)) (w : World) → Tells c edges w (goes_edges how c pid edges w)
+told_edges how c pid [] w = record {
   crew = refl;
   more = [];
   added = sym (append-nil w.given);
   walk = λ group name from to walk. subst (λ orders. IsWalk from (edges_told group name orders) to) (no_reports w.children c) walk;
 }
-told_edges c pid (None ∷ edges) w =
-    let rest = told_edges c pid edges w in
+told_edges how c pid (None ∷ edges) w =
+    let rest = told_edges how c pid edges w in
     record {
       crew = rest.crew;
       more = rest.more;
@@ -136,13 +179,15 @@ told_edges c pid (None ∷ edges) w =
           rest.walk group name from to
           (subst (λ orders. IsWalk from (edges_told group name orders) to) (reports_skip w.children c edges) walk);
     }
-told_edges c pid (Some edge ∷ edges) w =
+told_edges how c pid (Some edge ∷ edges) w =
     let own = reports_at w.children c (Some edge ∷ []) in
     let told = record w { given = w.given ++ own } in
     let fact = fact_at w.children c pid edge in
-    let a = offered_if (kind_of edge.to) fact told in
-    let v = offers_if (kind_of edge.to) fact told in
-    let rest = told_edges c pid edges v in
+    let line = line_at w.children c how edge in
+    let lined = notes_if line told in
+    let v = offers_if (kind_of edge.to) fact lined in
+    let a = adds_follow told lined v (noted line told) (offered_if (kind_of edge.to) fact lined) in
+    let rest = told_edges how c pid edges v in
     record {
       crew = rest.crew ∙ a.crew;
       more = own ++ (a.more ++ rest.more);
@@ -159,12 +204,12 @@ told_edges c pid (Some edge ∷ edges) w =
     }
 
 -- the table says something to a child, or nothing
-moved : (stimulus : Child → Option Stimulus) (c : ℕ) (w : World) (answer : Option Answer) → says stimulus c w ≡ answer
-    → Goes w (moves c answer w)
-moved stimulus c w None is = same w
-moved stimulus c w (Some answer) is =
+moved : (how : Option How) (stimulus : Child → Option Stimulus) (c : ℕ) (w : World) (answer : Option Answer) → says stimulus c w ≡ answer
+    → Goes w (moves how c answer w)
+moved how stimulus c w None is = same w
+moved how stimulus c w (Some answer) is =
     let after = changed c (Some answer) w in
-    let t = told_edges c (pid_at w.children c) answer.step.edges after in
+    let t = told_edges how c (pid_at w.children c) answer.step.edges after in
     record {
       kept = ap (λ (crew : Crew). crew.roster) t.crew;
       more = t.more;
@@ -186,7 +231,7 @@ goes_steps = record {
     added = sym (append-nil w.given);
     walk = λ place p roster is. sym (state_rewound at (processes w.children.roster) w.children.all place);
   };
-  came = λ stimulus c w. moved stimulus c w (says stimulus c w) refl;
+  came = λ how stimulus c w. moved how stimulus c w (says stimulus c w) refl;
   killed = λ c signal group w. record {
     kept = refl;
     more = kill_at w.children c signal group;
@@ -205,18 +250,15 @@ goes_steps = record {
   clocked = λ clock w. adds_goes w (record w { clock = clock }) (adds_nothing w (record w { clock = clock }) refl refl);
   booked = λ runs w. adds_goes w (record w { runs = runs }) (adds_nothing w (record w { runs = runs }) refl refl);
   done = λ c w. adds_goes w (is_done_with c w) (adds_nothing w (is_done_with c w) refl refl);
-  returned = λ c w. adds_goes w (gives_back c w) (record {
-    crew = refl;
-    more = rejection_reports (id_of c) w.pools;
-    added = refl;
-    silent = silent_rejection (id_of c) w.pools;
-  });
+  returned = λ c w. adds_goes w (gives_back c w) (returned c w);
   sent = λ run c w. adds_goes w (sends run c w) (record {
     crew = refl;
     more = hand_orders w.config.identifier run (id_of c) w.pools;
     added = refl;
     silent = silent_hand w.config.identifier run (id_of c) w.pools;
   });
+  logged = λ log piece w. adds_goes w (logs log piece w) (logged log piece w);
+  written = λ streams w. adds_goes w (record w { streams = streams }) (adds_nothing w (record w { streams = streams }) refl refl);
 }
 
 -- ---- all inputs

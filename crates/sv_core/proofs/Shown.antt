@@ -4,6 +4,8 @@ use Rattle.std.proofs.Math.Seq.{take-length}
 use Rattle.std.specs.Prelude.{slice_get}
 use Rattle.sv_base.specs.declared.ids.Run.{Run}
 use Rattle.sv_base.specs.declared.kind.Kind.{Kind}
+use Rattle.sv_base.specs.declared.state.How.{How}
+use Rattle.sv_base.specs.declared.state.Stream.{Stream}
 use Rattle.sv_child.specs.ChildTable.{Stimulus}
 use Rattle.sv_child.specs.declared.child.Child.{Child}
 use Rattle.sv_child.specs.declared.step.Edge.{Edge}
@@ -15,6 +17,8 @@ use Rattle.sv_core.specs.Events.{offers_if}
 use Rattle.sv_core.specs.Frames.{Makes, Stops}
 use Rattle.sv_core.specs.HandingOut.{hands_from, hands_to, is_up, ready_of, ready_one, sends, sends_to}
 use Rattle.sv_core.specs.Listening.{gives_back, hears, id_of, loses_of, tells, tells_all, tells_by}
+use Rattle.sv_core.specs.Logging.{notes_if}
+use Rattle.sv_core.specs.Output.{takes_all, takes_part, takes_parts}
 use Rattle.sv_core.specs.Moves.{changed, comes, goes_edge, goes_edge_if, goes_edges, reported, says}
 use Rattle.sv_core.specs.StandsFor.{At, Shows, shown, stopped}
 use Rattle.sv_core.specs.Sweeps.{Turn}
@@ -22,7 +26,10 @@ use Rattle.sv_core.specs.World.{World}
 use Rattle.sv_core.specs.declared.machine.Machine.{Machine}
 use Rattle.sv_events.specs.declared.fact.Fact.{Fact}
 use Rattle.sv_facts.specs.EdgeFacts.{fact_at, kind_of, pid_at}
+use Rattle.sv_lines.specs.EdgeLines.{line_at}
+use Rattle.sv_lines.specs.declared.line.Line.{Line}
 use Rattle.sv_out.specs.declared.order.Order.{Order}
+use Rattle.sv_pipes.specs.declared.parts.Part.{Part}
 use Rattle.sv_pipes.specs.declared.tokens.Token.{Token}
 use Rattle.sv_pools.specs.EventPools.{EventPools}
 use Rattle.sv_pools.specs.StandsFor as kept_pools
@@ -30,21 +37,26 @@ use Rattle.sv_pools.specs.Listeners.{holds}
 use Rattle.sv_runs.specs.RunBook.{RunBook, heard, lost, new_tokens, teller}
 use Rattle.sv_runs.specs.StandsFor as kept_runs
 use Rattle.sv_runs.specs.declared.runs.Runs.{Runs}
+use Rattle.sv_streams.specs.StandsFor as kept_streams
+use Rattle.sv_streams.specs.StreamBook.{StreamRecord}
+use Rattle.sv_streams.specs.declared.owner.Owner.{Owner}
+use Rattle.sv_streams.specs.declared.streams.Streams.{Streams}
 
 -- what is made of each world that is written out from the fields is made of each that is shown
 pub made : (f : World → World) (x y : Machine)
-    → ((older : List Order) (pools : EventPools) (runs : RunBook) → kept_pools.StandsFor x.pools pools → kept_runs.StandsFor x.runs runs → Shows y older (f (shown x older pools runs)))
+    → ((older : List Order) (pools : EventPools) (runs : RunBook) (streams : List StreamRecord) → kept_pools.StandsFor x.pools pools
+    → kept_runs.StandsFor x.runs runs → kept_streams.StandsFor x.streams streams → Shows y older (f (shown x older pools runs streams)))
     → Makes f x y
-made f x y goes older w s = subst (λ (u : World). Shows y older (f u)) (sym s.is) (goes older s.pools s.runs s.pools_kept s.runs_kept)
+made f x y goes older w s = subst (λ (u : World). Shows y older (f u)) (sym s.is) (goes older s.pools s.runs s.streams s.pools_kept s.runs_kept s.streams_kept)
 
 -- the same of a step that may ask
 pub stops : (step : World → (World → Turn) → Turn) (left : (World → Turn) → World → Turn) (x y : Machine)
-    → ((older : List Order) (pools : EventPools) (runs : RunBook) (k : World → Turn) → kept_pools.StandsFor x.pools pools
-    → kept_runs.StandsFor x.runs runs
-    → At y older (step (shown x older pools runs) k) (left k))
+    → ((older : List Order) (pools : EventPools) (runs : RunBook) (streams : List StreamRecord) (k : World → Turn)
+    → kept_pools.StandsFor x.pools pools → kept_runs.StandsFor x.runs runs → kept_streams.StandsFor x.streams streams
+    → At y older (step (shown x older pools runs streams) k) (left k))
     → Stops step left x y
 stops step left x y goes older w k s =
-    subst (λ (u : World). At y older (step u k) (left k)) (sym s.is) (goes older s.pools s.runs k s.pools_kept s.runs_kept)
+    subst (λ (u : World). At y older (step u k) (left k)) (sym s.is) (goes older s.pools s.runs s.streams k s.pools_kept s.runs_kept s.streams_kept)
 
 -- a turn that is the same goes on in the same way
 pub at_same : (y : Machine) (older : List Order) (t u : Turn) (f : World → Turn) → t ≡ u → At y older u f → At y older t f
@@ -59,39 +71,42 @@ pub given_there : (w : World) (older given later more : List Order) → w.given 
 given_there w older given later more is added =
     ap (λ (all : List Order). record w { given = all }) (rw (is, added) (append_assoc older given more))
 
-pub edge_gone : (z : Machine) (older : List Order) (c pid : ℕ) (edge : Edge) (w : World) (kind : Kind) (fact : Option Fact)
-    → kind ≡ kind_of edge.to → fact ≡ fact_at w.children c pid edge
-    → Shows z older (offers_if kind fact (record w { given = w.given ++ reports_at w.children c (Some edge ∷ []) }))
-    → Shows z older (goes_edge c pid edge w)
-edge_gone z older c pid edge w kind fact is_kind is_fact shows =
+pub edge_gone : (z : Machine) (older : List Order) (how : Option How) (c pid : ℕ) (edge : Edge) (w : World) (kind : Kind)
+    (fact : Option Fact) (line : Option Line) → kind ≡ kind_of edge.to → fact ≡ fact_at w.children c pid edge
+    → line ≡ line_at w.children c how edge
+    → Shows z older (offers_if kind fact (notes_if line (record w { given = w.given ++ reports_at w.children c (Some edge ∷ []) })))
+    → Shows z older (goes_edge how c pid edge w)
+edge_gone z older how c pid edge w kind fact line is_kind is_fact is_line shows =
     let told = record w { given = w.given ++ reports_at w.children c (Some edge ∷ []) } in
-    subst (λ (k : Kind). Shows z older (offers_if k (fact_at w.children c pid edge) told)) is_kind
-    (subst (λ (f : Option Fact). Shows z older (offers_if kind f told)) is_fact shows)
+    let lined = notes_if (line_at w.children c how edge) told in
+    subst (λ (k : Kind). Shows z older (offers_if k (fact_at w.children c pid edge) lined)) is_kind
+    (subst (λ (f : Option Fact). Shows z older (offers_if kind f lined)) is_fact
+    (subst (λ (l : Option Line). Shows z older (offers_if kind fact (notes_if l told))) is_line shows))
 
 -- a stimulus came to the child of a place, and what it took is reported
-pub came_there : (z : Machine) (older : List Order) (c : ℕ) (stimulus : Child → Option Stimulus) (w : World) (pid : ℕ) (step : Option Step)
+pub came_there : (z : Machine) (older : List Order) (how : Option How) (c : ℕ) (stimulus : Child → Option Stimulus) (w : World) (pid : ℕ) (step : Option Step)
     → pid ≡ pid_at w.children c → step ≡ step_of (says stimulus c w)
-    → Shows z older (reported c pid step (changed c (says stimulus c w) w))
-    → Shows z older (comes stimulus c w)
-came_there z older c stimulus w pid step is_pid is_step shows =
+    → Shows z older (reported how c pid step (changed c (says stimulus c w) w))
+    → Shows z older (comes how stimulus c w)
+came_there z older how c stimulus w pid step is_pid is_step shows =
     let after = changed c (says stimulus c w) w in
-    subst (λ (p : ℕ). Shows z older (reported c p (step_of (says stimulus c w)) after)) is_pid
-    (subst (λ (s : Option Step). Shows z older (reported c pid s after)) is_step shows)
+    subst (λ (p : ℕ). Shows z older (reported how c p (step_of (says stimulus c w)) after)) is_pid
+    (subst (λ (s : Option Step). Shows z older (reported how c pid s after)) is_step shows)
 
 -- the children are others
 pub children_there : (w : World) (crew crew' : Crew) → crew ≡ crew' → record w { children = crew } ≡ record w { children = crew' }
 children_there w crew crew' same = ap (λ (c : Crew). record w { children = c }) same
 
 -- one more edge
-pub edges_gone : (z : Machine) (older : List Order) (c pid : ℕ) (edges : List (Option Edge)) (w : World) (d : Option Edge)
-    → 1 ≤ length edges
-    → Shows z older (goes_edges c pid (take (length edges - 1) (drop 1 edges)) (goes_edge_if c pid (get_or edges 0 d) w))
-    → Shows z older (goes_edges c pid edges w)
-edges_gone z older c pid [] w d some shows = absurd (omega (arith, some))
-edges_gone z older c pid (edge ∷ edges) w d some shows =
-    let size : length (edge ∷ edges) - 1 ≡ length edges = omega arith in
-    let rest : take (length (edge ∷ edges) - 1) edges ≡ edges = ap (λ (n : ℕ). take n edges) size ∙ take-length edges in
-    subst (λ (es : List (Option Edge)). Shows z older (goes_edges c pid es (goes_edge_if c pid edge w))) rest shows
+pub edges_next : (how : Option How) (c pid : ℕ) (edges : List (Option Edge)) (i : ℕ) (d : Option Edge) (w : World)
+    → i < length edges
+    → goes_edges how c pid (drop i edges) w ≡ goes_edges how c pid (drop (i + 1) edges) (goes_edge_if how c pid (get_or edges i d) w)
+edges_next how c pid [] i d w within = absurd (omega (arith, within))
+edges_next how c pid (edge ∷ edges) zero d w within = refl
+edges_next how c pid (edge ∷ edges) (suc i) d w within =
+    let size : suc (i + 1) ≡ suc i + 1 = omega arith in
+    edges_next how c pid edges i d w (omega (arith, within))
+    ∙ ap (λ (n : ℕ). goes_edges how c pid (drop n (edge ∷ edges)) (goes_edge_if how c pid (get_or edges i d) w)) size
 
 -- a step that didn't ask goes on in the world that is shown
 pub done_at : (y : Machine) (older : List Order) (w : World) (k : World → Turn) → Shows y older w → At y older (k w) (stopped None k)
@@ -108,6 +123,8 @@ runs_there y older w change s runs step = record {
   is = ap (λ (v : World). record v { runs = change v.runs }) s.is;
   pools_kept = s.pools_kept;
   runs_kept = step s.runs s.runs_kept;
+  streams = s.streams;
+  streams_kept = s.streams_kept;
 }
 
 -- one more token
@@ -183,3 +200,39 @@ hands_next n c w below =
 
 pub hands_done : (n c : ℕ) (w : World) → n ≤ c → hands_from (n - c) c w ≡ w
 hands_done n c w past = let size : n - c ≡ 0 = omega arith in ap (λ left. hands_from left c w) size
+
+-- what the runs wrote is something else
+pub streams_there : (y : Machine) (older : List Order) (w : World) (change : List StreamRecord → List StreamRecord)
+    → Shows y older w → (streams : Streams)
+    → ((book : List StreamRecord) → kept_streams.StandsFor y.streams book → kept_streams.StandsFor streams (change book))
+    → Shows (record y { streams = streams }) older (record w { streams = change w.streams })
+streams_there y older w change s streams step = record {
+  pools = s.pools;
+  runs = s.runs;
+  is = ap (λ (v : World). record v { streams = change v.streams }) s.is;
+  pools_kept = s.pools_kept;
+  runs_kept = s.runs_kept;
+  streams = change s.streams;
+  streams_kept = step s.streams s.streams_kept;
+}
+
+-- one more part
+pub parts_taken : (z : Machine) (older : List Order) (owner : Owner) (channel : Stream) (parts : List Part) (w : World) (own : Part)
+    → 1 ≤ length parts → own ≡ get_or parts 0 own
+    → Shows z older (takes_parts owner channel (take (length parts - 1) (drop 1 parts)) (takes_part owner channel own w))
+    → Shows z older (takes_parts owner channel parts w)
+parts_taken z older owner channel [] w own some is shows = absurd (omega (arith, some))
+parts_taken z older owner channel (part ∷ parts) w own some is shows =
+    let size : length (part ∷ parts) - 1 ≡ length parts = omega arith in
+    let rest : take (length (part ∷ parts) - 1) parts ≡ parts = ap (λ (n : ℕ). take n parts) size ∙ take-length parts in
+    subst (λ (p : Part). Shows z older (takes_parts owner channel parts (takes_part owner channel p w))) is
+    (subst (λ (ps : List Part). Shows z older (takes_parts owner channel ps (takes_part owner channel own w))) rest shows)
+
+-- the same parts of the same run
+pub all_taken : (z : Machine) (older : List Order) (owner owner' : Option Owner) (channel channel' : Option Stream)
+    (parts parts' : List Part) (w : World) → owner ≡ owner' → channel ≡ channel' → parts ≡ parts'
+    → Shows z older (takes_all owner channel parts w) → Shows z older (takes_all owner' channel' parts' w)
+all_taken z older owner owner' channel channel' parts parts' w is_owner is_channel is_parts shows =
+    subst (λ (o : Option Owner). Shows z older (takes_all o channel' parts' w)) is_owner
+    (subst (λ (ch : Option Stream). Shows z older (takes_all owner ch parts' w)) is_channel
+    (subst (λ (ps : List Part). Shows z older (takes_all owner channel ps w)) is_parts shows))

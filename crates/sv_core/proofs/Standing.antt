@@ -37,6 +37,8 @@ use Rattle.sv_pools.specs.StandsFor as kept_pools
 use Rattle.sv_pools.specs.declared.pools.Pools.{Pools}
 use Rattle.sv_runs.specs.StandsFor as kept_runs
 use Rattle.sv_runs.specs.declared.runs.Runs.{Runs}
+use Rattle.sv_streams.specs.StandsFor as kept_streams
+use Rattle.sv_streams.specs.declared.streams.Streams.{Streams}
 
 pub world_of_rest : (place : Option Place) (w : World) → world_of (rest place w) ≡ w
 unfolding rest paused swept asks
@@ -67,7 +69,7 @@ hand_after_part x m (Fails number) same =
 now_at : (x : Machine) (m : Model) (s : StandsFor x m) → now m ≡ s.hand_at.world
 now_at x m s = ap world_of s.hand_at.is ∙ world_of_rest x.hand.place s.hand_at.world
 
-now_is : (x : Machine) (m : Model) (s : StandsFor x m) → now m ≡ shown x s.older s.hand_at.shows.pools s.hand_at.shows.runs
+now_is : (x : Machine) (m : Model) (s : StandsFor x m) → now m ≡ shown x s.older s.hand_at.shows.pools s.hand_at.shows.runs s.hand_at.shows.streams
 now_is x m s = now_at x m s ∙ s.hand_at.shows.is
 
 pub given_is : (x : Machine) (m : Model) (s : StandsFor x m) → (now m).given ≡ s.older
@@ -156,7 +158,7 @@ halted_is x m s = rw (s.whole, now_is x m s) refl
 -- where a turn was left is no part of the world
 pub left_there : (y : Machine) (older : List Order) (place : Option Place) (w : World) → Shows y older w
     → Shows (record y { hand = record y.hand { place = place } }) older w
-left_there y older place w s = record { pools = s.pools; runs = s.runs; is = s.is; pools_kept = s.pools_kept; runs_kept = s.runs_kept }
+left_there y older place w s = record { pools = s.pools; runs = s.runs; is = s.is; pools_kept = s.pools_kept; runs_kept = s.runs_kept; streams = s.streams; streams_kept = s.streams_kept }
 
 -- a turn begins
 pub turn_begun : (cause : Cause) (at : ℕ) (place : Option Place) (w : World)
@@ -264,8 +266,10 @@ taken_there x y older given w same none is s =
     record {
       pools = s.pools;
       runs = s.runs;
-      is = s.is ∙ ap (λ (orders : List Order). record (shown x older s.pools s.runs) { given = orders }) all
-          ∙ ap (λ (m : Machine). shown m (older ++ given) s.pools s.runs) (sym same);
+      is = s.is ∙ ap (λ (orders : List Order). record (shown x older s.pools s.runs s.streams) { given = orders }) all
+          ∙ ap (λ (m : Machine). shown m (older ++ given) s.pools s.runs s.streams) (sym same);
       pools_kept = subst (λ (pools : Pools). kept_pools.StandsFor pools s.pools) (sym (ap (λ (m : Machine). m.pools) same)) s.pools_kept;
       runs_kept = subst (λ (runs : Runs). kept_runs.StandsFor runs s.runs) (sym (ap (λ (m : Machine). m.runs) same)) s.runs_kept;
+      streams = s.streams;
+      streams_kept = subst (λ (streams : Streams). kept_streams.StandsFor streams s.streams) (sym (ap (λ (m : Machine). m.streams) same)) s.streams_kept;
     }

@@ -15,6 +15,8 @@ use Rattle.sv_child.specs.Moves.{is_running}
 use Rattle.sv_child.specs.declared.step.ChildDeed.{ChildDeed}
 use Rattle.sv_child.specs.declared.step.ChildDeed.TheVariants.{Spawn, Kill}
 use Rattle.sv_child.specs.declared.child.Child.{Child}
+use Rattle.sv_base.specs.declared.spec.LogSpec.{LogSpec}
+use Rattle.sv_children.specs.Crew.{Member, member_at}
 use Rattle.sv_children.specs.News.{deed_of, step_of, stimulus_of, stimulus_told}
 use Rattle.sv_children.specs.Orders.{spawn_at}
 use Rattle.sv_children.specs.Spans.{span_meant}
@@ -22,16 +24,18 @@ use Rattle.sv_children.specs.declared.news.News.{News}
 use Rattle.sv_children.specs.declared.news.News.TheVariants as news_is
 use Rattle.sv_core.proofs.Standing.{came_more}
 use Rattle.sv_core.specs.Deeds.{after}
-use Rattle.sv_core.specs.Events.{announces, offers, offers_change, offers_tick, ticks}
+use Rattle.sv_core.specs.Events.{announces, offers, offers_change, offers_if, offers_tick, ticks}
+use Rattle.sv_core.specs.Logging.{logs, logs_if, notes_if}
+use Rattle.sv_core.specs.Output.{ends_pipe, hears_on, log_fact, log_kind, log_of, logs_of, message_fact, message_kind, says_on, takes_all, takes_part, takes_parts}
 use Rattle.sv_core.specs.HandingOut.{hands_from, hands_out, hands_to, ready_of, sends, sends_to}
-use Rattle.sv_core.specs.Listening.{ends_pipe, exits, exits_of, gives_back, hears, hears_on, id_of, is_done_with, loses_of, loses_stdin, takes_result, tells, tells_all, tells_by}
+use Rattle.sv_core.specs.Listening.{exits, exits_of, gives_back, hears, id_of, is_done_with, loses_of, loses_stdin, takes_result, tells, tells_all, tells_by}
 use Rattle.sv_core.specs.Failure.{failed, failures_told, refusal}
 use Rattle.sv_core.specs.MachineState.{Model, hand, failure_named, now, next, next_part, turn_of, accepts}
-use Rattle.sv_core.specs.Moves.{answered, begins_as, comes, fails, kills, moves, orders_spawn, says, started_as, told_of}
+use Rattle.sv_core.specs.Moves.{answered, begins_as, begins_output, begins_output_of, comes, fails, is_listener_of, kills, moves, orders_spawn, says, started_as, told_of}
 use Rattle.sv_core.specs.Parts.{part_of}
 use Rattle.sv_core.specs.Shutdown.{drops_group, follows_plan, halts, halts_after, has_come_to_rest, heeds, in_mood, is_ending, moves_on, tells_group}
 use Rattle.sv_core.specs.Stops.{signals, stops, stops_from, stops_all}
-use Rattle.sv_core.specs.Sweeps.{Turn, asks, carries_out, does, meets, spawns, spawns_as, sweeps, sweeps_all, sweeps_over}
+use Rattle.sv_core.specs.Sweeps.{Turn, asks, carries_out, does, does_noted, meets, spawns, spawns_as, sweeps, sweeps_all, sweeps_over}
 use Rattle.sv_core.specs.Sweeps.Turn.{Done, Ask}
 use Rattle.sv_core.specs.Turn.{after_pass, after_stimulus, applies, came, come, failed_at, rewinds, turn, world_of}
 use Rattle.sv_core.specs.World.{World}
@@ -55,10 +59,18 @@ use Rattle.sv_groups.specs.declared.order.Span.{Span}
 use Rattle.sv_out.specs.declared.input.Input.{Input}
 use Rattle.sv_out.specs.declared.order.Order.TheVariants as order
 use Rattle.sv_out.specs.declared.order.SpawnOrder.{SpawnOrder}
+use Rattle.sv_lines.specs.EdgeLines.{how_of, killing_at, spawned_at}
+use Rattle.sv_lines.specs.Written.{written as line_bytes}
+use Rattle.sv_lines.specs.declared.line.Line.{Line}
+use Rattle.sv_pipes.specs.declared.parts.Part.{Part as Heard}
+use Rattle.sv_pipes.specs.declared.parts.Part.TheVariants as part
 use Rattle.sv_pipes.specs.declared.tokens.Token.{Token}
 use Rattle.sv_pipes.specs.declared.tokens.Token.TheVariants as token
 use Rattle.sv_pools.specs.Listeners.{holds}
-use Rattle.sv_runs.specs.RunBook.{RunBook, heard, living, lost, new_tokens, process_ended, stdin_lost, teller}
+use Rattle.sv_runs.specs.RunBook.{RunBook, begun, heard, living, lost, new_tokens, pipe_ended, process_ended, stdin_lost, teller}
+use Rattle.sv_streams.specs.StreamBook as output
+use Rattle.sv_streams.specs.StreamBook.{StreamRecord}
+use Rattle.sv_streams.specs.declared.owner.Owner.{Owner}
 
 -- each answer leads to a stop that is related to the world in which it came
 abbrev pub Onward : (World → World → Type 0) → Turn → Type 0
@@ -74,7 +86,7 @@ pub record Steps (R : World → World → Type 0) : Type 0 where
   pub same : (w : World) → R w w
   pub follow : (u v w : World) → R u v → R v w → R u w
   pub rewound : (at : ℕ) (w : World) → R w (rewinds at w)
-  pub came : (stimulus : Child → Option Stimulus) (c : ℕ) (w : World) → R w (comes stimulus c w)
+  pub came : (how : Option How) (stimulus : Child → Option Stimulus) (c : ℕ) (w : World) → R w (comes how stimulus c w)
   pub killed : (c : ℕ) (signal : Signal) (group : Bool) (w : World) → R w (kills c signal group w)
   pub ordered : (spawning : SpawnOrder) (w : World) → R w (orders_spawn spawning w)
   pub steered : (course : Course) (w : World) → R w (record w { course = course })
@@ -85,6 +97,8 @@ pub record Steps (R : World → World → Type 0) : Type 0 where
   pub done : (c : ℕ) (w : World) → R w (is_done_with c w)
   pub returned : (c : ℕ) (w : World) → R w (gives_back c w)
   pub sent : (run : Run) (c : ℕ) (w : World) → R w (sends run c w)
+  pub logged : (log : LogSpec) (piece : List ℕ) (w : World) → R w (logs log piece w)
+  pub written : (streams : List StreamRecord) (w : World) → R w (record w { streams = streams })
 
 module _ (R : World → World → Type 0) (s : Steps R) where
   pub leads : (w v : World) (t : Turn) → R w v → From R v t → From R w t
@@ -95,14 +109,32 @@ module _ (R : World → World → Type 0) (s : Steps R) where
   by_test true w one other yes_holds no_holds = yes_holds
   by_test false w one other yes_holds no_holds = no_holds
 
+  kept_logs_if : (log : LogSpec) (bytes : Option (List ℕ)) (w : World) → R w (logs_if log bytes w)
+  kept_logs_if log None w = s.same w
+  kept_logs_if log (Some bytes) w = s.logged log bytes w
+
+  pub kept_notes : (line : Option Line) (w : World) → R w (notes_if line w)
+  kept_notes None w = s.same w
+  kept_notes (Some line) w = kept_logs_if w.config.main (line_bytes w.config.level w.moment line) w
+
+  kept_output : (c : ℕ) (run : Run) (pid : ℕ) (m : Option Member) (w : World) → R w (begins_output_of c run pid m w)
+  kept_output c run pid None w = s.same w
+  kept_output c run pid (Some m) w = s.written (begins_output_of c run pid (Some m) w).streams w
+
   kept_begins : (c : ℕ) (run : Run) (started : Option ℕ) (w : World) → R w (begins_as c run started w)
   kept_begins c run None w = s.same w
-  kept_begins c run (Some pid) w = s.booked (begins_as c run (Some pid) w).runs w
+  kept_begins c run (Some pid) w =
+      let book = begun run c pid (is_listener_of (member_at w.children c)) w.runs in
+      let u = record w { runs = book } in
+      let v = begins_output c run pid u in
+      s.follow w u (begins_as c run (Some pid) w) (s.booked book w)
+      (s.follow u v (begins_as c run (Some pid) w) (kept_output c run pid (member_at w.children c) u)
+      (kept_notes (spawned_at w.children c pid) v))
 
   pub kept_answered : (c : ℕ) (run : Run) (reply : Reply) (w : World) → R w (answered c run reply w)
   kept_answered c run reply w =
-      let v = comes (stimulus_told run (told_of reply)) c w in
-      s.follow w v (begins_as c run (started_as reply) v) (s.came (stimulus_told run (told_of reply)) c w)
+      let v = comes None (stimulus_told run (told_of reply)) c w in
+      s.follow w v (begins_as c run (started_as reply) v) (s.came None (stimulus_told run (told_of reply)) c w)
       (kept_begins c run (started_as reply) v)
 
   pub kept_asks : (c : ℕ) (run : Run) (w : World) (k : World → Turn) → ((v : World) → From R v (k v)) → From R w (asks c run w k)
@@ -135,7 +167,10 @@ module _ (R : World → World → Type 0) (s : Steps R) where
   kept_meets news c w k goes =
       let answer = says (stimulus_of news) c w in
       let deed = deed_of (step_of answer) in
-      leads w (moves c answer w) (does deed c (moves c answer w) k) (s.came (stimulus_of news) c w) (kept_does deed c (moves c answer w) k goes)
+      let v = moves (how_of news) c answer w in
+      let u = notes_if (killing_at news deed v.children c) v in
+      leads w v (does_noted news deed c v k) (s.came (how_of news) (stimulus_of news) c w)
+      (leads v u (does deed c u k) (kept_notes (killing_at news deed v.children c) v) (kept_does deed c u k goes))
 
   pub kept_sweeps : (news : News) (left place : ℕ) (w : World) (k : World → Turn) → ((v : World) → From R v (k v)) → From R w (sweeps news left place w k)
   kept_sweeps news zero place w k goes = goes w
@@ -193,16 +228,67 @@ module _ (R : World → World → Type 0) (s : Steps R) where
       s.follow w (record w { runs = book }) (hears run bytes w) (s.booked book w)
       (kept_tells_by (teller run w.runs) (new_tokens run bytes w.runs) (record w { runs = book }))
 
-  kept_hears_on : (stream : Stream) (run : Run) (bytes : List ℕ) (w : World) → R w (hears_on stream run bytes w)
-  kept_hears_on Out run bytes w = kept_hears run bytes w
-  kept_hears_on Err run bytes w = s.same w
+  kept_offer : (kind : Kind) (f : Option Fact) (w : World) → R w (offers_if kind f w)
+  kept_offer kind None w = s.same w
+  kept_offer kind (Some f) w = s.offered kind f w
+
+  kept_log_of : (channel : Stream) (m : Option Member) (bytes : List ℕ) (w : World) → R w (logs_of channel m bytes w)
+  kept_log_of channel None bytes w = s.same w
+  kept_log_of channel (Some m) bytes w = s.logged (log_of channel m.spec) bytes w
+
+  kept_heard : (owner : Owner) (channel : Stream) (p : Heard) (w : World) → R w (takes_part owner channel p w)
+  kept_heard owner channel (part.Logged bytes) w =
+      let m = member_at w.children owner.child in
+      let v = logs_of channel m bytes w in
+      s.follow w v (takes_part owner channel (part.Logged bytes) w) (kept_log_of channel m bytes w)
+      (kept_offer (log_kind channel) (log_fact owner.pid channel m bytes) v)
+  kept_heard owner channel (part.Message bytes) w =
+      kept_offer (message_kind channel) (message_fact owner.pid (member_at w.children owner.child) bytes) w
+
+  kept_parts : (owner : Owner) (channel : Stream) (ps : List Heard) (w : World) → R w (takes_parts owner channel ps w)
+  kept_parts owner channel [] w = s.same w
+  kept_parts owner channel (p ∷ ps) w =
+      let v = takes_part owner channel p w in
+      s.follow w v (takes_parts owner channel ps v) (kept_heard owner channel p w) (kept_parts owner channel ps v)
+
+  kept_all : (owner : Option Owner) (channel : Option Stream) (ps : List Heard) (w : World) → R w (takes_all owner channel ps w)
+  kept_all None channel ps w = s.same w
+  kept_all (Some owner) None ps w = s.same w
+  kept_all (Some owner) (Some channel) ps w = kept_parts owner channel ps w
+
+  kept_says : (pipe : Stream) (run : Run) (bytes : List ℕ) (w : World) → R w (says_on pipe run bytes w)
+  kept_says Out run bytes w = kept_hears run bytes w
+  kept_says Err run bytes w = s.same w
+
+  kept_hears_on : (pipe : Stream) (run : Run) (bytes : List ℕ) (w : World) → R w (hears_on pipe run bytes w)
+  kept_hears_on pipe run bytes w =
+      let streams = output.fed run pipe bytes w.streams in
+      let owner = output.owner_in run w.streams in
+      let channel = output.channel_in run pipe w.streams in
+      let ps = output.new_parts run pipe bytes w.streams in
+      let u = record w { streams = streams } in
+      let v = takes_all owner channel ps u in
+      s.follow w u (hears_on pipe run bytes w) (s.written streams w)
+      (s.follow u v (hears_on pipe run bytes w) (kept_all owner channel ps u) (kept_says pipe run bytes v))
+
+  kept_ends_pipe : (run : Run) (pipe : Stream) (w : World) → R w (ends_pipe run pipe w)
+  kept_ends_pipe run pipe w =
+      let owner = output.owner_in run w.streams in
+      let channel = output.channel_in run pipe w.streams in
+      let ps = output.last_parts run pipe w.streams in
+      let book = pipe_ended run pipe w.runs in
+      let streams = output.pipe_ended run pipe w.streams in
+      let u = record w { runs = book } in
+      let v = record u { streams = streams } in
+      s.follow w u (ends_pipe run pipe w) (s.booked book w)
+      (s.follow u v (ends_pipe run pipe w) (s.written streams u) (kept_all owner channel ps v))
 
   kept_exits_of : (child : Option ℕ) (run : Run) (how : How) (w : World) → R w (exits_of child run how w)
   kept_exits_of None run how w = s.same w
   kept_exits_of (Some c) run how w =
-      let v = comes (stimulus_of (news_is.Exit run how)) c w in
+      let v = comes (Some how) (stimulus_of (news_is.Exit run how)) c w in
       let u = record v { runs = process_ended run v.runs } in
-      s.follow w v (gives_back c u) (s.came (stimulus_of (news_is.Exit run how)) c w)
+      s.follow w v (gives_back c u) (s.came (Some how) (stimulus_of (news_is.Exit run how)) c w)
       (s.follow v u (gives_back c u) (s.booked (process_ended run v.runs) v) (s.returned c u))
 
   kept_loses_of : (child : Option ℕ) (run : Run) (w : World) → R w (loses_of child run w)
@@ -244,8 +330,8 @@ module _ (R : World → World → Type 0) (s : Steps R) where
   kept_stops : (c : ℕ) (w : World) → R w (stops c w)
   kept_stops c w =
       let answer = says (stimulus_of news_is.Stop) c w in
-      s.follow w (moves c answer w) (stops c w) (s.came (stimulus_of news_is.Stop) c w)
-      (kept_signals (deed_of (step_of answer)) c (moves c answer w))
+      let v = moves None c answer w in
+      s.follow w v (stops c w) (s.came None (stimulus_of news_is.Stop) c w) (kept_signals (deed_of (step_of answer)) c v)
 
   kept_stops_from : (from left : ℕ) (w : World) → R w (stops_from from left w)
   kept_stops_from from zero w = s.same w
@@ -316,7 +402,7 @@ module _ (R : World → World → Type 0) (s : Steps R) where
   kept_applies (cause_is.Heard run stream bytes) w =
       let v = hears_on stream run bytes w in leads w v (after_stimulus v) (kept_hears_on stream run bytes w) (kept_after_stimulus v)
   kept_applies (cause_is.PipeEnd run stream) w =
-      let v = ends_pipe run stream w in leads w v (after_stimulus v) (s.booked v.runs w) (kept_after_stimulus v)
+      let v = ends_pipe run stream w in leads w v (after_stimulus v) (kept_ends_pipe run stream w) (kept_after_stimulus v)
   kept_applies cause_is.Link w = kept_after_stimulus w
   kept_applies (cause_is.Start name) w = kept_start (is_running w.course.mood) (span_meant name w.children.roster) w
   kept_applies (cause_is.Stop name) w =

@@ -1,5 +1,5 @@
 -- Stops and the stop plan, on the worlds that the machine shows.
-use Rattle.std.proofs.Common.{◌≡◌, ℕ, suc, List, Option, ◌+◌, ◌-◌, ◌<◌, true, false, if◌then◌else◌, arith, refl, subst, sym, ap, ◌∙◌}
+use Rattle.std.proofs.Common.{◌≡◌, ℕ, suc, List, Option, None, ◌+◌, ◌-◌, ◌<◌, true, false, if◌then◌else◌, arith, refl, subst, sym, ap, ◌∙◌}
 use Rattle.sv_child.specs.declared.step.ChildDeed.{ChildDeed}
 use Rattle.sv_children.specs.News.{deed_of, step_of, stimulus_of}
 use Rattle.sv_child.specs.Moves.{is_running}
@@ -24,10 +24,10 @@ pub record Reaches (x : Machine) (older : List Order) (u : World) (f : World →
 -- a stop came to a child, and what it asks for is signalled
 pub stopped_there : (z : Machine) (older : List Order) (c : ℕ) (w : World) (deed : Option ChildDeed)
     → deed ≡ deed_of (step_of (says (stimulus_of news_is.Stop) c w))
-    → Shows z older (signals deed c (comes (stimulus_of news_is.Stop) c w))
+    → Shows z older (signals deed c (comes None (stimulus_of news_is.Stop) c w))
     → Shows z older (stops c w)
 stopped_there z older c w deed is shows =
-    subst (λ (d : Option ChildDeed). Shows z older (signals d c (comes (stimulus_of news_is.Stop) c w))) is shows
+    subst (λ (d : Option ChildDeed). Shows z older (signals d c (comes None (stimulus_of news_is.Stop) c w))) is shows
 
 pub stops_next : (from left : ℕ) (w : World) → 0 < left
     → stops_from from left w ≡ stops_from from (left - 1) (stops (from + (left - 1)) w)
@@ -58,7 +58,7 @@ rests_there y older w group s = ap (has_come_to_rest group) s.is
 -- a group is done with
 pub dropped_there : (y : Machine) (older : List Order) (w : World) (left : ℕ) → Shows y older w
     → Shows (record y { course = record y.course { left = left; is_told = false } }) older (drops_group left w)
-dropped_there y older w left s = record { pools = s.pools; runs = s.runs; is = ap (drops_group left) s.is; pools_kept = s.pools_kept; runs_kept = s.runs_kept }
+dropped_there y older w left s = record { pools = s.pools; runs = s.runs; is = ap (drops_group left) s.is; pools_kept = s.pools_kept; runs_kept = s.runs_kept; streams = s.streams; streams_kept = s.streams_kept }
 
 -- while the daemon ends, the plan goes on
 pub plan_left : (x y : Machine) (older : List Order) (w u : World) → Shows x older w → is_running x.course.mood ≡ false

@@ -21,12 +21,12 @@ use Rattle.sv_core.specs.Frames.{Makes}
 use Rattle.sv_core.specs.HandingOut.{hands_from, hands_out, is_up, ready_of, sends_to}
 use Rattle.sv_core.specs.Listening.{id_of}
 use Rattle.sv_core.specs.Moves.{moves}
-use Rattle.sv_core.specs.Sweeps.{Turn, does, is_unmoved, meets}
+use Rattle.sv_core.specs.Sweeps.{Turn, does_noted, is_unmoved, meets}
 use Rattle.sv_core.specs.StandsFor.{Shows, shown}
 use Rattle.sv_core.specs.World.{World}
 use Rattle.sv_core.specs.declared.machine.Machine.{Machine}
 use Rattle.sv_groups.specs.StartOrder.{pairs_of}
-use Rattle.sv_out.specs.declared.order.Order.{Order}
+use Rattle.sv_lines.specs.EdgeLines.{how_of}
 use Rattle.sv_pool.specs.PoolLists.{holding}
 use Rattle.sv_pool.specs.declared.taken.Taken.{Taken}
 use Rattle.sv_pools.specs.EventPools.{EventPool, EventPools}
@@ -55,9 +55,12 @@ no_row Unknown spec child mood now up = cc
 unmoved_there : (c : ℕ) (w : World) (k : World → Turn) (pair : Option (GroupSpec × Spec)) (found : Option Child) (news : News)
     → slice_get w.children.all c ≡ found → is_unmoved news found ≡ true
     → let answer = said_to (stimulus_of news) (member_of pair found) w.course.mood w.moment in
-    does (deed_of (step_of answer)) c (moves c answer w) k ≡ k w
+    does_noted news (deed_of (step_of answer)) c (moves (how_of news) c answer w) k ≡ k w
 unmoved_there c w k pair None news at up = cc
-unmoved_there c w k None (Some child) news at up = refl
+unmoved_there c w k None (Some child) news_is.Time at up = refl
+unmoved_there c w k None (Some child) (news_is.Exit run how) at up = cc
+unmoved_there c w k None (Some child) news_is.Start at up = cc
+unmoved_there c w k None (Some child) news_is.Stop at up = cc
 unmoved_there c w k (Some pair) (Some child) news_is.Time at up =
     rw (no_row child.state pair.1 child w.course.mood w.moment up, set_there w.children.all c child at) refl
 unmoved_there c w k (Some pair) (Some child) (news_is.Exit run how) at up = cc
@@ -125,7 +128,7 @@ none_from (suc n) c w none =
 -- where no event waits, step 7 changes nothing
 pub none_out : (x : Machine) (wait : Bool) → ((pools : EventPools) → kept.StandsFor x.pools pools → wait ≡ some_wait pools)
     → wait ≡ false → Makes hands_out x x
-none_out x wait told none = made hands_out x x (λ older pools runs kept_pools kept_runs.
+none_out x wait told none = made hands_out x x (λ older pools runs streams kept_pools kept_runs kept_streams.
     subst (λ (v : World). Shows x older v)
-    (sym (none_from (length x.children.all - 0) 0 (shown x older pools runs) (sym (told pools kept_pools) ∙ none)))
-    (record { pools = pools; runs = runs; is = refl; pools_kept = kept_pools; runs_kept = kept_runs }))
+    (sym (none_from (length x.children.all - 0) 0 (shown x older pools runs streams) (sym (told pools kept_pools) ∙ none)))
+    (record { pools = pools; runs = runs; is = refl; pools_kept = kept_pools; runs_kept = kept_runs; streams = streams; streams_kept = kept_streams }))

@@ -77,6 +77,7 @@ abbrev pub all_happened : List Happening → EventPools → EventPools
 all_happened [] ps = ps
 all_happened (h ∷ hs) ps = all_happened hs (happened h ps)
 
+-- the orders of all that happened
 abbrev pub all_ordered : List ℕ → List Happening → EventPools → List Order
 all_ordered server [] ps = []
 all_ordered server (h ∷ hs) ps = ordered server h ps ++ all_ordered server hs (happened h ps)

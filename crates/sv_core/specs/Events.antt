@@ -1,8 +1,9 @@
 -- What becomes an event: it is offered to each pool, and what full pools drop for it is reported (the manual's chapter on
 -- events).
-use Rattle.std.specs.Prelude.{ℕ, ◌++◌, Option, Some, None, true, if◌then◌else◌}
+use Rattle.std.specs.Prelude.{ℕ, Option, Some, None, true, if◌then◌else◌}
 use Rattle.sv_base.specs.declared.kind.Kind.{Kind}
 use Rattle.sv_base.specs.declared.kind.Kind.TheVariants as kind
+use Rattle.sv_core.specs.Logging.{tells_drops}
 use Rattle.sv_core.specs.World.{World}
 use Rattle.sv_events.specs.TickSlice.{tick}
 use Rattle.sv_events.specs.declared.fact.Fact.{Fact}
@@ -12,7 +13,7 @@ use Rattle.sv_pools.specs.Offers.{offer_reports, offered}
 -- an event of this type, that tells of this fact
 abbrev pub offers : Kind → Fact → World → World
 offers kind fact w =
-    record w { pools = offered kind fact w.pools; given = w.given ++ offer_reports kind fact w.pools }
+    tells_drops (offer_reports kind fact w.pools) (record w { pools = offered kind fact w.pools })
 
 -- of a fact that may not be there
 abbrev pub offers_if : Kind → Option Fact → World → World

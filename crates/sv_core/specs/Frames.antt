@@ -6,16 +6,18 @@ use Rattle.sv_core.specs.World.{World}
 use Rattle.sv_core.specs.declared.machine.Machine.{Machine}
 use Rattle.sv_out.specs.declared.order.Order.{Order}
 
--- events are offered, and orders given
+-- events are offered, logs written to, and orders given
 abbrev pub GivesOrders : Machine → Machine → Type 0
 GivesOrders old new =
-    new ≡ record old { pools = new.pools; hand = record old.hand { given = new.hand.given } }
+    new ≡ record old { pools = new.pools; sizes = new.sizes; hand = record old.hand { given = new.hand.given } }
 
 -- listeners are heard as well, or sent to
 abbrev pub HearsListeners : Machine → Machine → Type 0
 HearsListeners old new = new ≡ record old {
   pools = new.pools;
+  sizes = new.sizes;
   runs = new.runs;
+  streams = new.streams;
   hand = record old.hand { given = new.hand.given };
 }
 
@@ -24,6 +26,7 @@ abbrev pub MovesChildren : Machine → Machine → Type 0
 MovesChildren old new = new ≡ record old {
   children = new.children;
   pools = new.pools;
+  sizes = new.sizes;
   hand = record old.hand { given = new.hand.given };
 }
 
@@ -32,7 +35,9 @@ abbrev pub StartsRuns : Machine → Machine → Type 0
 StartsRuns old new = new ≡ record old {
   children = new.children;
   pools = new.pools;
+  sizes = new.sizes;
   runs = new.runs;
+  streams = new.streams;
   numbers = record old.numbers { next_run = new.numbers.next_run };
   hand = record old.hand { given = new.hand.given };
 }
@@ -42,6 +47,7 @@ abbrev pub ChangesCourse : Machine → Machine → Type 0
 ChangesCourse old new = new ≡ record old {
   course = new.course;
   pools = new.pools;
+  sizes = new.sizes;
   hand = record old.hand { given = new.hand.given };
 }
 
@@ -51,6 +57,7 @@ MovesPlan old new = new ≡ record old {
   children = new.children;
   course = new.course;
   pools = new.pools;
+  sizes = new.sizes;
   hand = record old.hand { given = new.hand.given };
 }
 
@@ -60,7 +67,9 @@ MovesOn old new = new ≡ record old {
   children = new.children;
   course = new.course;
   pools = new.pools;
+  sizes = new.sizes;
   runs = new.runs;
+  streams = new.streams;
   numbers = record old.numbers { next_run = new.numbers.next_run };
   hand = record old.hand { given = new.hand.given };
 }
@@ -72,7 +81,9 @@ GoesOn old new = new ≡ record old {
   course = new.course;
   clock = new.clock;
   pools = new.pools;
+  sizes = new.sizes;
   runs = new.runs;
+  streams = new.streams;
   numbers = record old.numbers { next_run = new.numbers.next_run };
   hand = new.hand;
 }

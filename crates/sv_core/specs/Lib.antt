@@ -1,8 +1,9 @@
-pub mod Sizes
 pub mod World
+pub mod Logging
 pub mod Events
 pub mod Moves
 pub mod Listening
+pub mod Output
 pub mod HandingOut
 pub mod Stops
 pub mod Sweeps
@@ -16,4 +17,5 @@ pub mod StandsFor
 pub mod Frames
 pub mod Path
 pub mod Account
+pub mod LogHistory
 pub mod WorkedJournals

@@ -1,18 +1,17 @@
 -- What a listener says, and what becomes of the event that it holds (the manual's chapter on events, "Event Listener States").
-use Rattle.std.specs.Prelude.{ℕ, List, [], ◌∷◌, ◌++◌, ◌^◌, ◌%◌, Option, Some, None, codes, if◌then◌else◌}
+use Rattle.std.specs.Prelude.{ℕ, List, [], ◌∷◌, ◌^◌, ◌%◌, Option, Some, None, codes, if◌then◌else◌}
 use Rattle.std.specs.Str.{bytes_eq}
 use Rattle.sv_base.specs.declared.ids.Run.{Run}
 use Rattle.sv_base.specs.declared.state.How.{How}
-use Rattle.sv_base.specs.declared.state.Stream.{Stream}
-use Rattle.sv_base.specs.declared.state.Stream.TheVariants.{Out, Err}
 use Rattle.sv_children.specs.News.{stimulus_of}
 use Rattle.sv_children.specs.declared.news.News.TheVariants as news_is
+use Rattle.sv_core.specs.Logging.{tells_drops}
 use Rattle.sv_core.specs.Moves.{comes}
 use Rattle.sv_core.specs.World.{World}
 use Rattle.sv_pipes.specs.declared.tokens.Token.{Token}
 use Rattle.sv_pipes.specs.declared.tokens.Token.TheVariants.{Ready, Result, Wrong}
 use Rattle.sv_pools.specs.Listeners.{acknowledges, holds, rejection_reports, rejects}
-use Rattle.sv_runs.specs.RunBook.{heard, living, lost, new_tokens, pipe_ended, process_ended, stdin_lost, teller}
+use Rattle.sv_runs.specs.RunBook.{heard, living, lost, new_tokens, process_ended, stdin_lost, teller}
 
 -- the number of the child of a place, which has 32 bits
 abbrev pub id_of : ℕ → ℕ
@@ -24,7 +23,8 @@ is_done_with c w = record w { pools = acknowledges (id_of c) w.pools }
 
 -- it goes back to the front of its pool, and what the pool drops for it is reported
 abbrev pub gives_back : ℕ → World → World
-gives_back c w = record w { pools = rejects (id_of c) w.pools; given = w.given ++ rejection_reports (id_of c) w.pools }
+gives_back c w =
+    tells_drops (rejection_reports (id_of c) w.pools) (record w { pools = rejects (id_of c) w.pools })
 
 -- the result OK accepts the event, every other rejects it
 abbrev pub takes_result : ℕ → List ℕ → World → World
@@ -51,22 +51,14 @@ abbrev pub hears : Run → List ℕ → World → World
 hears run bytes w =
     tells_by (teller run w.runs) (new_tokens run bytes w.runs) (record w { runs = heard run bytes w.runs })
 
--- bytes come on a stream of a run: no log is built yet
-abbrev pub hears_on : Stream → Run → List ℕ → World → World
-hears_on Out run bytes w = hears run bytes w
-hears_on Err run bytes w = w
-
--- a stream of a run ends
-abbrev pub ends_pipe : Run → Stream → World → World
-ends_pipe run stream w = record w { runs = pipe_ended run stream w.runs }
-
--- the process of a run ended: its child takes its step, and then the event that it holds goes back
+-- the process of a run of this child ended: the child takes its step, and then the event that it holds goes back
 abbrev pub exits_of : Option ℕ → Run → How → World → World
 exits_of None run how w = w
 exits_of (Some c) run how w =
-    let after = comes (stimulus_of (news_is.Exit run how)) c w in
+    let after = comes (Some how) (stimulus_of (news_is.Exit run how)) c w in
     gives_back c (record after { runs = process_ended run after.runs })
 
+-- the process of a run ended
 abbrev pub exits : Run → How → World → World
 exits run how w = exits_of (living run w.runs) run how w
 

@@ -19,6 +19,7 @@ use Rattle.sv_core.specs.declared.part.Followed.TheVariants as followed
 use Rattle.sv_core.specs.declared.part.Part.{Part}
 use Rattle.sv_core.specs.declared.part.Part.TheVariants.{Begins, Answers, Fails}
 use Rattle.sv_core.specs.declared.part.Question.{Question}
+use Rattle.sv_files.specs.Opening.{opening_sizes}
 use Rattle.sv_groups.specs.StartOrder.{processes}
 use Rattle.sv_out.specs.declared.input.Input.{Input}
 use Rattle.sv_out.specs.declared.order.Order.{Order}
@@ -73,9 +74,10 @@ opening config sizes host = resting (record {
   next_run = 1;
   moment = host.start;
   clock = host.start;
-  sizes = sizes;
+  sizes = opening_sizes config sizes;
   pools = all_pools.opening config.groups;
   runs = all_runs.opening (length (processes config.groups));
+  streams = [];
   given = [];
 })
 

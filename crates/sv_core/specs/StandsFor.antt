@@ -28,10 +28,12 @@ use Rattle.sv_pools.specs.EventPools.{EventPools}
 use Rattle.sv_pools.specs.StandsFor as kept_pools
 use Rattle.sv_runs.specs.RunBook.{RunBook}
 use Rattle.sv_runs.specs.StandsFor as kept_runs
+use Rattle.sv_streams.specs.StandsFor as kept_streams
+use Rattle.sv_streams.specs.StreamBook.{StreamRecord}
 
 -- the world that the machine's fields show, after these older orders and with these pools and runs
-abbrev pub shown : Machine → List Order → EventPools → RunBook → World
-shown x older pools runs = record {
+abbrev pub shown : Machine → List Order → EventPools → RunBook → List StreamRecord → World
+shown x older pools runs streams = record {
   config = x.config;
   pid = x.pid;
   children = x.children;
@@ -39,20 +41,23 @@ shown x older pools runs = record {
   next_run = x.numbers.next_run;
   moment = x.hand.moment;
   clock = x.clock;
-  sizes = x.sizes.items;
+  sizes = x.sizes;
   pools = pools;
   runs = runs;
+  streams = streams;
   given = older ++ x.hand.given.items;
 }
 
--- the machine shows this world, after these older orders: of its pools it keeps the events that wait or are held, and of
--- its runs those that aren't over
+-- the machine shows this world, after these older orders: of its pools it keeps the events that wait or are held, of its
+-- runs those that aren't over, and of what these wrote what isn't decided
 pub record Shows (x : Machine) (older : List Order) (w : World) : Type 0 where
   pub pools : EventPools
   pub runs : RunBook
-  pub is : w ≡ shown x older pools runs
+  pub streams : List StreamRecord
+  pub is : w ≡ shown x older pools runs streams
   pub pools_kept : kept_pools.StandsFor x.pools pools
   pub runs_kept : kept_runs.StandsFor x.runs runs
+  pub streams_kept : kept_streams.StandsFor x.streams streams
 
 -- a turn goes on from a world that the machine shows
 pub record At (x : Machine) (older : List Order) (t : Turn) (f : World → Turn) : Type 0 where

@@ -9,12 +9,14 @@ use Rattle.sv_children.specs.Orders.{spawn_at}
 use Rattle.sv_children.specs.declared.news.News.{News}
 use Rattle.sv_children.specs.declared.news.News.TheVariants as news_is
 use Rattle.sv_core.specs.HandingOut.{is_up}
+use Rattle.sv_core.specs.Logging.{notes_if}
 use Rattle.sv_core.specs.Moves.{says, moves, kills, orders_spawn, answered, fails}
 use Rattle.sv_core.specs.World.{World}
 use Rattle.sv_core.specs.declared.part.Question.{Question}
 use Rattle.sv_core.specs.declared.part.Question.TheVariants as question
 use Rattle.sv_core.specs.declared.part.Reply.{Reply}
 use Rattle.sv_groups.specs.declared.order.Span.{Span}
+use Rattle.sv_lines.specs.EdgeLines.{how_of, killing_at}
 use Rattle.sv_out.specs.declared.order.SpawnOrder.{SpawnOrder}
 
 -- a turn that is done, or that stopped at a question of a kind and goes on with its answer, in the world as it is then
@@ -46,10 +48,15 @@ abbrev pub does : Option ChildDeed → ℕ → World → (World → Turn) → Tu
 does None c w k = k w
 does (Some deed) c w k = carries_out deed c w k
 
+-- what is to be done, with its line in the main log before it
+abbrev pub does_noted : News → Option ChildDeed → ℕ → World → (World → Turn) → Turn
+does_noted news deed c w k = does deed c (notes_if (killing_at news deed w.children c) w) k
+
 -- news come to the child of a place: it takes its step, and what is to be done is done
 abbrev pub meets : News → ℕ → World → (World → Turn) → Turn
 meets news c w k =
-    let answer = says (stimulus_of news) c w in does (deed_of (step_of answer)) c (moves c answer w) k
+    let answer = says (stimulus_of news) c w in
+    does_noted news (deed_of (step_of answer)) c (moves (how_of news) c answer w) k
 
 -- the news are that time passes
 abbrev pub is_time : News → Bool

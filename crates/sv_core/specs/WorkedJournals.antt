@@ -10,6 +10,7 @@ use Rattle.sv_base.specs.declared.spec.Spec.{Spec}
 use Rattle.sv_base.specs.declared.state.Autorestart.{Autorestart}
 use Rattle.sv_base.specs.declared.state.Autorestart.TheVariants.{Never, Unexpected}
 use Rattle.sv_base.specs.declared.state.How.TheVariants.{Code, Signal}
+use Rattle.sv_base.specs.declared.state.Level.TheVariants.{Critical}
 use Rattle.sv_base.specs.declared.state.State.{State}
 use Rattle.sv_base.specs.declared.state.State.TheVariants.{Stopped, Starting, Running, Backoff, Stopping, Exited, Fatal}
 use Rattle.sv_child.specs.Examples.{program}
@@ -34,10 +35,13 @@ abbrev pub x_of : Rest → ℕ → ℕ → Autorestart → ℕ → Spec
 x_of rest startsecs startretries autorestart stopwaitsecs =
     record (program rest.spec startsecs startretries autorestart stopwaitsecs) { group = codes "x"; name = codes "x" }
 
+-- these groups alone, and no line of the main log is written
+abbrev pub only : Rest → List GroupSpec → Config
+only rest groups = record rest.config { level = Critical; groups = groups }
+
 -- the configuration of this program alone
 abbrev pub alone : Rest → Spec → Config
-alone rest spec =
-    record rest.config { groups = record rest.group { name = codes "x"; members = spec ∷ []; pool = None } ∷ [] }
+alone rest spec = only rest (record rest.group { name = codes "x"; members = spec ∷ []; pool = None } ∷ [])
 
 -- the daemon starts at moment 0
 abbrev pub host_of : Rest → Host
@@ -154,7 +158,7 @@ GroupsStopOneByOne rest =
     let plain = record rest.group { pool = None } in
     let groups =
     record plain { name = codes "a"; members = a ∷ [] } ∷ record plain { name = codes "b"; members = b ∷ [] } ∷ [] in
-    deeds (opening (record rest.config { groups = groups }) rest.sizes (host_of rest))
+    deeds (opening (only rest groups) rest.sizes (host_of rest))
     (Tick 0 ∷ Pid 1 ∷ Pid 2
     ∷ Tick 1000
     ∷ Told 5000 signal_is.Term

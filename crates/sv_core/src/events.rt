@@ -8,23 +8,26 @@ ghost use Rattle.sv_core.specs.Moves.{goes_edge, goes_edge_if, goes_edges};
 use crate::machine::Machine;
 use std::alloc::AllocError;
 use sv_base::kind::Kind;
+use sv_base::state::How;
 use sv_child::step::Edge;
 use sv_events::Fact;
 use sv_facts::{fact_at, kind_of};
+use sv_lines::line_at;
 
 impl Machine {
     /// Offers an event of this type to each pool; what they drop for it is reported.
-    fn offer(&mut self, kind: Kind, fact: &Fact) -> Result<(), AllocError>
+    pub(crate) fn offer(&mut self, kind: Kind, fact: &Fact) -> Result<(), AllocError>
         ensures kept { GivesOrders self.old self.new }
         ensures offers { OnOk result (Makes (offers kind fact.now) self.old self.new) }
     {
-        self.pools
-            .offer(self.alloc, kind, fact, &mut self.hand.given)?;
+        let mut reports = Vec::new(self.alloc);
+        self.pools.offer(self.alloc, kind, fact, &mut reports)?;
+        self.tell_drops(reports)?;
         Ok(())
     }
 
     /// Offers it, if there is something to tell.
-    fn offer_if(&mut self, kind: Kind, fact: Option<Fact>) -> Result<(), AllocError>
+    pub(crate) fn offer_if(&mut self, kind: Kind, fact: Option<Fact>) -> Result<(), AllocError>
         ensures kept { GivesOrders self.old self.new }
         ensures offers { OnOk result (Makes (offers_if kind fact) self.old self.new) }
     {
@@ -60,27 +63,42 @@ impl Machine {
         }
     }
 
-    /// An edge that a child took is reported, and then its event offered; its process had this number before.
-    fn go_edge(&mut self, child: usize, pid: u32, edge: Edge) -> Result<(), AllocError>
+    /// An edge that a child took is reported, then its line written, and then its event offered; its process ended so, where
+    /// an exit was the cause, and had this number before.
+    fn go_edge(
+        &mut self,
+        how: Option<How>,
+        child: usize,
+        pid: u32,
+        edge: Edge,
+    ) -> Result<(), AllocError>
         ensures kept { GivesOrders self.old self.new }
-        ensures goes { OnOk result (Makes (goes_edge child pid edge) self.old self.new) }
+        ensures goes { OnOk result (Makes (goes_edge how child pid edge) self.old self.new) }
     {
         self.children
             .report(child, &[Some(edge)], &mut self.hand.given)?;
+        let line = line_at(self.alloc, &self.children, child, how, edge)?;
         let fact = fact_at(&self.children, child, pid, edge)?;
+        self.note_if(line)?;
         self.offer_if(kind_of(edge.to), fact)?;
         Ok(())
     }
 
     /// If it took one.
-    fn go_edge_if(&mut self, child: usize, pid: u32, edge: Option<Edge>) -> Result<(), AllocError>
+    fn go_edge_if(
+        &mut self,
+        how: Option<How>,
+        child: usize,
+        pid: u32,
+        edge: Option<Edge>,
+    ) -> Result<(), AllocError>
         ensures kept { GivesOrders self.old self.new }
-        ensures goes { OnOk result (Makes (goes_edge_if child pid edge) self.old self.new) }
+        ensures goes { OnOk result (Makes (goes_edge_if how child pid edge) self.old self.new) }
     {
         match edge {
             None => Ok(()),
             Some(edge) => {
-                self.go_edge(child, pid, edge)?;
+                self.go_edge(how, child, pid, edge)?;
                 Ok(())
             }
         }
@@ -89,21 +107,18 @@ impl Machine {
     /// And so edge by edge.
     pub(crate) fn go_edges(
         &mut self,
+        how: &Option<How>,
         child: usize,
         pid: u32,
         edges: &[Option<Edge>],
     ) -> Result<(), AllocError>
         ensures kept { GivesOrders self.old self.new }
-        ensures goes { OnOk result (Makes (goes_edges child pid edges.now) self.old self.new) }
+        ensures goes { OnOk result (Makes (goes_edges how.now child pid edges.now) self.old self.new) }
     {
-        match edges {
-            [] => Ok(()),
-            [edge, rest @ ..] => {
-                self.go_edge_if(child, pid, *edge)?;
-                self.go_edges(child, pid, rest)?;
-                Ok(())
-            }
+        for edge in edges {
+            self.go_edge_if(*how, child, pid, *edge)?;
         }
+        Ok(())
     }
 
     /// Step 0: in the first turn, the event that the daemon runs.
@@ -124,6 +139,7 @@ impl Machine {
         ensures kept { self.new ≡ record self.old {
           clock = self.new.clock;
           pools = self.new.pools;
+          sizes = self.new.sizes;
           hand = record self.old.hand { given = self.new.hand.given };
         } }
         ensures ticked { OnOk result (Makes ticks self.old self.new) }

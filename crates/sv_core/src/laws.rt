@@ -4,6 +4,7 @@ ghost use Rattle.sv_base.specs.declared.config.Config.{Config};
 ghost use Rattle.sv_base.specs.declared.config.Host.{Host};
 ghost use Rattle.sv_core.specs.Account.{HoldSome, PoolsAreAccountedFor, PoolsHaveAHistory};
 ghost use Rattle.sv_core.specs.Deeds.{after, deeds};
+ghost use Rattle.sv_core.specs.LogHistory.{LogsHaveAHistory};
 ghost use Rattle.sv_core.specs.MachineState.{now, opening};
 ghost use Rattle.sv_core.specs.Path.{ChildrenWalk};
 ghost use Rattle.sv_core.specs.WorkedJournals.{ClockGoesBack, GroupsStopOneByOne, KillAtEachDeadline, NoRunNumberLeft, OrderNumbersBeginAgain, Rest, SpawnThatFails, StartsStaysUpAndExits, ThreeRetriesThenFatal, UpAtOnce};
@@ -37,6 +38,15 @@ pub fn each_event_is_accounted_for(config: &Config)
 {
     have_room(config.groups.as_slice());
 }
+
+/// Whatever the machine is told, its orders about files are those of pieces that were logged one after the other, each to its
+/// log, where the first known sizes are those that were told, and 0 for each further log file of the configuration.
+/// `sv_files` says what these orders make of the files.
+pub fn each_log_has_a_history()
+    ensures { (config : Config) (sizes : List (List ℕ × ℕ)) (host : Host) (inputs : List Input) →
+        LogsHaveAHistory config sizes (after (opening config sizes host) inputs)
+        (deeds (opening config sizes host) inputs) }
+{}
 
 /// The pool of each of these groups has room for an event.
 fn have_room(groups: &[GroupSpec])

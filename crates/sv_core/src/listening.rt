@@ -1,13 +1,13 @@
 //! What listeners say, and what becomes of the events that they hold.
 ghost use Rattle.std.specs.Prelude.{◌≡◌, OnOk};
 ghost use Rattle.sv_core.specs.Frames.{GivesOrders, HearsListeners, Makes, StartsRuns};
-ghost use Rattle.sv_core.specs.Listening.{ends_pipe, exits, exits_of, gives_back, hears, hears_on, id_of, is_done_with, loses_of, loses_stdin, takes_result, tells, tells_all, tells_by};
+ghost use Rattle.sv_core.specs.Listening.{exits, exits_of, gives_back, hears, id_of, is_done_with, loses_of, loses_stdin, takes_result, tells, tells_all, tells_by};
 
 use crate::machine::Machine;
 use std::alloc::AllocError;
 use sv_base::bytes::{Bytes, Piece};
 use sv_base::ids::{ChildId, Run};
-use sv_base::state::{How, Stream};
+use sv_base::state::How;
 use sv_children::News;
 use sv_pipes::Token;
 
@@ -32,7 +32,9 @@ impl Machine {
         ensures kept { GivesOrders self.old self.new }
         ensures gives { OnOk result (Makes (gives_back child) self.old self.new) }
     {
-        self.pools.reject(id_of(child), &mut self.hand.given)?;
+        let mut reports = Vec::new(self.alloc);
+        self.pools.reject(id_of(child), &mut reports)?;
+        self.tell_drops(reports)?;
         Ok(())
     }
 
@@ -97,7 +99,7 @@ impl Machine {
     }
 
     /// Bytes came on the stdout of a run.
-    fn listen(&mut self, run: Run, piece: &Piece) -> Result<(), AllocError>
+    pub(crate) fn listen(&mut self, run: Run, piece: &Piece) -> Result<(), AllocError>
         ensures kept { HearsListeners self.old self.new }
         ensures hears { OnOk result (Makes (hears run piece.now) self.old self.new) }
     {
@@ -105,33 +107,6 @@ impl Machine {
         let tokens = self.runs.hear(self.alloc, run, piece.as_slice())?;
         self.tell_by(teller, tokens.as_slice())?;
         Ok(())
-    }
-
-    /// Bytes came on a stream of a run. No log is built yet.
-    pub(crate) fn hear_on(
-        &mut self,
-        stream: Stream,
-        run: Run,
-        piece: &Piece,
-    ) -> Result<(), AllocError>
-        ensures kept { HearsListeners self.old self.new }
-        ensures hears { OnOk result (Makes (hears_on stream run piece.now) self.old self.new) }
-    {
-        match stream {
-            Stream::Out => {
-                self.listen(run, piece)?;
-                Ok(())
-            }
-            Stream::Err => Ok(()),
-        }
-    }
-
-    /// A stream of a run ended.
-    pub(crate) fn end_pipe(&mut self, run: Run, stream: Stream)
-        ensures kept { HearsListeners self.old self.new }
-        ensures ends { Makes (ends_pipe run stream) self.old self.new }
-    {
-        self.runs.end_pipe(run, stream);
     }
 
     /// The process of a run ended.

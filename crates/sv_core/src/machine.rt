@@ -14,10 +14,12 @@ use sv_base::state::Mood;
 use sv_base::text::Text;
 use sv_children::Children;
 use sv_events::Ticks;
+use sv_files::KnownSizes;
 use sv_out::input::Input;
 use sv_out::order::Order;
 use sv_pools::Pools;
 use sv_runs::Runs;
+use sv_streams::Streams;
 
 /// The daemon's machine.
 #[derive(Drop)]
@@ -40,8 +42,10 @@ pub struct Machine {
     pub(crate) pools: Pools,
     /// The runs of the processes.
     pub(crate) runs: Runs,
-    /// The known size of each log file, in bytes.
-    pub(crate) sizes: Vec<(Text, u64)>,
+    /// What the runs wrote and isn't decided yet.
+    pub(crate) streams: Streams,
+    /// The known sizes of files, in bytes.
+    pub(crate) sizes: KnownSizes,
     /// The turn in hand.
     pub(crate) hand: Hand,
     /// Whether memory was refused in a step.
@@ -49,13 +53,13 @@ pub struct Machine {
 }
 
 impl Machine {
-    ghost use Rattle.sv_core.specs.Sizes.{rise};
+    ghost use Rattle.sv_files.specs.Sizes.{rise};
     ghost use Rattle.sv_core.specs.MachineState.{Model, opening, accepts, next, orders, hand, now};
     ghost use Rattle.sv_core.specs.StandsFor.{StandsFor, Takes, Notes, GoesOnWith, asked_by, has_halted, is_broken, is_fitting};
     ghost use Rattle.sv_core.specs.Turn.{is_asking};
 
     /// The machine of this configuration as the daemon begins: each child is stopped and was never started. `sizes` are
-    /// the known sizes of log files in bytes, by rising names.
+    /// the known sizes of files in bytes, by rising names; a log file that isn't among them begins at 0.
     pub fn new(
         alloc: Global,
         config: Config,
@@ -68,6 +72,7 @@ impl Machine {
         let children = Children::new(alloc, &config)?;
         let pools = Pools::new(alloc, children.roster())?;
         let runs = Runs::new(alloc, children.len())?;
+        let sizes = KnownSizes::new(&config, sizes)?;
         let course = Course {
             mood: Mood::Running,
             announced: false,
@@ -90,6 +95,7 @@ impl Machine {
             clock: Ticks::new(host.start),
             pools,
             runs,
+            streams: Streams::new(alloc),
             sizes,
             hand: Hand {
                 moment: host.start,

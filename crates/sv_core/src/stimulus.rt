@@ -31,7 +31,7 @@ impl Machine {
                 Ok(None)
             }
             Cause::PipeEnd(run, stream) => {
-                self.end_pipe(run, stream);
+                self.end_pipe(run, stream)?;
                 Ok(None)
             }
             Cause::Start(name) if self.course.mood == Mood::Running => {

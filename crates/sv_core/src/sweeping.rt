@@ -1,12 +1,13 @@
 //! News on their way over children, up to a question.
-ghost use Rattle.std.specs.Prelude.{◌≡◌, ◌-◌, List, IfOk, OnOk, slice_get};
+ghost use Rattle.std.specs.Prelude.{◌≡◌, ◌-◌, List, None, IfOk, OnOk, slice_get};
 ghost use Rattle.sv_children.specs.Crew.{member_at};
 ghost use Rattle.sv_children.specs.News.{deed_of, step_of, stimulus_of, stimulus_told};
-ghost use Rattle.sv_core.specs.Frames.{GivesOrders, Makes, MovesChildren, StartsRuns, Stops};
-ghost use Rattle.sv_core.specs.Moves.{answered, begins_as, comes, is_listener_of, kills, reported, says};
+ghost use Rattle.sv_core.specs.Frames.{GivesOrders, HearsListeners, Makes, MovesChildren, StartsRuns, Stops};
+ghost use Rattle.sv_core.specs.Moves.{answered, begins_as, begins_output, comes, is_listener_of, kills, reported, says};
 ghost use Rattle.sv_core.specs.StandsFor.{Shows, paused, stopped, swept};
-ghost use Rattle.sv_core.specs.Sweeps.{carries_out, spawns, does, is_time, is_unmoved, meets, sweeps};
+ghost use Rattle.sv_core.specs.Sweeps.{carries_out, spawns, does, does_noted, is_time, is_unmoved, meets, sweeps};
 ghost use Rattle.sv_core.specs.World.{World};
+ghost use Rattle.sv_lines.specs.EdgeLines.{how_of};
 ghost use Rattle.sv_out.specs.declared.order.Order.{Order};
 
 use crate::handing_out::is_up;
@@ -16,10 +17,12 @@ use crate::place::{Asked, Paused, Stop};
 use std::alloc::AllocError;
 use sv_base::ids::Run;
 use sv_base::signal::Signal;
+use sv_base::state::How;
 use sv_base::text::Text;
 use sv_child::step::{ChildDeed, Step};
 use sv_children::{News, Told};
 use sv_facts::pid_at;
+use sv_lines::{how_of, killing_at, spawned_at};
 use sv_out::order::Order;
 
 /// Whether the news are that time passes.
@@ -37,18 +40,19 @@ impl Machine {
     /// Its process had this number before.
     fn report(
         &mut self,
+        how: Option<How>,
         child: usize,
         pid: u32,
         step: Option<Step>,
     ) -> Result<Option<ChildDeed>, AllocError>
         ensures kept { GivesOrders self.old self.new }
-        ensures reports { OnOk result (Makes (reported child pid step) self.old self.new) }
+        ensures reports { OnOk result (Makes (reported how child pid step) self.old self.new) }
         ensures deed { IfOk result (λ deed. deed ≡ deed_of step) }
     {
         match step {
             None => Ok(None),
             Some(step) => {
-                self.go_edges(child, pid, &step.edges)?;
+                self.go_edges(&how, child, pid, &step.edges)?;
                 Ok(step.deed)
             }
         }
@@ -62,7 +66,7 @@ impl Machine {
     ) -> Result<Option<ChildDeed>, AllocError>
         ensures kept { MovesChildren self.old self.new }
         ensures moves { OnOk result
-            (Makes (comes (stimulus_of news.now) child) self.old self.new) }
+            (Makes (comes (how_of news.now) (stimulus_of news.now) child) self.old self.new) }
         ensures deed { IfOk result (λ deed. (older : List Order) (w : World)
             → Shows self.old older w
             → deed ≡ deed_of (step_of (says (stimulus_of news.now) child w))) }
@@ -71,7 +75,7 @@ impl Machine {
         let step = self
             .children
             .bring(child, news, self.course.mood, self.hand.moment);
-        let deed = self.report(child, pid, step)?;
+        let deed = self.report(how_of(news), child, pid, step)?;
         Ok(deed)
     }
 
@@ -91,13 +95,13 @@ impl Machine {
     fn tell_child(&mut self, asked: Asked, told: Told) -> Result<(), AllocError>
         ensures kept { MovesChildren self.old self.new }
         ensures told { OnOk result
-            (Makes (comes (stimulus_told asked.run told) asked.child) self.old self.new) }
+            (Makes (comes None (stimulus_told asked.run told) asked.child) self.old self.new) }
     {
         let pid = pid_at(&self.children, asked.child);
         let step = self
             .children
             .answer(asked.child, asked.run, told, self.hand.moment);
-        self.report(asked.child, pid, step)?;
+        self.report(None, asked.child, pid, step)?;
         Ok(())
     }
 
@@ -111,9 +115,32 @@ impl Machine {
         }
     }
 
-    /// The run of a process begins, where the number of its process was told.
+    /// The output of a run begins, as the configuration says of its process.
+    fn begin_output(&mut self, asked: Asked, pid: u32) -> Result<(), AllocError>
+        ensures kept { self.new ≡ record self.old { streams = self.new.streams } }
+        ensures begins { OnOk result
+            (Makes (begins_output asked.child asked.run pid) self.old self.new) }
+    {
+        match self.children.member(asked.child) {
+            None => Ok(()),
+            Some(member) => {
+                self.streams.begin(
+                    self.alloc,
+                    asked.run,
+                    asked.child,
+                    pid,
+                    member.spec.redirect_stderr,
+                    u64::from(member.spec.stdout.capture.get()),
+                    u64::from(member.spec.stderr.capture.get()),
+                )?;
+                Ok(())
+            }
+        }
+    }
+
+    /// The run of a process begins, where the number of its process was told, and the main log gets its line.
     fn begin_run(&mut self, asked: Asked, started: Option<u32>) -> Result<(), AllocError>
-        ensures kept { self.new ≡ record self.old { runs = self.new.runs } }
+        ensures kept { HearsListeners self.old self.new }
         ensures begins { OnOk result
             (Makes (begins_as asked.child asked.run started) self.old self.new) }
     {
@@ -121,8 +148,11 @@ impl Machine {
             None => Ok(()),
             Some(pid) => {
                 let is_listener = self.is_listener(asked.child);
+                let line = spawned_at(self.alloc, &self.children, asked.child, pid)?;
                 self.runs
                     .begin(self.alloc, asked.run, asked.child, pid, is_listener)?;
+                self.begin_output(asked, pid)?;
+                self.note_if(line)?;
                 Ok(())
             }
         }
@@ -208,6 +238,23 @@ impl Machine {
             return Ok(None);
         }
         let deed = self.bring(news, child)?;
+        let asked = self.act_noted(news, child, deed)?;
+        Ok(asked)
+    }
+
+    /// Does what is to be done for a child after its step, with its line in the main log before it.
+    fn act_noted(
+        &mut self,
+        news: &News,
+        child: usize,
+        deed: Option<ChildDeed>,
+    ) -> Result<Option<Asked>, AllocError>
+        ensures kept { StartsRuns self.old self.new }
+        ensures does { IfOk result (λ asked.
+            Stops (does_noted news.now deed child) (stopped asked) self.old self.new) }
+    {
+        let line = killing_at(self.alloc, news, deed, &self.children, child)?;
+        self.note_if(line)?;
         let asked = self.act(child, deed)?;
         Ok(asked)
     }

@@ -1,14 +1,10 @@
 -- The long header of a journal: the host, its environment by rising names, the known sizes of log files by rising names,
 -- the text of the configuration with those that it includes, and the start.
-use Rattle.std.specs.Prelude.{ℕ, List, [], ◌∷◌, ◌++◌, Bool, true, ◌&&◌, ◌||◌, ◌==◌, not, length}
+use Rattle.std.specs.Prelude.{ℕ, List, [], ◌∷◌, ◌++◌, Bool, true, ◌==◌, length}
 use Rattle.std.specs.Cmp.Lexicographic.{slice_cmp}
-use Rattle.std.specs.List.{list_all, list_any}
-use Rattle.std.specs.Option.{is_some}
 use Rattle.std.specs.Ordering.{nat_cmp, is_lt}
 use Rattle.sv_base.specs.declared.config.Config.{Config}
 use Rattle.sv_base.specs.declared.config.Host.{Host}
-use Rattle.sv_base.specs.declared.spec.GroupSpec.{GroupSpec}
-use Rattle.sv_base.specs.declared.spec.Spec.{Spec}
 
 -- the name stands behind that of the last entry, if there is one
 abbrev pub is_behind : {A : Type 0} → List ℕ → List (List ℕ × A) → Bool
@@ -28,14 +24,6 @@ with_variable host name value = record host { environment = host.environment ++ 
 abbrev pub starting_at : Host → ℕ → Host
 starting_at host start = record host { start = start }
 
--- a process has a log
-abbrev pub has_log : Spec → Bool
-has_log spec = is_some spec.stdout.file || is_some spec.stderr.file
-
--- no process of the group has one
-abbrev pub is_plain : GroupSpec → Bool
-is_plain group = not (list_any has_log group.members)
-
--- all its parts are built: it has no log file, neither the main log nor a child's, and no server
+-- all its parts are built: it has no server
 abbrev pub is_built : Config → Bool
-is_built config = not (is_some config.main.file) && list_all is_plain config.groups && (length config.servers == 0)
+is_built config = length config.servers == 0

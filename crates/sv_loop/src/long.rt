@@ -1,12 +1,11 @@
 //! The long header: its lines in their order, and the configuration that it holds.
 ghost use Rattle.std.specs.Prelude.{◌≡◌, ◌↔◌, ◌++◌, ◌∷◌, [], IsTrue, IsSome, IfOk, IfSome, length};
-ghost use Rattle.std.specs.List.{list_all, list_any};
 ghost use Rattle.sv_conf.specs.Configuration.{configuration_of};
-ghost use Rattle.sv_core.specs.Sizes.{rise};
+ghost use Rattle.sv_files.specs.Sizes.{rise};
 ghost use Rattle.sv_journal.specs.declared.header.Header.{Header};
 ghost use Rattle.sv_loop.specs.JournalPlaces.{begins, goes_on, long_heads, moved};
 ghost use Rattle.sv_loop.specs.Judging.{JudgedHead};
-ghost use Rattle.sv_loop.specs.LongHeader.{host_of, starting_at, is_built, is_plain, has_log};
+ghost use Rattle.sv_loop.specs.LongHeader.{host_of, starting_at, is_built};
 
 use crate::judge::{Judged, Place};
 use crate::sizes::{Sizes, is_behind};
@@ -15,7 +14,6 @@ use sv_base::bytes::Bytes;
 use sv_base::config::{Config, Host};
 use sv_base::items::Items;
 use sv_base::moment::Moment;
-use sv_base::spec::{GroupSpec, Spec};
 use sv_base::text::Text;
 use sv_conf::config::config;
 use sv_conf::fault::ConfFault;
@@ -227,35 +225,9 @@ fn begin(alloc: Global, host: &Host, sizes: Sizes, config: Config) -> Judged
     }
 }
 
-/// Whether each part of the configuration is built: it has no pool, no log file and no server.
+/// Whether each part of the configuration is built: it has no server.
 fn is_built(config: &Config) -> bool
     ensures { result ≡ is_built config.now }
 {
-    !config.main.file.is_some()
-        && are_plain(config.groups.as_slice())
-        && config.servers.as_slice().is_empty()
-}
-
-fn are_plain(groups: &[GroupSpec]) -> bool
-    ensures { result ≡ list_all is_plain groups.now }
-{
-    groups.iter().all(is_plain)
-}
-
-fn is_plain(group: &GroupSpec) -> bool
-    ensures { result ≡ is_plain group.now }
-{
-    !have_log(group.members.as_slice())
-}
-
-fn have_log(members: &[Spec]) -> bool
-    ensures { result ≡ list_any has_log members.now }
-{
-    members.iter().any(has_log)
-}
-
-fn has_log(spec: &Spec) -> bool
-    ensures { result ≡ has_log spec.now }
-{
-    spec.stdout.file.is_some() || spec.stderr.file.is_some()
+    config.servers.as_slice().is_empty()
 }

@@ -5,7 +5,11 @@
 #[cfg(test)]
 mod listener_tests;
 #[cfg(test)]
+mod log_tests;
+#[cfg(test)]
 mod long_tests;
+#[cfg(test)]
+mod main_log_tests;
 #[cfg(test)]
 mod order_tests;
 #[cfg(test)]

@@ -5,8 +5,9 @@ use Rattle.sv_children.specs.News.{stimulus_of}
 use Rattle.sv_core.proofs.Shown.{at_same, done_at}
 use Rattle.sv_core.proofs.Unmoved.{unmoved}
 use Rattle.sv_core.specs.Moves.{comes}
-use Rattle.sv_core.specs.Sweeps.{does, is_unmoved, meets}
+use Rattle.sv_core.specs.Sweeps.{does_noted, is_unmoved, meets}
 use Rattle.sv_core.specs.World.{World}
+use Rattle.sv_lines.specs.EdgeLines.{how_of}
 use Rattle.sv_core.proofs.machine.Machine.meet.Goals as goal
 
 pub returns-then-is_unmoved-clause-meets : goal.returns-then-is_unmoved-clause-meets
@@ -20,8 +21,9 @@ returns-then-is_unmoved-clause-meets c = λ older w k s.
 
 pub returns-clause-meets : goal.returns-clause-meets
 returns-clause-meets c = λ older w k s.
+    let news = c.args.news.now in
     let place = c.args.child in
-    let after = comes (stimulus_of c.args.news.now) place w in
-    at_same c.act.new.self older (meets c.args.news.now place w k) (does c.in_ok-deed.deed place after k) _
-    (ap (λ (deed : Option ChildDeed). does deed place after k) (sym (c.in_ok-deed.ensures.deed older w s)))
+    let after = comes (how_of news) (stimulus_of news) place w in
+    at_same c.act_noted.new.self older (meets news place w k) (does_noted news c.in_ok-deed.deed place after k) _
+    (ap (λ (deed : Option ChildDeed). does_noted news deed place after k) (sym (c.in_ok-deed.ensures.deed older w s)))
     (c.in_ok-asked.ensures.does older after k (c.in_ok-deed.ensures.moves older w s))

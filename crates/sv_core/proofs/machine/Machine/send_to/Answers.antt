@@ -9,8 +9,8 @@ use Rattle.sv_runs.specs.RunBook.{sent}
 use Rattle.sv_core.proofs.machine.Machine.send_to.Goals as goal
 
 pub returns-then-is_sent-clause-sends : goal.returns-then-is_sent-clause-sends
-returns-then-is_sent-clause-sends c = made (sends_to c.args.run c.args.child) c.args.self.now _ (λ older pools runs kept alive.
-    let w = shown c.args.self.now older pools runs in
+returns-then-is_sent-clause-sends c = made (sends_to c.args.run c.args.child) c.args.self.now _ (λ older pools runs streams kept alive written.
+    let w = shown c.args.self.now older pools runs streams in
     let run = c.in-Some.run' in
     let id = c.id_of.ensures in
     let handing = c.in_ok-is_sent-in-Some.ensures in
@@ -26,11 +26,13 @@ returns-then-is_sent-clause-sends c = made (sends_to c.args.run c.args.child) c.
       is = sends_there w older c.args.self.now.hand.given.items _ _ _ _ refl orders;
       pools_kept = subst (λ (i : ℕ). kept_pools.StandsFor c.hand_to.new.self (handed i pools)) id (handing.handed pools kept);
       runs_kept = c.sent.ensures runs alive;
+      streams = streams;
+      streams_kept = written;
     })))
 
 pub returns-else-is_sent-clause-sends : goal.returns-else-is_sent-clause-sends
-returns-else-is_sent-clause-sends c = made (sends_to c.args.run c.args.child) c.args.self.now _ (λ older pools runs kept alive.
-    let w = shown c.args.self.now older pools runs in
+returns-else-is_sent-clause-sends c = made (sends_to c.args.run c.args.child) c.args.self.now _ (λ older pools runs streams kept alive written.
+    let w = shown c.args.self.now older pools runs streams in
     let run = c.in-Some.run' in
     let id = c.id_of.ensures in
     let handing = c.in_ok-is_sent-in-Some.ensures in
@@ -46,4 +48,6 @@ returns-else-is_sent-clause-sends c = made (sends_to c.args.run c.args.child) c.
       is = sends_there w older c.args.self.now.hand.given.items _ _ _ _ refl orders;
       pools_kept = subst (λ (i : ℕ). kept_pools.StandsFor c.hand_to.new.self (handed i pools)) id (handing.handed pools kept);
       runs_kept = alive;
+      streams = streams;
+      streams_kept = written;
     })))

@@ -1,4 +1,4 @@
-use Rattle.std.proofs.Common.{sym}
+use Rattle.std.proofs.Common.{None, sym}
 use Rattle.sv_children.specs.News.{stimulus_told}
 use Rattle.sv_core.proofs.Shown.{came_there, children_there, made}
 use Rattle.sv_core.specs.Moves.{changed, comes, says}
@@ -9,10 +9,10 @@ pub returns-clause-told : goal.returns-clause-told
 returns-clause-told c =
     let place = c.args.asked.child in
     let stimulus = stimulus_told c.args.asked.run c.args.told in
-    made (comes stimulus place) c.args.self.now c.report.new.self (λ older pools runs kept alive.
-    let w = shown c.args.self.now older pools runs in
+    made (comes None stimulus place) c.args.self.now c.report.new.self (λ older pools runs streams kept alive written.
+    let w = shown c.args.self.now older pools runs streams in
     let mood = c.args.self.now.course.mood in
-    came_there c.report.new.self older place stimulus w c.pid_at-pid.result c.answer-step.result
+    came_there c.report.new.self older None place stimulus w c.pid_at-pid.result c.answer-step.result
     c.pid_at-pid.ensures (c.answer-step.ensures.step mood)
     (c.in_ok-report.ensures.reports older (changed place (says stimulus place w) w)
-    (record { pools = pools; runs = runs; is = children_there w _ _ (sym (c.answer-step.ensures.after mood)); pools_kept = kept; runs_kept = alive })))
+    (record { pools = pools; runs = runs; is = children_there w _ _ (sym (c.answer-step.ensures.after mood)); pools_kept = kept; runs_kept = alive; streams = streams; streams_kept = written })))

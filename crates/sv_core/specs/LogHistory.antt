@@ -1,0 +1,23 @@
+-- What was logged: each piece that was added to a log, and the orders that carry it out (the manual's chapter on logging).
+use Rattle.std.specs.Prelude.{◌≡◌, ℕ, List, Bool, true, false, filter}
+use Rattle.sv_base.specs.declared.config.Config.{Config}
+use Rattle.sv_base.specs.declared.spec.LogSpec.{LogSpec}
+use Rattle.sv_core.specs.MachineState.{Model, now}
+use Rattle.sv_files.specs.Logging.{all_logged, all_orders}
+use Rattle.sv_files.specs.Opening.{opening_sizes}
+use Rattle.sv_out.specs.declared.order.Order.{Order}
+use Rattle.sv_out.specs.declared.order.Order.TheVariants as order
+
+-- an order about the files of logs
+abbrev pub is_of_logs : Order → Bool
+is_of_logs (order.Append file bytes) = true
+is_of_logs (order.Shift from to) = true
+is_of_logs (order.Fresh file) = true
+is_of_logs other = false
+
+-- these pieces were logged, one after the other, each to its log: the orders about files are those of it, in order, and the
+-- known sizes are those behind it
+pub record LogsHaveAHistory (config : Config) (told : List (List ℕ × ℕ)) (m : Model) (given : List Order) : Type 0 where
+  pub all : List (LogSpec × List ℕ)
+  pub sizes : (now m).sizes ≡ all_logged all (opening_sizes config told)
+  pub orders : filter is_of_logs given ≡ all_orders all (opening_sizes config told)
