@@ -6,11 +6,10 @@ use std::alloc::{AllocError, Global};
 use std::rt::Clock;
 use std::time::Instant;
 use std::{env, io};
-use sv_base::{
-    Autorestart, Backups, CaptureBytes, ClientSpec, Config, GroupSpec, Groups, Items, Level,
-    LogSpec, Moment, Mood, Retries, Seconds, Signal, Spec, State, Text,
-};
+use sv_base::{Config, Host, Items, Moment, Mood, State, Text};
 use sv_child::child::Child;
+use sv_conf::config::config;
+use sv_conf::fault::ConfFault;
 use sv_groups::Roster;
 use sv_methods::{Planned, Stand, plan};
 use sv_xmlcall::call::Call;
@@ -23,8 +22,18 @@ const ROUNDS: u64 = 40;
 /// How many times one process is told of.
 const TIMES: u64 = 10_000;
 
-/// How many processes a group has.
-const MEMBERS: u32 = 10;
+/// The section by which the methods are there.
+const METHODS: &str = "[rpcinterface:supervisor]
+supervisor.rpcinterface_factory=supervisor.rpcinterface:make_main_rpcinterface
+";
+
+/// The keys of a program with ten processes.
+const KEYS: &str = "command=/bin/worker
+numprocs=10
+process_name=worker_%(process_num)02d
+stdout_logfile=/var/log/worker.log
+stderr_logfile=/var/log/worker.err
+";
 
 /// All of what a stand borrows.
 #[derive(Drop)]
@@ -41,94 +50,51 @@ fn main(rt: HostRuntime) -> io::Result<()> {
         return Ok(());
     }
     let alloc = rt.alloc();
-    let large = world_of(alloc, 100)?;
-    let small = world_of(alloc, 1)?;
-    let all = answering_all(&rt, alloc, &large)?;
-    let one_of_many = answering_one(&rt, alloc, &large, "g099:worker_09")?;
-    let one_of_few = answering_one(&rt, alloc, &small, "g000:worker_09")?;
-    println!(rt; "{all} {one_of_many} {one_of_few}")?;
-    let reply = reply_to(
-        alloc,
-        &large,
-        &call(alloc, "supervisor.getAllProcessInfo", None)?,
-    )?;
+    match world_of(alloc, 100) {
+        Ok(large) => with_many(&rt, alloc, &large),
+        Err(fault) => println!(rt; "{fault}"),
+    }
+}
+
+/// Prints the times of the answers where there are many processes and where there are few, and the reply that tells of many.
+fn with_many(rt: &HostRuntime, alloc: Global, large: &World) -> io::Result<()> {
+    let all = answering_all(rt, alloc, large)?;
+    let of_many = answering_one(rt, alloc, large, "g099:worker_09")?;
+    match world_of(alloc, 1) {
+        Ok(small) => {
+            let of_few = answering_one(rt, alloc, &small, "g000:worker_09")?;
+            println!(rt; "{all} {of_many} {of_few}")?;
+        }
+        Err(fault) => println!(rt; "{fault}")?,
+    }
+    print_reply(rt, alloc, large)
+}
+
+fn print_reply(rt: &HostRuntime, alloc: Global, world: &World) -> io::Result<()> {
+    let call = call(alloc, "supervisor.getAllProcessInfo", None)?;
+    let reply = reply_to(alloc, world, &call)?;
     let text = String::from_utf8_lossy(alloc, reply.as_slice())?;
-    println!(rt; "{}", text.as_str())?;
-    Ok(())
+    println!(rt; "{}", text.as_str())
 }
 
-fn log(alloc: Global, file: &str) -> Result<LogSpec, AllocError> {
-    Ok(LogSpec {
-        file: Some(Text::from_str(alloc, file)?),
-        maxbytes: 0,
-        backups: Backups::least(),
-        capture: CaptureBytes::least(),
-        events: false,
-    })
+/// A configuration with so many groups of ten processes.
+fn text(alloc: Global, groups: u32) -> Result<String, AllocError> {
+    let mut text = String::from_str(alloc, METHODS)?;
+    for number in 0..groups {
+        write!(text, "[program:g{number:03}]\n")?;
+        text.push_str(KEYS)?;
+    }
+    Ok(text)
 }
 
-fn spec(alloc: Global, group: &str, member: u32) -> Result<Spec, AllocError> {
-    let name = Text::from_string(format!(in alloc; "worker_{:02}", member)?);
-    Ok(Spec {
-        group: Text::from_str(alloc, group)?,
-        name,
-        words: Items::new(alloc),
-        priority: 999,
-        autostart: true,
-        startsecs: Seconds::least(),
-        startretries: Retries::least(),
-        autorestart: Autorestart::Unexpected,
-        exitcodes: Items::new(alloc),
-        stopsignal: Signal::Term,
-        stopwaitsecs: Seconds::least(),
-        stopasgroup: false,
-        killasgroup: false,
-        redirect_stderr: false,
-        stdout: log(alloc, "/var/log/worker.log")?,
-        stderr: log(alloc, "/var/log/worker.err")?,
+fn host(alloc: Global) -> Host {
+    Host {
+        name: Text::fixed("box"),
+        here: Text::fixed("/etc"),
+        pid: 1,
         environment: Items::new(alloc),
-        directory: Text::fixed(""),
-        umask: Text::fixed(""),
-        user: Text::fixed(""),
-    })
-}
-
-fn group(alloc: Global, number: u32) -> Result<GroupSpec, AllocError> {
-    let name = format!(in alloc; "g{:03}", number)?;
-    let mut members = Items::new(alloc);
-    for member in 0..MEMBERS {
-        members.push(spec(alloc, name.as_str(), member)?)?;
+        start: Moment::zero(),
     }
-    Ok(GroupSpec {
-        name: Text::from_string(name),
-        priority: 999,
-        members,
-        pool: None,
-    })
-}
-
-fn groups(alloc: Global, count: u32) -> Result<Groups, AllocError> {
-    let mut groups = Vec::new(alloc);
-    for number in 0..count {
-        groups.push(group(alloc, number)?)?;
-    }
-    Ok(Groups::new(groups).unwrap_or(Groups::none(alloc)))
-}
-
-fn config(alloc: Global, groups: Groups) -> Result<Config, AllocError> {
-    Ok(Config {
-        identifier: Text::fixed("supervisor"),
-        main: log(alloc, "/var/log/supervisord.log")?,
-        level: Level::Info,
-        groups,
-        servers: Items::new(alloc),
-        client: ClientSpec {
-            url: Text::fixed(""),
-            username: Text::fixed(""),
-            password: Text::fixed(""),
-        },
-        rpc: true,
-    })
 }
 
 /// A child that is up.
@@ -145,8 +111,9 @@ fn moment(milliseconds: u64) -> Moment {
 }
 
 /// So many groups of ten processes, all of which are up for 12 minutes and 34 seconds.
-fn world_of(alloc: Global, count: u32) -> Result<World, AllocError> {
-    let config = config(alloc, groups(alloc, count)?)?;
+fn world_of(alloc: Global, groups: u32) -> Result<World, ConfFault> {
+    let text = text(alloc, groups)?;
+    let config = config(alloc, text.as_bytes(), &[], &host(alloc))?;
     let roster = Roster::new(alloc, &config)?;
     let mut children = Vec::new(alloc);
     for _ in 0..roster.count() {
