@@ -6,6 +6,8 @@ mod disk;
 mod listing;
 mod sockets;
 mod streams;
+#[cfg(test)]
+mod tests;
 
 pub use disk::OsShelf;
 pub use sockets::{OsDial, OsLink};

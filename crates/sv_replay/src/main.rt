@@ -1,15 +1,13 @@
 //! `sv_replay run`: a recorded journal from standard input through the daemon's machine, its orders to standard output.
 #![tactic(auto)]
 
-mod adapters;
-
-use adapters::{Reading, Writing};
 use std::alloc::{AllocError, Global};
 use std::io::ErrorKind;
 use std::process::ExitCode;
 use std::{env, io};
 use sv_base::text::Text;
 use sv_loop::replay::replay;
+use sv_os::{ReadSource, WriteSink};
 
 fn main(rt: HostRuntime) -> ExitCode {
     let words = match env::args(&rt) {
@@ -19,8 +17,8 @@ fn main(rt: HostRuntime) -> ExitCode {
     let Ok(words) = words else {
         return ExitCode::from(3);
     };
-    let mut source = Reading::new(rt.reader());
-    let mut sink = Writing::new(io::writer(&rt));
+    let mut source = ReadSource::new(rt.reader());
+    let mut sink = WriteSink::new(io::writer(&rt));
     ExitCode::from(replay(rt.alloc(), words.as_slice(), &mut source, &mut sink))
 }
 

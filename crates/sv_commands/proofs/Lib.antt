@@ -1,0 +1,4 @@
+mod Appended
+mod Findings
+mod OneByOne
+mod StepLists

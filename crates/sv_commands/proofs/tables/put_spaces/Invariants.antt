@@ -1,0 +1,10 @@
+use Rattle.std.proofs.Common.{◌≡◌, ◌++◌, ◌∷◌, []}
+use Rattle.std.specs.List.{repeat}
+use Rattle.sv_commands.proofs.tables.put_spaces.Given as goal
+
+abbrev pub invariant-loop-left : goal.invariant-loop-left
+invariant-loop-left l =
+    l.out.items ++ repeat l.left (32 ∷ []) ≡ l.initial.out.items ++ repeat l.count (32 ∷ [])
+
+abbrev pub decreases-loop-left : goal.decreases-loop-left
+decreases-loop-left l = l.left

@@ -1,0 +1,10 @@
+//! What an answer prints.
+use crate::status::Status;
+use sv_base::Bytes;
+
+/// What an answer prints, and the status that it asks for.
+#[derive(Debug, Drop)]
+pub struct Shown {
+    pub text: Bytes,
+    pub status: Status,
+}

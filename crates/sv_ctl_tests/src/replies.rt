@@ -1,0 +1,152 @@
+//! Replies, written as short texts.
+ghost use Rattle.std.specs.Prelude.{◌≤◌};
+
+use std::alloc::{AllocError, Global};
+use std::collections::VecDeque;
+use sv_out::{Script, ScriptDial};
+
+/// A value: `true`, `false`, a number as `#` and its digits, a text as `'` and itself, the struct of a process's number as
+/// `@` and its digits, rows as `[` and processes as `{`, the parts of each with `/` between them and each with `;` behind.
+fn put_value(out: &mut String, text: &str) -> Result<(), AllocError> {
+    if text == "true" {
+        return out.push_str("<value><boolean>1</boolean></value>");
+    }
+    if text == "false" {
+        return out.push_str("<value><boolean>0</boolean></value>");
+    }
+    if let Some(digits) = text.strip_prefix('#') {
+        return put_typed(out, "int", digits);
+    }
+    if let Some(content) = text.strip_prefix('\'') {
+        return put_typed(out, "string", content);
+    }
+    if let Some(digits) = text.strip_prefix('@') {
+        out.push_str("<value><struct>")?;
+        put_member(out, "pid", "int", digits)?;
+        return out.push_str("</struct></value>");
+    }
+    if let Some(rows) = text.strip_prefix('[') {
+        return put_structs(out, rows, "status", "int");
+    }
+    if let Some(processes) = text.strip_prefix('{') {
+        return put_structs(out, processes, "statename", "string");
+    }
+    Ok(())
+}
+
+fn put_typed(out: &mut String, tag: &str, content: &str) -> Result<(), AllocError> {
+    out.push_str("<value><")?;
+    out.push_str(tag)?;
+    out.push('>')?;
+    out.push_str(content)?;
+    out.push_str("</")?;
+    out.push_str(tag)?;
+    out.push_str("></value>")
+}
+
+fn put_member(out: &mut String, name: &str, tag: &str, content: &str) -> Result<(), AllocError> {
+    out.push_str("<member><name>")?;
+    out.push_str(name)?;
+    out.push_str("</name>")?;
+    put_typed(out, tag, content)?;
+    out.push_str("</member>")
+}
+
+fn put_structs(out: &mut String, text: &str, third: &str, tag: &str) -> Result<(), AllocError> {
+    out.push_str("<value><array><data>")?;
+    let mut left = text;
+    while let Some(cut) = left.split_once(';') {
+        put_struct(out, cut.0, third, tag)?;
+        left = cut.1;
+    }
+    out.push_str("</data></array></value>")
+}
+
+/// A group, a name, a third member and what is said of it.
+fn put_struct(out: &mut String, text: &str, third: &str, tag: &str) -> Result<(), AllocError> {
+    out.push_str("<value><struct>")?;
+    let mut left = text;
+    for (name, tag) in [
+        ("group", "string"),
+        ("name", "string"),
+        (third, tag),
+        ("description", "string"),
+    ] {
+        if let Some((part, rest)) = left.split_once('/') {
+            put_member(out, name, tag, part)?;
+            left = rest;
+        }
+    }
+    out.push_str("</struct></value>")
+}
+
+fn body_of(alloc: Global, text: &str) -> Result<String, AllocError> {
+    let mut out = String::from_str(alloc, "<methodResponse>")?;
+    match text.strip_prefix('!') {
+        Some(number) => {
+            out.push_str("<fault><value><struct>")?;
+            put_member(&mut out, "faultCode", "int", number)?;
+            put_member(&mut out, "faultString", "string", "x")?;
+            out.push_str("</struct></value></fault>")?;
+        }
+        None => {
+            out.push_str("<params><param>")?;
+            put_value(&mut out, text)?;
+            out.push_str("</param></params>")?;
+        }
+    }
+    out.push_str("</methodResponse>")?;
+    Ok(out)
+}
+
+/// The bytes of a reply: a body with status 200, or a status behind `?`, or after `=` the bytes themselves, in which `^`
+/// stands for CR LF.
+pub(crate) fn reply_of(alloc: Global, text: &str) -> Result<String, AllocError> {
+    if let Some(raw) = text.strip_prefix('=') {
+        let mut out = String::new(alloc);
+        for part in raw.chars() {
+            match part {
+                '^' => out.push_str("\r\n")?,
+                part => out.push(part)?,
+            }
+        }
+        return Ok(out);
+    }
+    if let Some(status) = text.strip_prefix('?') {
+        return Ok(format!(in alloc; "HTTP/1.1 {status} No\r\nContent-Length: 0\r\n\r\n")?);
+    }
+    let body = body_of(alloc, text)?;
+    let size = body.as_str().len();
+    Ok(format!(in alloc; "HTTP/1.1 200 OK\r\nContent-Length: {size}\r\n\r\n{body}")?)
+}
+
+/// A dial whose links give the replies of a text in turn, each behind a bar, so many bytes at a time at most. The calls of
+/// the dial and those of each link that are to fail are told by their numbers.
+pub(crate) fn dial_of(
+    alloc: Global,
+    replies: &str,
+    most: usize,
+    dials: u64,
+    links: u64,
+) -> Result<ScriptDial, AllocError>
+    requires { 1 ≤ most }
+{
+    let mut scripts = VecDeque::new(alloc);
+    let mut left = replies;
+    while let Some(cut) = left.split_once('|') {
+        let reply = reply_of(alloc, cut.0)?;
+        let bytes = Vec::from_slice(alloc, reply.as_str().as_bytes())?;
+        scripts.push_back(Script::new(bytes, most, one_call(alloc, links)?))?;
+        left = cut.1;
+    }
+    Ok(ScriptDial::new(alloc, scripts, one_call(alloc, dials)?))
+}
+
+/// A list of one call, or of none where its number is 0.
+pub(crate) fn one_call(alloc: Global, call: u64) -> Result<Vec<u64>, AllocError> {
+    let mut calls = Vec::new(alloc);
+    if 0 < call {
+        calls.push(call)?;
+    }
+    Ok(calls)
+}

@@ -1,0 +1,4 @@
+mod Visible
+mod Lines
+mod Fields
+mod Requests

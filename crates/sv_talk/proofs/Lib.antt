@@ -1,0 +1,7 @@
+mod Causes
+mod Slices
+mod Doings
+mod Calls
+mod Hearing
+mod Lines
+mod WordLists

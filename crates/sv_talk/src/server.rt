@@ -1,0 +1,9 @@
+//! The server that is asked.
+use sv_base::{ClientSpec, Place};
+
+/// The server that is asked: where it is, and its URL with the username and the password.
+#[derive(Debug, Drop)]
+pub struct Server {
+    pub place: Place,
+    pub client: ClientSpec,
+}
