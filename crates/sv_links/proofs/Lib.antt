@@ -1,0 +1,9 @@
+pub mod Accounts
+pub mod Books
+pub mod Changes
+pub mod Counts
+pub mod Listed
+pub mod Opened
+pub mod Readings
+pub mod Streams
+pub mod Unchanged

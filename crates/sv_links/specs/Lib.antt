@@ -1,0 +1,3 @@
+pub mod LinkBook
+pub mod LinkDeeds
+pub mod StandsFor
