@@ -54,10 +54,10 @@ fn put_member(out: &mut String, name: &str, tag: &str, content: &str) -> Result<
 
 fn put_structs(out: &mut String, text: &str, third: &str, tag: &str) -> Result<(), AllocError> {
     out.push_str("<value><array><data>")?;
-    let mut left = text;
-    while let Some(cut) = left.split_once(';') {
-        put_struct(out, cut.0, third, tag)?;
-        left = cut.1;
+    for part in text.split(';') {
+        if !part.is_empty() {
+            put_struct(out, part, third, tag)?;
+        }
     }
     out.push_str("</data></array></value>")
 }
@@ -65,19 +65,20 @@ fn put_structs(out: &mut String, text: &str, third: &str, tag: &str) -> Result<(
 /// A group, a name, a third member and what is said of it.
 fn put_struct(out: &mut String, text: &str, third: &str, tag: &str) -> Result<(), AllocError> {
     out.push_str("<value><struct>")?;
-    let mut left = text;
-    for (name, tag) in [
-        ("group", "string"),
-        ("name", "string"),
-        (third, tag),
-        ("description", "string"),
-    ] {
-        if let Some((part, rest)) = left.split_once('/') {
-            put_member(out, name, tag, part)?;
-            left = rest;
-        }
-    }
+    let mut parts = text.strip_suffix('/').unwrap_or(text).split('/');
+    put_part(out, "group", "string", parts.next())?;
+    put_part(out, "name", "string", parts.next())?;
+    put_part(out, third, tag, parts.next())?;
+    put_part(out, "description", "string", parts.next())?;
     out.push_str("</struct></value>")
+}
+
+/// A member, where something is said of it.
+fn put_part(out: &mut String, name: &str, tag: &str, part: Option<&str>) -> Result<(), AllocError> {
+    match part {
+        Some(part) => put_member(out, name, tag, part),
+        None => Ok(()),
+    }
 }
 
 fn body_of(alloc: Global, text: &str) -> Result<String, AllocError> {
@@ -132,12 +133,12 @@ pub(crate) fn dial_of(
     requires { 1 ≤ most }
 {
     let mut scripts = VecDeque::new(alloc);
-    let mut left = replies;
-    while let Some(cut) = left.split_once('|') {
-        let reply = reply_of(alloc, cut.0)?;
-        let bytes = Vec::from_slice(alloc, reply.as_str().as_bytes())?;
-        scripts.push_back(Script::new(bytes, most, one_call(alloc, links)?))?;
-        left = cut.1;
+    for part in replies.split('|') {
+        if !part.is_empty() {
+            let reply = reply_of(alloc, part)?;
+            let bytes = Vec::from_slice(alloc, reply.as_str().as_bytes())?;
+            scripts.push_back(Script::new(bytes, most, one_call(alloc, links)?))?;
+        }
     }
     Ok(ScriptDial::new(alloc, scripts, one_call(alloc, dials)?))
 }

@@ -2,7 +2,10 @@
 
 /// Words of a command, the replies (each behind a bar), the methods that are called, the status, and what is printed, in
 /// which `~` stands for a line feed. The words begin with `-s http://h:1`.
-pub(crate) const COMMANDS: [(&str, &str, &str, u8, &str); 91] = [
+pub(crate) type Row = (&'static str, &'static str, &'static str, u8, &'static str);
+
+/// The commands.
+pub(crate) const COMMANDS: [Row; 91] = [
     (
         "status",
         "{cat/cat/RUNNING/pid 12, uptime 0:00:05/;|",

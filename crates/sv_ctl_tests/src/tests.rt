@@ -2,8 +2,9 @@
 ghost use Rattle.std.specs.Prelude.{◌≤◌};
 
 use crate::replies::{dial_of, one_call};
-use crate::sessions::{COMMANDS, FAILURES, OPTIONS, TALKS};
+use crate::sessions::{COMMANDS, FAILURES, OPTIONS, Row, TALKS};
 use std::alloc::{AllocError, Global};
+use std::process::Abort;
 use sv_base::{Bytes, Host, Items, Moment, Text};
 use sv_ctl::control;
 use sv_out::sink::{ListSink, Sink};
@@ -158,26 +159,50 @@ fn methods_of(alloc: Global, came: &Came) -> Result<String, AllocError> {
     Ok(out)
 }
 
+/// A command with these words, whose replies come so many bytes at a time at most.
+fn command_comes(alloc: Global, words: &str, replies: &str, most: usize) -> Result<Came, AllocError>
+    requires { 1 ≤ most }
+{
+    let line = format!(in alloc; "-s http://h:1 {words}")?;
+    come(alloc, line.as_str(), "", replies, most, NONE)
+}
+
+/// What a command came to, as a line: its status, what is printed, and behind a bar the methods that were called and the
+/// count of faults.
+fn command_told(alloc: Global, came: &Came) -> Result<String, AllocError> {
+    let line = told(alloc, came)?;
+    let methods = methods_of(alloc, came)?;
+    let faults = came.dial.faults().saturating_add(came.out.faults());
+    Ok(format!(in alloc; "{line}|{methods}|{faults}")?)
+}
+
+/// What is expected of a command.
+fn command_expected(
+    alloc: Global,
+    status: u8,
+    text: &str,
+    methods: &str,
+) -> Result<String, AllocError> {
+    let line = expected(alloc, status, text)?;
+    Ok(format!(in alloc; "{line}|{methods}|0")?)
+}
+
+/// A command comes to what its row says, in whatever pieces its replies come.
+fn command_is(rt: &impl Abort, alloc: Global, row: &Row) {
+    let (words, replies, methods, status, text) = *row;
+    let wanted = command_expected(alloc, status, text, methods).expect(rt, "ample memory");
+    for most in [1, 100_000] {
+        let came = command_comes(alloc, words, replies, most).expect(rt, "ample memory");
+        let line = command_told(alloc, &came).expect(rt, "ample memory");
+        assert_eq!(rt; line.as_str(), wanted.as_str(), "{words}");
+    }
+}
+
 #[test]
 fn commands_come_to_this(rt: HostRuntime) {
     let alloc = rt.alloc();
-    for (words, replies, methods, status, text) in COMMANDS {
-        let wanted = expected(alloc, status, text).expect(&rt, "ample memory");
-        for most in [1, 100_000] {
-            let line = format!(in alloc; "-s http://h:1 {words}").expect(&rt, "ample memory");
-            let came = come(alloc, line.as_str(), "", replies, most, NONE).expect(
-                &rt,
-                "ample memory",
-            );
-            let line = told(alloc, &came).expect(&rt, "ample memory");
-            assert_eq!(&rt; line.as_str(), wanted.as_str(), "{words}");
-            let called = methods_of(alloc, &came).expect(&rt, "ample memory");
-            assert_eq!(&rt; called.as_str(), methods, "{words}");
-            assert!(&rt;
-                came.dial.faults() == 0 && came.out.faults() == 0,
-                "{words}"
-            );
-        }
+    for row in &COMMANDS {
+        command_is(&rt, alloc, row);
     }
 }
 

@@ -176,13 +176,13 @@ fn happens(
             let mut told = String::new(alloc);
             let line = spawned_at(alloc, children, 0, number).expect(rt, "memory");
             push(rt, &mut told, line);
-            tell(rt, alloc, children, None, step, &mut told);
+            tell(rt, alloc, children, &None, step, &mut told);
             assert_eq!(rt; told.as_str(), lines);
         }
         "refused" => {
             let step = children.answer(0, run, Told::NotStarted(Text::fixed("no room")), now);
             let mut told = String::new(alloc);
-            tell(rt, alloc, children, None, step, &mut told);
+            tell(rt, alloc, children, &None, step, &mut told);
             assert_eq!(rt; told.as_str(), lines);
         }
         _ => {}
@@ -200,7 +200,7 @@ fn comes(
 ) {
     let step = children.bring(0, news, Mood::Running, now);
     let mut told = String::new(alloc);
-    tell(rt, alloc, children, how_of(news), step, &mut told);
+    tell(rt, alloc, children, &how_of(news), step, &mut told);
     let deed = step.and_then(|step| step.deed);
     let line = killing_at(alloc, news, deed, children, 0).expect(rt, "memory");
     push(rt, &mut told, line);
@@ -212,7 +212,7 @@ fn tell(
     rt: &impl Abort,
     alloc: Global,
     children: &Children,
-    how: Option<How>,
+    how: &Option<How>,
     step: Option<Step>,
     told: &mut String,
 ) {
@@ -220,7 +220,7 @@ fn tell(
         let edges: &[Option<Edge>] = &step.edges;
         for edge in edges {
             if let Some(edge) = edge {
-                let line = line_at(alloc, children, 0, how, *edge).expect(rt, "memory");
+                let line = line_at(alloc, children, 0, *how, *edge).expect(rt, "memory");
                 push(rt, told, line);
             }
         }
