@@ -113,7 +113,8 @@ impl Machine {
         edges: &[Option<Edge>],
     ) -> Result<(), AllocError>
         ensures kept { GivesOrders self.old self.new }
-        ensures goes { OnOk result (Makes (goes_edges how.now child pid edges.now) self.old self.new) }
+        ensures goes { OnOk result
+            (Makes (goes_edges how.now child pid edges.now) self.old self.new) }
     {
         for edge in edges {
             self.go_edge_if(*how, child, pid, *edge)?;

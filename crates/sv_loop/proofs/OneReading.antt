@@ -16,8 +16,8 @@ use Rattle.sv_loop.specs.Reading.{has_feed, IsRead, IsWhole, OutsideGrammar, Not
 use Rattle.sv_loop.specs.Replaying.{EndsTooEarly, IsBeforeGo, Replays, TellsWhy, journal_limit, status_number}
 use Rattle.sv_loop.specs.WholeJournal.{HoldsGoodJournal, IsDoneOrHindered}
 use Rattle.sv_loop.specs.WholeJournal.IsDoneOrHindered.{Is_done, Source_failed, Words_refused, No_memory, Sink_failed}
-use Rattle.sv_loop.specs.declared.replay.Status.{Status}
-use Rattle.sv_loop.specs.declared.replay.Status.TheVariants as status
+use Rattle.sv_loop.specs.declared.replaying.Status.{Status}
+use Rattle.sv_loop.specs.declared.replaying.Status.TheVariants as status
 use Rattle.sv_out.specs.declared.order.Order.{Order}
 
 pub plain_line : (line : Line) → FitsLine line → has_feed (line_text line) ≡ false

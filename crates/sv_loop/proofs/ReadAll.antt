@@ -7,8 +7,8 @@ use Rattle.sv_loop.specs.JournalPlaces.{Line, Stage}
 use Rattle.sv_loop.specs.Reading.{IsAt, GoesOn, StopsAt}
 use Rattle.sv_loop.specs.Replaying.{Taken, ReadOn, ReadsOn, Ended}
 use Rattle.sv_loop.specs.Telling.{IsBehind}
-use Rattle.sv_loop.specs.declared.replay.Ending.{Ending}
-use Rattle.sv_loop.specs.declared.replay.Ending.TheVariants.{Whole, Broken, Full, Stopped}
+use Rattle.sv_loop.specs.declared.replaying.Ending.{Ending}
+use Rattle.sv_loop.specs.declared.replaying.Ending.TheVariants.{Whole, Broken, Full, Stopped}
 use Rattle.sv_loop.specs.declared.run.End.{End}
 use Rattle.sv_loop.specs.declared.run.Run.{Run}
 use Rattle.sv_out.specs.declared.order.Order.{Order}

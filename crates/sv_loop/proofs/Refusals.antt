@@ -15,8 +15,8 @@ use Rattle.sv_loop.specs.Reading.{has_feed, IsRead, OutsideGrammar, NotAccepted}
 use Rattle.sv_loop.specs.Replaying.{EndsTooEarly, Replays, TellsWhy, journal_limit, status_number}
 use Rattle.sv_loop.specs.WholeJournal.{HoldsUnconfigured, IsUnconfiguredOrHindered}
 use Rattle.sv_loop.specs.WholeJournal.IsUnconfiguredOrHindered.{Is_unconfigured, Source_failed, Words_refused, No_memory, Sink_failed}
-use Rattle.sv_loop.specs.declared.replay.Status.{Status}
-use Rattle.sv_loop.specs.declared.replay.Status.TheVariants as status
+use Rattle.sv_loop.specs.declared.replaying.Status.{Status}
+use Rattle.sv_loop.specs.declared.replaying.Status.TheVariants as status
 use Rattle.sv_out.specs.declared.order.Order.{Order}
 
 -- at this place a header ends whose configuration isn't run

@@ -15,10 +15,10 @@ use Rattle.sv_loop.specs.Replaying.IsClosing.{Nothing_more, Of_source, Of_length
 use Rattle.sv_loop.specs.Telling.{IsRunning, Tells, TellsLine, TellsOf, TellsOfLine, TellsOfWhole}
 use Rattle.sv_loop.specs.declared.judge.Place.{Place}
 use Rattle.sv_loop.specs.declared.judge.Place.TheVariants as place_is
-use Rattle.sv_loop.specs.declared.replay.Ending.{Ending}
-use Rattle.sv_loop.specs.declared.replay.Ending.TheVariants.{Whole, Broken, Full, Stopped}
-use Rattle.sv_loop.specs.declared.replay.Status.{Status}
-use Rattle.sv_loop.specs.declared.replay.Status.TheVariants as status_is
+use Rattle.sv_loop.specs.declared.replaying.Ending.{Ending}
+use Rattle.sv_loop.specs.declared.replaying.Ending.TheVariants.{Whole, Broken, Full, Stopped}
+use Rattle.sv_loop.specs.declared.replaying.Status.{Status}
+use Rattle.sv_loop.specs.declared.replaying.Status.TheVariants as status_is
 use Rattle.sv_loop.specs.declared.run.End.{End}
 use Rattle.sv_loop.specs.declared.run.End.TheVariants.{Misplaced, Refused, Faulty, NotBuilt, NoMemory, Unwritten}
 use Rattle.sv_loop.specs.declared.run.Run.{Run}

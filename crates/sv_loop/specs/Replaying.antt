@@ -9,10 +9,10 @@ use Rattle.sv_loop.specs.JournalPlaces.{Line, Stage, Verdict, order_text}
 use Rattle.sv_loop.specs.JournalPlaces.Stage.{Fresh, Named, Long, Running}
 use Rattle.sv_loop.specs.JournalPlaces.Verdict.{Faulty, NotBuilt}
 use Rattle.sv_loop.specs.Reading.{IsRead, OutsideGrammar, NotAccepted, NotConfigured, GoesOn, StopsAt}
-use Rattle.sv_loop.specs.declared.replay.Ending.{Ending}
-use Rattle.sv_loop.specs.declared.replay.Ending.TheVariants as ending
-use Rattle.sv_loop.specs.declared.replay.Status.{Status}
-use Rattle.sv_loop.specs.declared.replay.Status.TheVariants as status
+use Rattle.sv_loop.specs.declared.replaying.Ending.{Ending}
+use Rattle.sv_loop.specs.declared.replaying.Ending.TheVariants as ending
+use Rattle.sv_loop.specs.declared.replaying.Status.{Status}
+use Rattle.sv_loop.specs.declared.replaying.Status.TheVariants as status
 use Rattle.sv_loop.specs.declared.run.Run.{Run}
 use Rattle.sv_out.specs.Written.{AppendsFront}
 use Rattle.sv_out.specs.declared.order.Order.{Order}

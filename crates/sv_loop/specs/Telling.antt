@@ -4,10 +4,10 @@ use Rattle.std.specs.Io.KnownBytes.{Appends, Consumes, IsAtEnd}
 use Rattle.sv_loop.specs.Replaying.{bad_line, not_accepted, configuration_fault, not_built, source_failed, too_long}
 use Rattle.sv_loop.specs.declared.judge.Place.{Place}
 use Rattle.sv_loop.specs.declared.judge.Place.TheVariants as place
-use Rattle.sv_loop.specs.declared.replay.Ending.{Ending}
-use Rattle.sv_loop.specs.declared.replay.Ending.TheVariants.{Whole, Broken, Full, Stopped}
-use Rattle.sv_loop.specs.declared.replay.Status.{Status}
-use Rattle.sv_loop.specs.declared.replay.Status.TheVariants as status
+use Rattle.sv_loop.specs.declared.replaying.Ending.{Ending}
+use Rattle.sv_loop.specs.declared.replaying.Ending.TheVariants.{Whole, Broken, Full, Stopped}
+use Rattle.sv_loop.specs.declared.replaying.Status.{Status}
+use Rattle.sv_loop.specs.declared.replaying.Status.TheVariants as status
 use Rattle.sv_loop.specs.declared.run.End.{End}
 use Rattle.sv_loop.specs.declared.run.End.TheVariants.{Misplaced, Refused, Faulty, NotBuilt, NoMemory, Unwritten}
 use Rattle.sv_loop.specs.declared.run.Run.{Run}

@@ -5,7 +5,9 @@ mod judge;
 pub mod laws;
 mod long;
 mod orders;
-pub mod replay;
+mod replaying;
 mod run;
 mod short;
 mod sizes;
+
+pub use replaying::{JOURNAL_LIMIT, replay};

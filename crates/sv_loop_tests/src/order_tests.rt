@@ -5,7 +5,7 @@ ghost use Rattle.std.specs.Prelude.{None};
 use std::cell::Cell;
 use std::process::Abort;
 use sv_base::text::Text;
-use sv_loop::replay::replay;
+use sv_loop::replay;
 use sv_out::failed::Failed;
 use sv_out::sink::Sink;
 use sv_out::source::Source;

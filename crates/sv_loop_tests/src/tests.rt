@@ -5,7 +5,7 @@ ghost use Rattle.std.specs.Prelude.{None};
 use std::alloc::Global;
 use std::process::Abort;
 use sv_base::text::Text;
-use sv_loop::replay::{JOURNAL_LIMIT, replay};
+use sv_loop::{JOURNAL_LIMIT, replay};
 use sv_out::failed::Failed;
 use sv_out::sink::{ListSink, Sink};
 use sv_out::source::{ListSource, Source};

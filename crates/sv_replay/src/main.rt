@@ -6,7 +6,7 @@ use std::io::ErrorKind;
 use std::process::ExitCode;
 use std::{env, io};
 use sv_base::text::Text;
-use sv_loop::replay::replay;
+use sv_loop::replay;
 use sv_os::{ReadSource, WriteSink};
 
 fn main(rt: HostRuntime) -> ExitCode {

@@ -2,7 +2,7 @@ use Rattle.sv_loop.proofs.OneReading.{good_is_done}
 use Rattle.sv_loop.proofs.Refusals.{unconfigured_is_told}
 use Rattle.sv_loop.proofs.Says.{writes_deeds}
 use Rattle.sv_loop.proofs.Table.{table}
-use Rattle.sv_loop.proofs.replay.run.Goals as goal
+use Rattle.sv_loop.proofs.replaying.run.Goals as goal
 
 pub returns-clause-replays : goal.returns-clause-replays
 returns-clause-replays g c =

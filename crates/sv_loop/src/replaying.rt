@@ -7,7 +7,7 @@ ghost use Rattle.sv_loop.specs.Reading.{IsAt};
 ghost use Rattle.sv_loop.specs.Replaying.{AreRun, Ended, Refuses, Replays, ReplaysAs, bad_line, configuration_fault, fault_line, status_number};
 ghost use Rattle.sv_loop.specs.Telling.{IsBehind, IsRunning, Tells, TellsLine, TellsOf, TellsOfLine, TellsOfWhole};
 ghost use Rattle.sv_loop.specs.WholeJournal.{HoldsGoodJournal, HoldsUnconfigured, IsDoneOrHindered, IsUnconfiguredOrHindered, WritesDeeds};
-ghost use Rattle.sv_loop.specs.declared.replay.Status.{Status};
+ghost use Rattle.sv_loop.specs.declared.replaying.Status.{Status};
 ghost use Rattle.sv_out.specs.Faults.{HasCause, Rose};
 
 use crate::judge::Place;

@@ -1,6 +1,6 @@
 use Rattle.std.proofs.Common.{◌≡◌, ◌≤◌, ◌+◌, length}
 use Rattle.sv_loop.specs.Replaying.{ReadsOn}
-use Rattle.sv_loop.proofs.replay.read_all.Given as goal
+use Rattle.sv_loop.proofs.replaying.read_all.Given as goal
 
 abbrev pub invariant-loop-room : goal.invariant-loop-room
 invariant-loop-room g l = record {

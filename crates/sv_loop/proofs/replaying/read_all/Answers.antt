@@ -1,7 +1,7 @@
 use Rattle.std.proofs.Common.{◌-◌, ℕ, subst, arith}
 use Rattle.sv_loop.proofs.ReadAll.{reads_more, read_stops, ended_behind}
 use Rattle.sv_loop.specs.Replaying.{ReadsOn}
-use Rattle.sv_loop.proofs.replay.read_all.Goals as goal
+use Rattle.sv_loop.proofs.replaying.read_all.Goals as goal
 
 pub returns-in-Err-take_piece-clause-ended : goal.returns-in-Err-take_piece-clause-ended
 returns-in-Err-take_piece-clause-ended g c =
