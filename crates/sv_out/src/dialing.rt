@@ -50,9 +50,10 @@ pub trait Dial {
         ensures cause { RisesWhere (faults self.old) (faults self.new) (IsRefused result) }
         ensures same { IfOk result (λ link. faults self.new ≡ faults self.old) };
 
-    /// Takes a connection back: its exchange is then the last that the dial tells. The dial's count of faults rises
-    /// exactly where the link's count isn't 0.
+    /// Takes a connection back: its exchange is then the last that the dial tells, and where that finds no memory,
+    /// what the dial tells stays. The dial's count of faults rises exactly where the link's count isn't 0.
     fn close(&mut self, alloc: Global, link: Self::Link) -> Result<(), AllocError>
         ensures kept { OnOk result (Keeps (told self.old) (told self.new) (Self.Link.told link)) }
+        ensures lost { OnErr result (told self.new ≡ told self.old) }
         ensures count { RisesWith (faults self.old) (faults self.new) (Self.Link.faults link) };
 }

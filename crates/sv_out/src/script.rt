@@ -218,7 +218,7 @@ impl ScriptDial {
 impl Dial for ScriptDial {
     type Link = ScriptLink;
 
-    ghost use Rattle.std.specs.Prelude.{IfOk, OnOk};
+    ghost use Rattle.std.specs.Prelude.{IfOk, OnErr, OnOk};
     ghost use Rattle.sv_out.specs.Exchanges.{IsFresh, IsRefused, Keeps};
     ghost use Rattle.sv_out.specs.Faults.{RisesWhere};
     ghost use Rattle.sv_out.specs.Plans.{GoesAsPlanned, dial_plan};
@@ -251,6 +251,7 @@ impl Dial for ScriptDial {
     fn close(&mut self, alloc: Global, link: ScriptLink) -> Result<(), AllocError>
         ensures kept { OnOk result
             (Keeps (told_exchanges self.old) (told_exchanges self.new) (told_exchange link)) }
+        ensures lost { OnErr result (told_exchanges self.new ≡ told_exchanges self.old) }
         ensures count { RisesWith (dial_faults self.old) (dial_faults self.new) (link_faults link) }
         ensures plan { dial_plan self.new
             ≡ record (dial_plan self.old) { faults = dial_faults self.new } }
