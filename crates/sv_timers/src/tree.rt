@@ -84,7 +84,8 @@ impl Tree {
     pub(crate) fn settle<R: Rows>(&self, from: u32, now: Moment, rows: &mut R)
         requires right { IsRight self.now }
         requires numbers { from + length (deadlines self.now) ≤ 2 ^ 32 }
-        ensures { LooksAt R.room R.looked R.looks rows.old rows.new (due_from from now (deadlines self.now)) }
+        ensures { LooksAt R.room R.looked R.looks rows.old rows.new
+            (due_from from now (deadlines self.now)) }
     {
         if !is_due(self.earliest(), now) {
             return;
