@@ -28,6 +28,7 @@ program spec startsecs startretries autorestart stopwaitsecs = record spec {
   stopwaitsecs = stopwaitsecs;
 }
 
+-- a stimulus befalls it at a moment, while the daemon neither restarts nor shuts down
 abbrev pub befallen : Stimulus → ℕ → Happening
 befallen stimulus now = Stimulated stimulus mood_is.Running now
 
@@ -56,14 +57,17 @@ pub data Told : Type 0 where
   Took : (from to : State) → Told
   Had : (deed : ChildDeed) → Told
 
+-- what an edge tells, where there is one
 abbrev pub told_edge : Option Edge → List Told
 told_edge None = []
 told_edge (Some edge) = Took edge.from edge.to ∷ []
 
+-- what a deed tells, where there is one
 abbrev pub told_deed : Option ChildDeed → List Told
 told_deed None = []
 told_deed (Some deed) = Had deed ∷ []
 
+-- what a step tells: its edges, then its deed
 abbrev pub told_step : Step → List Told
 told_step step = flat_map told_edge step.edges ++ told_deed step.deed
 

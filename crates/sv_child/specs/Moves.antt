@@ -54,6 +54,7 @@ is_reached (Some deadline) now = nat_le deadline now
 abbrev pub seconds_after : ℕ → ℕ → Option ℕ
 seconds_after now seconds = Some (now + 1000 * seconds)
 
+-- the daemon neither restarts nor shuts down
 abbrev pub is_running : Mood → Bool
 is_running mood_is.Running = true
 is_running mood = false

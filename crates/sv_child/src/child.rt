@@ -65,8 +65,10 @@ impl Child {
 
     /// It is to start.
     pub fn want_start(&mut self, spec: &Spec, now: Moment) -> Step
-        ensures after { (mood : Mood) → self.new ≡ (happens spec.now self.old Start mood now).child }
-        ensures step { (mood : Mood) → result ≡ (happens spec.now self.old Start mood now).step }
+        ensures after { (mood : Mood)
+            → self.new ≡ (happens spec.now self.old Start mood now).child }
+        ensures step { (mood : Mood)
+            → result ≡ (happens spec.now self.old Start mood now).step }
         ensures walk { IsWalk self.old.state result.edges self.new.state }
     {
         match self.state {
@@ -77,8 +79,10 @@ impl Child {
 
     /// It is to stop.
     pub fn want_stop(&mut self, spec: &Spec, now: Moment) -> Step
-        ensures after { (mood : Mood) → self.new ≡ (happens spec.now self.old Stop mood now).child }
-        ensures step { (mood : Mood) → result ≡ (happens spec.now self.old Stop mood now).step }
+        ensures after { (mood : Mood)
+            → self.new ≡ (happens spec.now self.old Stop mood now).child }
+        ensures step { (mood : Mood)
+            → result ≡ (happens spec.now self.old Stop mood now).step }
         ensures walk { IsWalk self.old.state result.edges self.new.state }
     {
         match self.state {
@@ -90,8 +94,10 @@ impl Child {
 
     /// Its process was started, as this run.
     pub fn spawned(&mut self, spec: &Spec, run: Run, pid: Pid, now: Moment) -> Step
-        ensures after { (mood : Mood) → self.new ≡ (happens spec.now self.old (Spawned run pid) mood now).child }
-        ensures step { (mood : Mood) → result ≡ (happens spec.now self.old (Spawned run pid) mood now).step }
+        ensures after { (mood : Mood)
+            → self.new ≡ (happens spec.now self.old (Spawned run pid) mood now).child }
+        ensures step { (mood : Mood)
+            → result ≡ (happens spec.now self.old (Spawned run pid) mood now).step }
         ensures walk { IsWalk self.old.state result.edges self.new.state }
     {
         match self.state {
@@ -102,8 +108,10 @@ impl Child {
 
     /// Its process couldn't be started, for this cause.
     pub fn spawn_failed(&mut self, spec: &Spec, fault: Text, now: Moment) -> Step
-        ensures after { (mood : Mood) → self.new ≡ (happens spec.now self.old (Spawn_failed fault) mood now).child }
-        ensures step { (mood : Mood) → result ≡ (happens spec.now self.old (Spawn_failed fault) mood now).step }
+        ensures after { (mood : Mood)
+            → self.new ≡ (happens spec.now self.old (Spawn_failed fault) mood now).child }
+        ensures step { (mood : Mood)
+            → result ≡ (happens spec.now self.old (Spawn_failed fault) mood now).step }
         ensures walk { IsWalk self.old.state result.edges self.new.state }
     {
         match self.state {
@@ -114,8 +122,10 @@ impl Child {
 
     /// Its process ended.
     pub fn ended(&mut self, spec: &Spec, how: How, now: Moment) -> Step
-        ensures after { (mood : Mood) → self.new ≡ (happens spec.now self.old (Ended how) mood now).child }
-        ensures step { (mood : Mood) → result ≡ (happens spec.now self.old (Ended how) mood now).step }
+        ensures after { (mood : Mood)
+            → self.new ≡ (happens spec.now self.old (Ended how) mood now).child }
+        ensures step { (mood : Mood)
+            → result ≡ (happens spec.now self.old (Ended how) mood now).step }
         ensures walk { IsWalk self.old.state result.edges self.new.state }
     {
         match self.state {

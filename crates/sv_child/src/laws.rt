@@ -9,7 +9,9 @@ ghost use Rattle.sv_child.specs.WorkedLives.{ClockGoesBack, FatalWithoutRetries,
 /// Whatever befalls a child, with the clock forward or back, its edges are a walk through the diagram of states:
 /// the first leads from STOPPED, each further one from where the one before ended, the last to where it is.
 pub fn each_life_is_a_walk()
-    ensures { (spec : Spec) (happenings : List Happening) → IsWalk new_child.state (edges_of spec new_child happenings) (child_after spec new_child happenings).state }
+    ensures { (spec : Spec) (happenings : List Happening)
+        → IsWalk new_child.state (edges_of spec new_child happenings)
+        (child_after spec new_child happenings).state }
 {}
 
 /// Lives that were worked out by hand go by the child table as they should.
