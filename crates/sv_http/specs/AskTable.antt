@@ -27,6 +27,7 @@ reply_limit = 67108864
 abbrev pub values_of : List ℕ → List Field → List (List ℕ)
 values_of name fields = map (λ field. field.1) (filter (is_named name) fields)
 
+-- some field has this name
 abbrev pub has_field : List ℕ → List Field → Bool
 has_field name fields = list_any (is_named name) fields
 
@@ -53,6 +54,7 @@ closes minor fields =
     says (codes "Connection") (codes "close") fields
     || (minor == 0 && not (says (codes "Connection") (codes "keep-alive") fields))
 
+-- the length of the body: exactly one Content-Length field gives it (RFC 9112, section 6.3), and it is within the limit
 abbrev pub sized : List (List ℕ) → Bool → Ruling
 sized [] close = Refused LengthRequired
 sized (value ∷ []) close =
@@ -70,6 +72,7 @@ ruling guard method target minor fields =
     else if has_field (codes "Transfer-Encoding") fields then Refused LengthRequired
     else sized (values_of (codes "Content-Length") fields) (closes minor fields)
 
+-- the ruling on a request head that was read
 abbrev pub ruled : Guard → RequestHead → Ruling
 ruled guard request = ruling guard request.method request.target request.minor (map name_and_value request.fields)
 

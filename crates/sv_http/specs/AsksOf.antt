@@ -12,8 +12,8 @@ use Rattle.sv_http.specs.declared.head.Ruling.{Ruling}
 use Rattle.sv_http.specs.declared.head.Ruling.TheVariants.{Refused, Takes}
 use Rattle.sv_http.specs.declared.status.Refusal.TheVariants.{BadRequest, HeadTooLarge}
 
--- what is read behind what was read
 infixl 10 ◌>>=◌
+-- what is read behind what was read
 abbrev pub ◌>>=◌ : {A B : Type 0} → Option A → (A → Option B) → Option B
 None >>= next = None
 (Some value) >>= next = next value
@@ -54,13 +54,15 @@ raw_at (byte ∷ bytes) =
     if is_value_byte byte then option_map (λ read. (byte ∷ read.0, read.1)) (raw_at bytes)
     else option_map (λ read. ([], read)) (end_at (byte ∷ bytes))
 
--- a field line: a name, a colon, the value and the line end
+-- a field line of this name, with the value and the line end that were read
 abbrev pub field_of : List ℕ → List ℕ × (LineEnd × List ℕ) → Option (Field × List ℕ)
 field_of name raw = Some (record { name = name; raw = raw.0; end = raw.1.0 }, raw.1.1)
 
+-- a field line behind its name and colon: the name isn't empty (RFC 9112, section 5)
 abbrev pub named_field_at : List ℕ × List ℕ → Option (Field × List ℕ)
 named_field_at name = provided (nat_lt 0 (length name.0)) (raw_at name.1 >>= field_of name.0)
 
+-- a field line: a name up to its colon, and what follows the name
 abbrev pub field_at : List ℕ → Option (Field × List ℕ)
 field_at bytes = word_at is_token_byte 58 bytes >>= named_field_at
 
@@ -70,10 +72,11 @@ last_or None other = other
 last_or (Some (end, [])) other = Some ([], end)
 last_or (Some (end, byte ∷ bytes)) other = None
 
--- at most so many field lines, and the empty line
+-- the field lines with one before them
 abbrev pub with_field : Field → List Field × LineEnd → List Field × LineEnd
 with_field field section = (field ∷ section.0, section.1)
 
+-- fewer than so many field lines, and the empty line that ends them
 abbrev pub section_at : ℕ → List ℕ → Option (List Field × LineEnd)
 section_at zero bytes = None
 section_at (suc most) bytes =
@@ -84,27 +87,33 @@ abbrev pub digit_at : List ℕ → Option (ℕ × List ℕ)
 digit_at [] = None
 digit_at (byte ∷ bytes) = if byte == 48 then Some (0, bytes) else if byte == 49 then Some (1, bytes) else None
 
--- a request head: method, target and version, each behind a space, and the field lines
+-- a request head of these parts, with nothing before its method
 abbrev pub request_of : List ℕ → List ℕ → ℕ → LineEnd → List Field × LineEnd → Option RequestHead
 request_of method target minor end section =
     Some (record { blank = []; method = method; target = target; minor = minor; line_end = end; fields = section.0; last = section.1 })
 
+-- the field lines and the empty line, which end the bytes of a head
 abbrev pub request_fields_at : List ℕ → List ℕ → ℕ → LineEnd × List ℕ → Option RequestHead
 request_fields_at method target minor end = section_at (1 + length end.1) end.1 >>= request_of method target minor end.0
 
+-- the line end of the request line, and what follows it
 abbrev pub request_end_at : List ℕ → List ℕ → ℕ × List ℕ → Option RequestHead
 request_end_at method target minor = end_at minor.1 >>= request_fields_at method target minor.0
 
+-- the last digit of the version, and what follows it
 abbrev pub request_minor_at : List ℕ → List ℕ → List ℕ → Option RequestHead
 request_minor_at method target bytes = digit_at bytes >>= request_end_at method target
 
+-- the target, which isn't empty and is UTF-8, is followed by the version (RFC 9112, section 2.3)
 abbrev pub request_version_at : List ℕ → List ℕ × List ℕ → Option RequestHead
 request_version_at method target =
     provided (nat_lt 0 (length target.0) && is_utf8 target.0) (text_at (codes "HTTP/1.") target.1 >>= request_minor_at method target.0)
 
+-- the method, which isn't empty, is followed by the target and a space (RFC 9112, section 3)
 abbrev pub request_target_at : List ℕ × List ℕ → Option RequestHead
 request_target_at method = provided (nat_lt 0 (length method.0)) (word_at is_uri_byte 32 method.1 >>= request_version_at method.0)
 
+-- a request head: the method and a space, and what follows them
 abbrev pub request_at : List ℕ → Option RequestHead
 request_at bytes = word_at is_token_byte 32 bytes >>= request_target_at
 

@@ -18,6 +18,7 @@ Field = List ℕ × List ℕ
 abbrev pub is_named : List ℕ → Field → Bool
 is_named name field = str_eq_ignore_ascii_case field.0 name
 
+-- a password is asked for: an empty one is none
 abbrev pub is_set : Password → Bool
 is_set password.None = false
 is_set (password.Plain []) = false
@@ -48,10 +49,12 @@ opens_behind asked (Some (byte ∷ given)) = byte == 58 && is_password asked giv
 abbrev pub opens : Guard → List ℕ → Bool
 opens guard given = opens_behind guard.password (after_front guard.username given)
 
+-- the base64 can be decoded, and the decoded bytes are the username, a colon and the password
 abbrev pub opens_decoded : Guard → Result (List ℕ) DecodeError → Bool
 opens_decoded guard (Ok given) = opens guard given
 opens_decoded guard (Err error) = false
 
+-- the base64 behind the scheme and a space, where there is one, holds the credentials that are asked for
 abbrev pub opens_encoded : Guard → Option (List ℕ) → Bool
 opens_encoded guard None = false
 opens_encoded guard (Some text) = opens_decoded guard (decode_of standard text)
@@ -60,9 +63,11 @@ opens_encoded guard (Some text) = opens_decoded guard (decode_of standard text)
 abbrev pub lets_in : Guard → List ℕ → Bool
 lets_in guard value = opens_encoded guard (after_front (codes "Basic ") value)
 
+-- some Authorization field lets in
 abbrev pub some_lets_in : Guard → List Field → Bool
 some_lets_in guard fields = list_any (λ field. is_named (codes "Authorization") field && lets_in guard field.1) fields
 
+-- no username and no password is asked for, or some Authorization field lets in
 abbrev pub is_let_in : Guard → List Field → Bool
 is_let_in guard fields = is_open guard || some_lets_in guard fields
 

@@ -63,9 +63,11 @@ pub record Reading : Type 0 where
   pub body : List ℕ
   pub asks : List Ask
 
+-- a reading of these parts
 abbrev pub reads : Place → List ℕ → List ℕ → List Ask → Reading
 reads at head body asks = record { place = at; head = head; body = body; asks = asks }
 
+-- what this reader keeps, and these asks of the piece in hand
 abbrev pub shown : HttpReader → List Ask → Reading
 shown reader asks = reads reader.place reader.head.items reader.body.items asks
 
@@ -89,6 +91,7 @@ goes_on to head body asks =
 abbrev pub called : Bool → List ℕ → List ℕ → List Ask → Reading
 called close head body asks = reads (place.Head line.Text) head [] (asks ++ Call body close ∷ [])
 
+-- behind a whole head: a refusal, or a body, which is whole at once where it has no bytes
 abbrev pub after_ruling : Ruling → List ℕ → List ℕ → List Ask → Reading
 after_ruling (Refused refusal) head body asks = refused refusal head body asks
 after_ruling (Takes size close) head body asks = if size == 0 then called close [] [] asks else reads (place.Body size close) [] [] asks

@@ -25,6 +25,7 @@ Stands (place.Body status size) held stream = Begins stream status size held × 
 Stands place.Over held stream = ⊥
 Stands place.Broken held stream = ⊥
 
+-- the reader stands for this stream
 abbrev pub StandsForReply : ReplyReader → List ℕ → Type 0
 StandsForReply reader stream = Stands reader.place reader.held.items stream
 

@@ -4,6 +4,7 @@ use Rattle.sv_http.specs.declared.status.Refusal.TheVariants.{BadRequest, Unauth
 use Rattle.sv_http.specs.declared.status.Status.{Status}
 use Rattle.sv_http.specs.declared.status.Status.TheVariants.{Ok, Bad}
 
+-- the status code (RFC 9110, section 15; RFC 6585, section 5)
 abbrev pub number_of : Status → ℕ
 number_of Ok = 200
 number_of (Bad BadRequest) = 400
@@ -14,6 +15,7 @@ number_of (Bad LengthRequired) = 411
 number_of (Bad ContentTooLarge) = 413
 number_of (Bad HeadTooLarge) = 431
 
+-- the reason phrase of the status line
 abbrev pub reason_of : Status → List ℕ
 reason_of Ok = codes "OK"
 reason_of (Bad BadRequest) = codes "Bad Request"
@@ -28,20 +30,25 @@ reason_of (Bad HeadTooLarge) = codes "Request Header Fields Too Large"
 abbrev pub line : List ℕ → List ℕ
 line text = text ++ codes "\r\n"
 
+-- the challenge of a 401 (RFC 9110, section 11.6.1)
 abbrev pub challenge : Status → List ℕ
 challenge (Bad Unauthorized) = line (codes "WWW-Authenticate: Basic realm=\"default\"")
 challenge status = []
 
+-- the field that says that the link closes behind the reply (RFC 9112, section 9.6)
 abbrev pub closing : Bool → List ℕ
 closing true = line (codes "Connection: close")
 closing false = []
 
+-- the status line (RFC 9112, section 4)
 abbrev pub status_line : Status → List ℕ
 status_line status = line (codes "HTTP/1.1 " ++ decimal (number_of status) ++ 32 ∷ reason_of status)
 
+-- the field that gives the length of the body (RFC 9112, section 6.2)
 abbrev pub length_line : ℕ → List ℕ
 length_line length = line (codes "Content-Length: " ++ decimal length)
 
+-- a reply: the status line, the field lines, the empty line and the body (RFC 9112, section 2.1)
 abbrev pub reply_text : Status → List ℕ → Bool → List ℕ
 reply_text status body close =
     status_line status ++ line (codes "Content-Type: text/xml") ++ length_line (length body)

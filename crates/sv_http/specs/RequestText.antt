@@ -10,6 +10,7 @@ credentials username password =
     if length username == 0 then []
     else line (codes "Authorization: Basic " ++ encode_of standard (username ++ 58 ∷ password))
 
+-- a call: the request line, the field lines, the empty line and the body (RFC 9112, section 2.1)
 abbrev pub request_text : List ℕ → List ℕ → List ℕ → List ℕ → List ℕ
 request_text body host username password =
     line (codes "POST /RPC2 HTTP/1.1") ++ line (codes "Host: " ++ host) ++ line (codes "Content-Type: text/xml")

@@ -61,7 +61,8 @@ pub(crate) fn has_field(fields: &[Header<'_>], name: &str) -> bool
 }
 
 fn is_saying(field: &Header<'_>, name: &str, value: &[u8]) -> bool
-    ensures { result ≡ (is_named name.now (header_parts field.now) && str_eq_ignore_ascii_case field.now.value.now value.now) }
+    ensures { result ≡ (is_named name.now (header_parts field.now)
+        && str_eq_ignore_ascii_case field.now.value.now value.now) }
 {
     is_named(field, name) && field.value.eq_ignore_ascii_case(value)
 }
@@ -93,7 +94,9 @@ pub(crate) fn first_value<'a, 'b>(
     fields: &'a [Header<'b>],
     name: &str,
 ) -> Option<(&'b [u8], &'a [Header<'b>])>
-    ensures { MatchOption result (values_of name.now (map header_parts fields.now) ≡ []) (λ first. values_of name.now (map header_parts fields.now) ≡ first.0.now ∷ values_of name.now (map header_parts first.1.now)) }
+    ensures { MatchOption result (values_of name.now (map header_parts fields.now) ≡ [])
+        (λ first. values_of name.now (map header_parts fields.now)
+        ≡ first.0.now ∷ values_of name.now (map header_parts first.1.now)) }
 {
     let mut rest = fields;
     while let [field, more @ ..] = rest {
@@ -107,7 +110,8 @@ pub(crate) fn first_value<'a, 'b>(
 
 /// The ruling by the fields that give the length of the body.
 pub(crate) fn sized(fields: &[Header<'_>], close: bool) -> Ruling
-    ensures { result ≡ sized (values_of (codes "Content-Length") (map header_parts fields.now)) close }
+    ensures { result
+        ≡ sized (values_of (codes "Content-Length") (map header_parts fields.now)) close }
 {
     let Some((value, others)) = first_value(fields, "Content-Length") else {
         return Ruling::Refused(Refusal::LengthRequired);
@@ -127,7 +131,9 @@ pub(crate) fn sized(fields: &[Header<'_>], close: bool) -> Ruling
 
 /// The length that 1 to 19 digits write, or the limit of replies and one more where it is above that.
 pub(crate) fn length_of(value: &[u8]) -> Option<u64>
-    ensures length { MatchOption result (is_length value.now ≡ false) (λ length. (is_length value.now ≡ true) × (length ≡ min (number_of 0 value.now) (reply_limit + 1))) }
+    ensures length { MatchOption result (is_length value.now ≡ false)
+        (λ length. (is_length value.now ≡ true)
+        × (length ≡ min (number_of 0 value.now) (reply_limit + 1))) }
 {
     if is_length(value) {
         Some(number_of(value))

@@ -49,7 +49,8 @@ fn rule(
     minor: u8,
     fields: &[Header<'_>],
 ) -> Result<Ruling, AllocError>
-    ensures { IfOk result (λ ruled. ruled ≡ ruling guard.now method.now target.now minor (map header_parts fields.now)) }
+    ensures { IfOk result (λ ruled. ruled
+        ≡ ruling guard.now method.now target.now minor (map header_parts fields.now)) }
 {
     Ok(if !is_let_in(alloc, guard, fields)? {
         Ruling::Refused(Refusal::Unauthorized)

@@ -35,7 +35,9 @@ impl Line {
 pub(crate) fn look(line: Line, bytes: &[u8]) -> (usize, Option<Line>)
     ensures most { result.0 ≤ length bytes.now }
     ensures least { 0 < length bytes.now → 0 < result.0 }
-    ensures searched { (earlier : List ℕ) → IsSearched earlier line → MatchOption result.1 (IsFound (earlier ++ take result.0 bytes.now)) (IsSearched (earlier ++ take result.0 bytes.now)) }
+    ensures searched { (earlier : List ℕ) → IsSearched earlier line
+        → MatchOption result.1 (IsFound (earlier ++ take result.0 bytes.now))
+        (IsSearched (earlier ++ take result.0 bytes.now)) }
 {
     let mut at = line;
     let mut count = 0usize;

@@ -62,13 +62,20 @@ impl HttpReader {
     ///
     /// Out of memory leaves a value that stands for no stream, and each later call gives the same answer.
     pub fn feed(&mut self, alloc: Global, piece: &[u8]) -> Result<Vec<Ask>, AllocError>
-        ensures asks { IfOk result (λ told. (stream : List ℕ) (asks : List Ask) → StandsFor self.old stream asks → AreAsks self.old.guard (stream ++ piece.now) (asks ++ told.items)) }
-        ensures read { IfOk result (λ told. (stream : List ℕ) (asks : List Ask) → StandsFor self.old stream asks → asks ++ told.items ≡ asks_of self.old.guard (stream ++ piece.now)) }
-        ensures stands { IfOk result (λ told. (stream : List ℕ) (asks : List Ask) → StandsFor self.old stream asks → StandsFor self.new (stream ++ piece.now) (asks ++ told.items)) }
+        ensures asks { IfOk result (λ told. (stream : List ℕ) (asks : List Ask)
+            → StandsFor self.old stream asks
+            → AreAsks self.old.guard (stream ++ piece.now) (asks ++ told.items)) }
+        ensures read { IfOk result (λ told. (stream : List ℕ) (asks : List Ask)
+            → StandsFor self.old stream asks
+            → asks ++ told.items ≡ asks_of self.old.guard (stream ++ piece.now)) }
+        ensures stands { IfOk result (λ told. (stream : List ℕ) (asks : List Ask)
+            → StandsFor self.old stream asks
+            → StandsFor self.new (stream ++ piece.now) (asks ++ told.items)) }
         ensures over { self.old.place ≡ Place.Over → IfOk result (λ told. told.items ≡ []) }
         ensures guard { self.new.guard ≡ self.old.guard }
         ensures refused { OnErr result (self.new.place ≡ Place.Broken) }
-        ensures none { OnErr result ((stream : List ℕ) (asks : List Ask) → StandsFor self.new stream asks → ⊥) }
+        ensures none { OnErr result ((stream : List ℕ) (asks : List Ask)
+            → StandsFor self.new stream asks → ⊥) }
         ensures stays_refused { self.old.place ≡ Place.Broken → IsErr result }
     {
         if self.is_broken() {
@@ -99,8 +106,10 @@ impl HttpReader {
         piece: &[u8],
         asks: &mut Vec<Ask>,
     ) -> Result<(), AllocError>
-        ensures advances { OnOk result (Advances self.old.guard (shown self.old asks.old.items) piece.now (shown self.new asks.new.items)) }
-        ensures over { self.old.place ≡ Place.Over → OnOk result ((asks.new.items ≡ asks.old.items) × (self.new.place ≡ Place.Over)) }
+        ensures advances { OnOk result (Advances self.old.guard (shown self.old asks.old.items)
+            piece.now (shown self.new asks.new.items)) }
+        ensures over { self.old.place ≡ Place.Over
+            → OnOk result ((asks.new.items ≡ asks.old.items) × (self.new.place ≡ Place.Over)) }
         ensures guard { self.new.guard ≡ self.old.guard }
     {
         let mut rest = piece;
@@ -119,9 +128,12 @@ impl HttpReader {
         asks: &mut Vec<Ask>,
     ) -> Result<usize, AllocError>
         requires { 0 < length bytes.now }
-        ensures advances { IfOk result (λ count. Advances self.old.guard (shown self.old asks.old.items) (take count bytes.now) (shown self.new asks.new.items)) }
+        ensures advances { IfOk result (λ count.
+            Advances self.old.guard (shown self.old asks.old.items)
+            (take count bytes.now) (shown self.new asks.new.items)) }
         ensures guard { self.new.guard ≡ self.old.guard }
-        ensures over { self.old.place ≡ Place.Over → OnOk result ((asks.new.items ≡ asks.old.items) × (self.new.place ≡ Place.Over)) }
+        ensures over { self.old.place ≡ Place.Over
+            → OnOk result ((asks.new.items ≡ asks.old.items) × (self.new.place ≡ Place.Over)) }
         ensures bound { IfOk result (λ count. count ≤ length bytes.now) }
         ensures progress { IfOk result (λ count. 0 < count) }
     {
@@ -147,7 +159,9 @@ impl HttpReader {
         requires some { 0 < length bytes.now }
         requires place { self.old.place ≡ Place.Head line }
         requires begun { self.old.head.items ≡ [] → is_begun bytes.now ≡ true }
-        ensures advances { IfOk result (λ count. Advances self.old.guard (shown self.old asks.old.items) (take count bytes.now) (shown self.new asks.new.items)) }
+        ensures advances { IfOk result (λ count.
+            Advances self.old.guard (shown self.old asks.old.items)
+            (take count bytes.now) (shown self.new asks.new.items)) }
         ensures guard { self.new.guard ≡ self.old.guard }
         ensures bound { IfOk result (λ count. count ≤ length bytes.now) }
         ensures progress { IfOk result (λ count. 0 < count) }
@@ -165,7 +179,8 @@ impl HttpReader {
 
     /// The head isn't whole yet: it goes on, or is too long.
     fn go_on(&mut self, line: Line, asks: &mut Vec<Ask>) -> Result<(), AllocError>
-        ensures goes_on { OnOk result (shown self.new asks.new.items ≡ goes_on line self.old.head.items self.old.body.items asks.old.items) }
+        ensures goes_on { OnOk result (shown self.new asks.new.items
+            ≡ goes_on line self.old.head.items self.old.body.items asks.old.items) }
         ensures guard { self.new.guard ≡ self.old.guard }
     {
         if self.head.as_slice().len() < HEAD_LIMIT {
@@ -178,7 +193,8 @@ impl HttpReader {
 
     /// The head is whole.
     fn end_head(&mut self, alloc: Global, asks: &mut Vec<Ask>) -> Result<(), AllocError>
-        ensures ends { OnOk result (EndsHead self.old.guard self.old.head.items self.old.body.items asks.old.items (shown self.new asks.new.items)) }
+        ensures ends { OnOk result (EndsHead self.old.guard self.old.head.items self.old.body.items
+            asks.old.items (shown self.new asks.new.items)) }
         ensures guard { self.new.guard ≡ self.old.guard }
     {
         match judge(alloc, &self.guard, self.head.as_slice())? {
@@ -206,7 +222,9 @@ impl HttpReader {
     ) -> Result<usize, AllocError>
         requires some { 0 < length bytes.now }
         requires place { self.old.place ≡ Place.Body size close }
-        ensures advances { IfOk result (λ count. Advances self.old.guard (shown self.old asks.old.items) (take count bytes.now) (shown self.new asks.new.items)) }
+        ensures advances { IfOk result (λ count.
+            Advances self.old.guard (shown self.old asks.old.items)
+            (take count bytes.now) (shown self.new asks.new.items)) }
         ensures guard { self.new.guard ≡ self.old.guard }
         ensures bound { IfOk result (λ count. count ≤ length bytes.now) }
         ensures progress { IfOk result (λ count. 0 < count) }
@@ -222,7 +240,8 @@ impl HttpReader {
 
     /// The body is whole.
     fn call(&mut self, alloc: Global, close: bool, asks: &mut Vec<Ask>) -> Result<(), AllocError>
-        ensures called { OnOk result (shown self.new asks.new.items ≡ called close self.old.head.items self.old.body.items asks.old.items) }
+        ensures called { OnOk result (shown self.new asks.new.items
+            ≡ called close self.old.head.items self.old.body.items asks.old.items) }
         ensures guard { self.new.guard ≡ self.old.guard }
     {
         let body = mem::replace(&mut self.body, Vec::new(alloc));
@@ -235,7 +254,8 @@ impl HttpReader {
     }
 
     fn refuse(&mut self, refusal: Refusal, asks: &mut Vec<Ask>) -> Result<(), AllocError>
-        ensures refused { OnOk result (shown self.new asks.new.items ≡ refused refusal self.old.head.items self.old.body.items asks.old.items) }
+        ensures refused { OnOk result (shown self.new asks.new.items
+            ≡ refused refusal self.old.head.items self.old.body.items asks.old.items) }
         ensures guard { self.new.guard ≡ self.old.guard }
     {
         asks.push(Ask::Bad(refusal))?;

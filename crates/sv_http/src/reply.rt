@@ -34,6 +34,7 @@ fn put_status(text: &mut Vec<u8>, status: Status) -> Result<(), AllocError>
     Ok(())
 }
 
+/// Adds the field line that gives the length of the body.
 #[tactic(auto, using(crate::proofs::Replies::three_parts))]
 pub(crate) fn put_length(text: &mut Vec<u8>, length: u64) -> Result<(), AllocError>
     ensures { OnOk result (text.new.items ≡ text.old.items ++ length_line length) }

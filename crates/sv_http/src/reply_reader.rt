@@ -75,8 +75,10 @@ impl ReplyReader {
     /// Takes the next bytes of the stream: the reply, where they end one; `None` while they may begin one. After the
     /// reply, or where there is none, the reader stands for no stream. Out of memory is answered by each later call too.
     pub fn feed(&mut self, alloc: Global, piece: &[u8]) -> Result<Option<Replied>, ReplyFault>
-        ensures answers { (stream : List ℕ) → StandsForReply self.old stream → Answers (stream ++ piece.now) result }
-        ensures stands { (stream : List ℕ) → StandsForReply self.old stream → Continues self.new (stream ++ piece.now) result }
+        ensures answers { (stream : List ℕ) → StandsForReply self.old stream
+            → Answers (stream ++ piece.now) result }
+        ensures stands { (stream : List ℕ) → StandsForReply self.old stream
+            → Continues self.new (stream ++ piece.now) result }
         ensures stays_refused { self.old.place ≡ ReplyPlace.Broken → IsErr result }
     {
         match self.take(alloc, piece) {
@@ -93,8 +95,10 @@ impl ReplyReader {
     }
 
     fn take(&mut self, alloc: Global, piece: &[u8]) -> Result<Option<Replied>, ReplyFault>
-        ensures answers { (stream : List ℕ) → StandsForReply self.old stream → Answers (stream ++ piece.now) result }
-        ensures stands { (stream : List ℕ) → StandsForReply self.old stream → Continues self.new (stream ++ piece.now) result }
+        ensures answers { (stream : List ℕ) → StandsForReply self.old stream
+            → Answers (stream ++ piece.now) result }
+        ensures stands { (stream : List ℕ) → StandsForReply self.old stream
+            → Continues self.new (stream ++ piece.now) result }
         ensures stays_refused { self.old.place ≡ ReplyPlace.Broken → IsErr result }
     {
         match self.place {
@@ -142,8 +146,10 @@ impl ReplyReader {
         size: usize,
     ) -> Result<Option<Replied>, ReplyFault>
         requires { self.old.place ≡ ReplyPlace.Body status size }
-        ensures answers { (stream : List ℕ) → Begins stream status size self.old.held.items → Answers stream result }
-        ensures stands { (stream : List ℕ) → Begins stream status size self.old.held.items → Continues self.new stream result }
+        ensures answers { (stream : List ℕ) → Begins stream status size self.old.held.items
+            → Answers stream result }
+        ensures stands { (stream : List ℕ) → Begins stream status size self.old.held.items
+            → Continues self.new stream result }
     {
         let length = self.held.as_slice().len();
         if length < size {

@@ -17,7 +17,8 @@ pub fn request(
     username: &str,
     password: &str,
 ) -> Result<Bytes, AllocError>
-    ensures { IfOk result (λ text. text ≡ request_text body.now host.now username.now password.now) }
+    ensures { IfOk result (λ text. text
+        ≡ request_text body.now host.now username.now password.now) }
 {
     let mut text = Vec::new(alloc);
     text.extend_from_slice(b"POST /RPC2 HTTP/1.1\r\n")?;
@@ -46,7 +47,8 @@ fn put_credentials(
     username: &str,
     password: &str,
 ) -> Result<(), AllocError>
-    ensures { OnOk result (text.new.items ≡ text.old.items ++ credentials username.now password.now) }
+    ensures { OnOk result (text.new.items
+        ≡ text.old.items ++ credentials username.now password.now) }
 {
     if username.is_empty() {
         return Ok(());
