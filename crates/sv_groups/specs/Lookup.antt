@@ -16,6 +16,7 @@ names_in g = map (λ (m : Spec). (g.name, m.name)) g.members
 abbrev pub names_of : List GroupSpec → List (List ℕ × List ℕ)
 names_of groups = flat_map names_in groups
 
+-- these are the two names: the group's, and the process's own
 abbrev pub is_called : List ℕ → List ℕ → (List ℕ × List ℕ) → Bool
 is_called group name names = bytes_eq names.0 group && bytes_eq names.1 name
 
@@ -23,10 +24,12 @@ is_called group name names = bytes_eq names.0 group && bytes_eq names.1 name
 abbrev pub place_of : List ℕ → List GroupSpec → Option ℕ
 place_of name groups = position (λ (g : GroupSpec). bytes_eq g.name name) groups
 
+-- the process of this place in start order, where there is one
 abbrev pub one_found : Option ℕ → Found
 one_found None = Nothing
 one_found (Some place) = One (record { 0 = place })
 
+-- the group of this place among the groups, where there is one
 abbrev pub group_found : Option ℕ → Found
 group_found None = Nothing
 group_found (Some place) = Group place
@@ -36,5 +39,6 @@ abbrev pub found_by : List ℕ → Option (List ℕ) → List GroupSpec → Foun
 found_by group None groups = group_found (place_of group groups)
 found_by group (Some name) groups = one_found (position_from (is_called group name) 0 (names_of groups))
 
+-- what a name of a command finds: a process, a group or nothing
 abbrev pub found : List ℕ → List GroupSpec → Found
 found text groups = found_by (split_of text).0 (split_of text).1 groups

@@ -103,7 +103,8 @@ fn still_running(groups: &[GroupSpec], place: usize, children: &[Child]) -> Opti
 /// The place of the first of these children that isn't at rest, where the first one's is `first`.
 fn first_running(first: usize, children: &[Child]) -> Option<usize>
     requires { first + length children.now ≤ 1024 }
-    ensures value { result ≡ position_from (λ (c : Child). not (is_at_rest c.state)) first children.now }
+    ensures value { result
+        ≡ position_from (λ (c : Child). not (is_at_rest c.state)) first children.now }
     ensures most { IfSome result (λ child. child < 1024) }
 {
     let mut next = first;

@@ -81,7 +81,8 @@ fn place_in(first: usize, own: &GroupSpec, group: &str, name: &str) -> Option<us
 /// The place of the member of this name, where the first one's is `first`.
 fn place_from(first: usize, members: &[Spec], name: &str) -> Option<usize>
     requires { first + length members.now ≤ 1024 }
-    ensures value { result ≡ position_from (λ (m : Spec). bytes_eq m.name name.now) first members.now }
+    ensures value { result
+        ≡ position_from (λ (m : Spec). bytes_eq m.name name.now) first members.now }
     ensures most { IfSome result (λ place. place < 1024) }
 {
     let mut next = first;

@@ -1,3 +1,5 @@
+//! A roster's lookups, its orders, and what adding and removing answer, by hand.
+
 use crate::fault::GroupFault;
 use crate::lookup::Found;
 use crate::order::{Roster, count};
