@@ -1,6 +1,6 @@
 -- What taking bytes makes of the stream that a reader stands for.
-use Rattle.std.proofs.Common.{◌≡◌, ◌<◌, ◌+◌, ◌-◌, ◌⊎◌, inl, inr, ℕ, List, [], ◌∷◌, ◌++◌, length, None, Bool, true, refl, sym, ap, ◌∙◌, subst, arith, append_assoc, append-nil, length-append, replicate, ◌&&◌}
-use Rattle.std.specs.List.{list_all}
+use Rattle.std.proofs.Common.{◌≡◌, ◌<◌, ◌+◌, ◌-◌, ◌⊎◌, inl, inr, ℕ, suc, List, [], ◌∷◌, ◌++◌, length, take, None, Bool, true, false, refl, sym, ap, ◌∙◌, subst, arith, append_assoc, append-nil, length-append, replicate, cond, ◌&&◌}
+use Rattle.std.specs.List.{list_all, prefix_len}
 use Rattle.std.specs.Prelude.{option_map}
 use Rattle.std.proofs.lemmas.List.{length-replicate}
 use Rattle.std.proofs.lemmas.Bool.{and_parts}
@@ -13,33 +13,17 @@ use Rattle.sv_http.specs.RequestStream.{AreAsks, IsAsk, BeginsNoAsk, head_length
 use Rattle.sv_http.specs.declared.ask.Ask.{Ask}
 use Rattle.sv_http.specs.declared.ask.Ask.TheVariants.{Call, Bad}
 use Rattle.sv_http.specs.declared.guard.Guard.{Guard}
-use Rattle.sv_http.specs.declared.head.Ruling.TheVariants.{Takes}
+use Rattle.sv_http.specs.declared.head.Ruling.TheVariants.{Refused, Takes}
 use Rattle.sv_http.specs.declared.line.Line.{Line}
 use Rattle.sv_http.specs.declared.line.Line.TheVariants as line
 use Rattle.sv_http.specs.declared.reader.Place.{Place}
 use Rattle.sv_http.specs.declared.reader.Place.TheVariants as place
 use Rattle.sv_http.specs.declared.status.Refusal.{Refusal}
-
--- how the stream goes on
-
-pub goes_more : (guard : Guard) (kept front stream : List ℕ) (asks : List Ask) → GoesOn guard kept stream asks → GoesOn guard (kept ++ front) (stream ++ front) asks
-goes_more guard kept front stream asks goes = λ more later are.
-    subst (λ (all : List ℕ). AreAsks guard all (asks ++ later)) (sym (append_assoc stream front more))
-    (goes (front ++ more) later (subst (λ (all : List ℕ). AreAsks guard all later) (append_assoc kept front more) are))
-
-pub goes_call : (guard : Guard) (kept body stream : List ℕ) (close : Bool) (asks : List Ask) → GoesOn guard kept stream asks
-    → IsAsk guard kept (Call body close) → GoesOn guard [] stream (asks ++ Call body close ∷ [])
-goes_call guard kept body stream close asks goes is = λ more later are.
-    subst (λ (all : List Ask). AreAsks guard (stream ++ more) all) (sym (append_assoc asks (Call body close ∷ []) later))
-    (goes more (Call body close ∷ later) (kept, more, refl, is, are))
-
-pub goes_over : (guard : Guard) (kept stream : List ℕ) (refusal : Refusal) (asks : List Ask) → GoesOn guard kept stream asks
-    → IsAsk guard kept (Bad refusal) → (more : List ℕ) → AreAsks guard (stream ++ more) (asks ++ Bad refusal ∷ [])
-goes_over guard kept stream refusal asks goes is = λ more. goes more (Bad refusal ∷ []) (kept, more, refl, is, refl)
+use Rattle.sv_http.specs.declared.status.Refusal.TheVariants.{HeadTooLarge}
 
 -- what is dropped before a head
 
-all_of : (front dropped : List ℕ) → list_all ends_line front ≡ true → list_all ends_line dropped ≡ true → list_all ends_line (front ++ dropped) ≡ true
+pub all_of : (front dropped : List ℕ) → list_all ends_line front ≡ true → list_all ends_line dropped ≡ true → list_all ends_line (front ++ dropped) ≡ true
 all_of front dropped one other = list_all-append ends_line front dropped ∙ ap (λ b. b && list_all ends_line dropped) one ∙ other
 
 pub dropped_more : (guard : Guard) (front text : List ℕ) (ask : Ask) → list_all ends_line front ≡ true → IsAsk guard text ask → IsAsk guard (front ++ text) ask
@@ -82,7 +66,7 @@ still_none guard front more all none = λ text rest ask same is.
       asks = is.asks;
     })
 
-behind_dropped : (guard : Guard) (front more : List ℕ) (later : List Ask) → list_all ends_line front ≡ true → AreAsks guard more later → AreAsks guard (front ++ more) later
+pub behind_dropped : (guard : Guard) (front more : List ℕ) (later : List Ask) → list_all ends_line front ≡ true → AreAsks guard more later → AreAsks guard (front ++ more) later
 behind_dropped guard front more [] all are = still_none guard front more all are
 behind_dropped guard front more (Call body close ∷ later) all are = (
   front ++ are.0,
@@ -98,12 +82,6 @@ behind_dropped guard front more (Bad refusal ∷ later) all are = (
   dropped_more guard front are.0 (Bad refusal) all are.3,
   are.4,
 )
-
-pub goes_dropped : (guard : Guard) (front stream : List ℕ) (asks : List Ask) → list_all ends_line front ≡ true → GoesOn guard [] stream asks
-    → GoesOn guard [] (stream ++ front) asks
-goes_dropped guard front stream asks all goes = λ more later are.
-    subst (λ (all : List ℕ). AreAsks guard all (asks ++ later)) (sym (append_assoc stream front more))
-    (goes (front ++ more) later (behind_dropped guard front more later all are))
 
 -- the asks of what is undecided
 
@@ -160,17 +138,59 @@ none_in_body guard head body size close begun is judged short = λ text rest ask
     (sym (append_assoc text rest pad) ∙ ap (λ all. all ++ pad) (sym same) ∙ append_assoc head body pad ∙ sym (append-nil (head ++ (body ++ pad)))) in
     absurd (omega (arith, ap length other.1, length-append rest pad, length-replicate {A = ℕ} (size - length body) 0, short))
 
-settled : (guard : Guard) (kept stream : List ℕ) (asks : List Ask) → GoesOn guard kept stream asks → BeginsNoAsk guard kept → AreAsks guard stream asks
+pub settled : (guard : Guard) (kept stream : List ℕ) (asks : List Ask) → GoesOn guard kept stream asks → BeginsNoAsk guard kept → AreAsks guard stream asks
 settled guard kept stream asks goes none =
     subst (λ (all : List Ask). AreAsks guard stream all) (append-nil asks)
     (subst (λ (all : List ℕ). AreAsks guard all (asks ++ [])) (append-nil stream)
-    (goes [] [] (subst (λ (all : List ℕ). BeginsNoAsk guard all) (sym (append-nil kept)) none)))
+    (goes.next [] [] (subst (λ (all : List ℕ). BeginsNoAsk guard all) (sym (append-nil kept)) none)))
 
 -- what a reader stands for has these asks
 pub stands_asks : (guard : Guard) (at : Place) (head body stream : List ℕ) (asks : List Ask) → Stands guard at head body stream asks → AreAsks guard stream asks
 stands_asks guard (place.Head at) head body stream asks stands =
     settled guard head stream asks stands.4 (none_in_head guard head (no_head head at stands.0) stands.2 stands.1)
 stands_asks guard (place.Body size close) head body stream asks stands =
-    settled guard (stands.0 ++ body) stream asks stands.6 (none_in_body guard stands.0 body size close stands.1 stands.2 stands.3 stands.4)
-stands_asks guard place.Over head body stream asks stands = subst (λ (all : List ℕ). AreAsks guard all asks) (append-nil stream) (stands [])
+    settled guard (stands.0 ++ body) stream asks stands.6 (none_in_body guard stands.0 body size.body close stands.1 stands.2 stands.3 stands.4)
+stands_asks guard place.Over head body stream asks stands = subst (λ (all : List ℕ). AreAsks guard all asks) (append-nil stream) (stands.asked [])
 stands_asks guard place.Broken head body stream asks stands = absurd stands
+
+-- heads that are refused
+
+pub too_large : (guard : Guard) (head : List ℕ) → is_begun head ≡ true → IsTooLong head → IsAsk guard head (Bad HeadTooLarge)
+too_large guard head begun is = record {
+  dropped = [];
+  head = head;
+  body = [];
+  text_is = sym (append-nil head);
+  dropped_is = refl;
+  begun = begun;
+  asks = (refl, inr (is, refl));
+}
+
+pub bad_head : (guard : Guard) (head : List ℕ) (refusal : Refusal) → is_begun head ≡ true → IsHead head → Judged guard head (Refused refusal) → IsAsk guard head (Bad refusal)
+bad_head guard head refusal begun is judged = record {
+  dropped = [];
+  head = head;
+  body = [];
+  text_is = sym (append-nil head);
+  dropped_is = refl;
+  begun = begun;
+  asks = (refl, inl (is, judged));
+}
+
+-- the bytes that are dropped
+pub dropped_all : (bytes : List ℕ) → list_all ends_line (take (prefix_len ends_line bytes) bytes) ≡ true
+dropped_all [] = refl
+dropped_all (a ∷ bytes) = by_first (ends_line a) refl (dropped_all bytes)
+  where
+    by_first : (b : Bool) → ends_line a ≡ b → list_all ends_line (take (prefix_len ends_line bytes) bytes) ≡ true
+        → list_all ends_line (take (cond b (1 + prefix_len ends_line bytes) 0) (a ∷ bytes)) ≡ true
+    by_first true ends rest =
+        let one_more : 1 + prefix_len ends_line bytes ≡ suc (prefix_len ends_line bytes) = omega arith in
+        ap (λ count. list_all ends_line (take count (a ∷ bytes))) one_more ∙ ap (λ b. b && list_all ends_line (take (prefix_len ends_line bytes) bytes)) ends ∙ rest
+    by_first false ends rest = refl
+
+pub begun_take : (count : ℕ) (bytes : List ℕ) → 0 < count → is_begun bytes ≡ true → is_begun (take count bytes) ≡ true
+begun_take count [] some begun = absurd cc
+begun_take count (a ∷ bytes) some begun =
+    let more : count ≡ suc (count - 1) = omega (arith, some) in
+    ap (λ n. is_begun (take n (a ∷ bytes))) more ∙ begun

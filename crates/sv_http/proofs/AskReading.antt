@@ -7,8 +7,7 @@ use Rattle.httparse.specs.Grammar.{RequestHead, ReadsRequest}
 use Rattle.httparse.proofs.GrammarLemmas.{request_unique}
 use Rattle.sv_http.proofs.Rulings.{same_value}
 use Rattle.sv_http.proofs.Texts.{no_value, head_front, head_within, head_size, two_at_least}
-use Rattle.sv_http.proofs.Advances.{still_none, none_in_head, none_in_body, call_is, dropped_more}
-use Rattle.sv_http.proofs.Steps.{too_large, bad_head, dropped_all, begun_take}
+use Rattle.sv_http.proofs.Advances.{still_none, none_in_head, none_in_body, call_is, dropped_more, too_large, bad_head, dropped_all, begun_take}
 use Rattle.sv_http.proofs.HeadReading.{request_is, head_read, test_then}
 use Rattle.sv_http.specs.AskTable.{Judged, ruled, field_limit}
 use Rattle.sv_http.specs.RequestStream.{AreAsks, IsAsk, BeginsNoAsk, IsHead, head_length, head_limit, ends_line, is_begun}
@@ -183,7 +182,7 @@ empty_none guard = none_in_head guard [] refl (omega arith) (inl refl)
 empty_reads : (guard : Guard) → ask_behind guard (head_length []) [] ≡ None
 empty_reads guard = refl
 
-first_is : (guard : Guard) (stream : List ℕ) (read : Ask × List ℕ) → first_ask guard stream ≡ Some read → Fronts guard stream read
+pub first_is : (guard : Guard) (stream : List ℕ) (read : Ask × List ℕ) → first_ask guard stream ≡ Some read → Fronts guard stream read
 first_is guard stream read e = by_left (begun_behind stream)
   where
     by_left : (drop (prefix_len ends_line stream) stream ≡ []) ⊎ (is_begun (drop (prefix_len ends_line stream) stream) ≡ true) → Fronts guard stream read
@@ -197,7 +196,7 @@ first_is guard stream read e = by_left (begun_behind stream)
           omega (arith, front.3, length-append (take count stream) front.0),
         )
 
-first_none : (guard : Guard) (stream : List ℕ) → first_ask guard stream ≡ None → BeginsNoAsk guard stream
+pub first_none : (guard : Guard) (stream : List ℕ) → first_ask guard stream ≡ None → BeginsNoAsk guard stream
 first_none guard stream e =
     let count = prefix_len ends_line stream in
     subst (BeginsNoAsk guard) (take-append-drop count stream)

@@ -5,7 +5,9 @@ pub mod Rulings
 pub mod Texts
 pub mod Streams
 pub mod Advances
+pub mod GoingOn
 pub mod Steps
+pub mod Held
 pub mod HeadReading
 pub mod AskReading
 pub mod Credentials

@@ -4,9 +4,10 @@ use Rattle.std.specs.List.{list_all, prefix_len}
 use Rattle.std.proofs.lemmas.List.{take-append-drop, take_all, length-drop, length-take, take-take}
 use Rattle.std.proofs.lemmas.Bool.Decides.{nat_tests}
 use Rattle.sv_http.proofs.Heads.{by_test, eq_true, unshifted}
-use Rattle.sv_http.proofs.Advances.{goes_more, goes_call, goes_over, goes_dropped, call_is, no_head}
+use Rattle.sv_http.proofs.Advances.{call_is, no_head, too_large, bad_head}
+use Rattle.sv_http.proofs.GoingOn.{goes_more, goes_call, goes_over, goes_dropped}
 use Rattle.sv_http.specs.AskTable.{Judged}
-use Rattle.sv_http.specs.ReaderPlaces.{Stands, GoesOn, IsSearched, IsFound, Reading, Advances, reads, refused, called, after_ruling, EndsHead, goes_on}
+use Rattle.sv_http.specs.ReaderPlaces.{Stands, GoesOn, IsOver, IsSearched, IsFound, Reading, Advances, reads, refused, called, after_ruling, EndsHead, goes_on}
 use Rattle.sv_http.specs.RequestStream.{AreAsks, IsAsk, ends_line, is_begun, IsHead, IsTooLong, head_limit, head_length}
 use Rattle.sv_http.specs.declared.ask.Ask.{Ask}
 use Rattle.sv_http.specs.declared.ask.Ask.TheVariants.{Call, Bad}
@@ -15,7 +16,9 @@ use Rattle.sv_http.specs.declared.head.Ruling.{Ruling}
 use Rattle.sv_http.specs.declared.head.Ruling.TheVariants.{Refused, Takes}
 use Rattle.sv_http.specs.declared.line.Line.{Line}
 use Rattle.sv_http.specs.declared.line.Line.TheVariants as line
+use Rattle.sv_http.specs.Undecided.{behind_asks}
 use Rattle.sv_http.specs.declared.reader.Place.{Place}
+use Rattle.sv_http.specs.declared.reader.Size.{Size}
 use Rattle.sv_http.specs.declared.reader.Place.TheVariants as place
 use Rattle.sv_http.specs.declared.status.Refusal.{Refusal}
 use Rattle.sv_http.specs.declared.status.Refusal.TheVariants.{HeadTooLarge}
@@ -59,23 +62,12 @@ head_advances guard at to head body front asks starts searched small = λ stream
   goes_more guard head front stream (earlier ++ asks) stands.4,
 )
 
-pub too_large : (guard : Guard) (head : List ℕ) → is_begun head ≡ true → IsTooLong head → IsAsk guard head (Bad HeadTooLarge)
-too_large guard head begun is = record {
-  dropped = [];
-  head = head;
-  body = [];
-  text_is = sym (append-nil head);
-  dropped_is = refl;
-  begun = begun;
-  asks = (refl, inr (is, refl));
-}
-
 -- what is refused ends the stream
 refused_stands : (guard : Guard) (kept head body stream : List ℕ) (refusal : Refusal) (earlier asks : List Ask) → GoesOn guard kept stream (earlier ++ asks)
     → IsAsk guard kept (Bad refusal) → Stands guard place.Over head body stream (earlier ++ (asks ++ Bad refusal ∷ []))
-refused_stands guard kept head body stream refusal earlier asks goes is = λ more.
-    subst (λ (all : List Ask). AreAsks guard (stream ++ more) all) (append_assoc earlier asks (Bad refusal ∷ []))
-    (goes_over guard kept stream refusal (earlier ++ asks) goes is more)
+refused_stands guard kept head body stream refusal earlier asks goes is =
+    subst (λ (all : List Ask). IsOver guard stream all) (append_assoc earlier asks (Bad refusal ∷ []))
+    (goes_over guard kept stream refusal (earlier ++ asks) goes is)
 
 -- a head that is too long
 pub too_large_advances : (guard : Guard) (at to : Line) (head body front : List ℕ) (asks : List Ask) → (head ≡ [] → is_begun front ≡ true)
@@ -88,17 +80,6 @@ too_large_advances guard at to head body front asks starts searched large room =
     refused_stands guard (head ++ front) (head ++ front) body (stream ++ front) HeadTooLarge earlier asks
     (goes_more guard head front stream (earlier ++ asks) stands.4)
     (too_large guard (head ++ front) (begins_head head front stands.1 starts) (no_head (head ++ front) to (searched head stands.0), exact))
-
-pub bad_head : (guard : Guard) (head : List ℕ) (refusal : Refusal) → is_begun head ≡ true → IsHead head → Judged guard head (Refused refusal) → IsAsk guard head (Bad refusal)
-bad_head guard head refusal begun is judged = record {
-  dropped = [];
-  head = head;
-  body = [];
-  text_is = sym (append-nil head);
-  dropped_is = refl;
-  begun = begun;
-  asks = (refl, inl (is, judged));
-}
 
 nothing_searched : IsSearched [] line.Text
 nothing_searched = ([], refl, λ more. unshifted (head_length more))
@@ -127,7 +108,7 @@ ruled_stands guard (Refused refusal) head body stream earlier asks begun is judg
     refused_stands guard head head body stream refusal earlier asks goes (bad_head guard head refusal begun is judged)
 ruled_stands guard (Takes size close) head body stream earlier asks begun is judged goes =
     by_test (λ (to : Reading). Stands guard to.place to.head to.body stream (earlier ++ to.asks)) (size == 0)
-    (called close [] [] asks) (reads (place.Body size close) [] [] asks)
+    (called close [] [] asks) (reads (place.Body (record { head = length head; body = size }) close) [] [] asks)
     (λ none. let zero = eq_true size 0 none in
     called_stands guard head [] [] stream close earlier asks refl goes
     (subst (λ (text : List ℕ). IsAsk guard text (Call [] close)) (append-nil head) (call_is guard head [] size close begun is judged (sym zero))))
@@ -139,6 +120,7 @@ ruled_stands guard (Takes size close) head body stream earlier asks begun is jud
       some_bytes size some,
       refl,
       subst (λ (kept : List ℕ). GoesOn guard kept stream (earlier ++ asks)) (sym (append-nil head)) goes,
+      refl,
     ))
 
 -- a whole head
@@ -154,7 +136,7 @@ whole_advances guard at head body front asks to starts found room ends = λ stre
     (ap head_length (sym (append-nil (head ++ front))) ∙ whole [], fits) ends.1 (goes_more guard head front stream (earlier ++ asks) stands.4))
 
 -- a body that goes on
-pub body_advances : (guard : Guard) (size : ℕ) (close : Bool) (head body front : List ℕ) (asks : List Ask) → length (body ++ front) < size
+pub body_advances : (guard : Guard) (size : Size) (close : Bool) (head body front : List ℕ) (asks : List Ask) → length (body ++ front) < size.body
     → Advances guard (reads (place.Body size close) head body asks) front (reads (place.Body size close) head (body ++ front) asks)
 body_advances guard size close head body front asks short = λ stream earlier stands. (
   stands.0,
@@ -165,25 +147,29 @@ body_advances guard size close head body front asks short = λ stream earlier st
   stands.5,
   subst (λ (kept : List ℕ). GoesOn guard kept (stream ++ front) (earlier ++ asks)) (append_assoc stands.0 body front)
       (goes_more guard (stands.0 ++ body) front stream (earlier ++ asks) stands.6),
+  stands.7,
 )
 
 -- a whole body
-pub call_advances : (guard : Guard) (size : ℕ) (close : Bool) (head body front : List ℕ) (asks : List Ask) → size ≤ length (body ++ front)
-    → length front ≤ max (size - length body) 1
+pub call_advances : (guard : Guard) (size : Size) (close : Bool) (head body front : List ℕ) (asks : List Ask) → size.body ≤ length (body ++ front)
+    → length front ≤ max (size.body - length body) 1
     → Advances guard (reads (place.Body size close) head body asks) front (called close head (body ++ front) asks)
 call_advances guard size close head body front asks whole room = λ stream earlier stands.
     let short = stands.4 in
-    let exact : length (body ++ front) ≡ size = omega (arith, whole, room, short, length-append body front) in
+    let exact : length (body ++ front) ≡ size.body = omega (arith, whole, room, short, length-append body front) in
     called_stands guard (stands.0 ++ (body ++ front)) head (body ++ front) (stream ++ front) close earlier asks stands.5
     (subst (λ (kept : List ℕ). GoesOn guard kept (stream ++ front) (earlier ++ asks)) (append_assoc stands.0 body front)
     (goes_more guard (stands.0 ++ body) front stream (earlier ++ asks) stands.6))
-    (call_is guard stands.0 (body ++ front) size close stands.1 stands.2 stands.3 exact)
+    (call_is guard stands.0 (body ++ front) size.body close stands.1 stands.2 stands.3 exact)
 
 -- behind what was refused
 pub over_advances : (guard : Guard) (head body front : List ℕ) (asks : List Ask)
     → Advances guard (reads place.Over head body asks) front (reads place.Over head body asks)
-over_advances guard head body front asks = λ stream earlier stands more.
-    subst (λ (all : List ℕ). AreAsks guard all (earlier ++ asks)) (sym (append_assoc stream front more)) (stands (front ++ more))
+over_advances guard head body front asks = λ stream earlier stands. record {
+  asked = λ more.
+      subst (λ (all : List ℕ). AreAsks guard all (earlier ++ asks)) (sym (append_assoc stream front more)) (stands.asked (front ++ more));
+  left = λ more. ap (behind_asks guard (earlier ++ asks)) (append_assoc stream front more) ∙ stands.left (front ++ more);
+}
 
 pub broken_advances : (guard : Guard) (head body front : List ℕ) (asks : List Ask)
     → Advances guard (reads place.Broken head body asks) front (reads place.Broken head body asks)
@@ -191,14 +177,14 @@ broken_advances guard head body front asks = λ stream earlier stands. absurd st
 
 -- the same steps, by what the calls answer
 
-pub call_taken : (guard : Guard) (at : Place) (size : ℕ) (close : Bool) (head body longer front : List ℕ) (asks : List Ask) (to : Reading)
-    → at ≡ place.Body size close → longer ≡ body ++ front → size ≤ length longer → length front ≤ max (size - length body) 1
+pub call_taken : (guard : Guard) (at : Place) (size : Size) (close : Bool) (head body longer front : List ℕ) (asks : List Ask) (to : Reading)
+    → at ≡ place.Body size close → longer ≡ body ++ front → size.body ≤ length longer → length front ≤ max (size.body - length body) 1
     → to ≡ called close head longer asks → Advances guard (reads at head body asks) front to
 call_taken guard at size close head body longer front asks to in_body is whole room call =
     subst (λ (end : Reading). Advances guard (reads at head body asks) front end) (sym call)
     (subst (λ (kept : List ℕ). Advances guard (reads at head body asks) front (called close head kept asks)) (sym is)
     (subst (λ (from : Place). Advances guard (reads from head body asks) front (called close head (body ++ front) asks)) (sym in_body)
-    (call_advances guard size close head body front asks (subst (λ (kept : List ℕ). size ≤ length kept) is whole) room)))
+    (call_advances guard size close head body front asks (subst (λ (kept : List ℕ). size.body ≤ length kept) is whole) room)))
 
 pub searched_taken : (guard : Guard) (at : Place) (from next : Line) (head body longer front : List ℕ) (asks : List Ask) (to : Reading)
     → at ≡ place.Head from → longer ≡ head ++ front → (head ≡ [] → is_begun front ≡ true)
@@ -232,24 +218,6 @@ pub dropped_taken : (guard : Guard) (at : Place) (from : Line) (head body front 
 dropped_taken guard at from head body front asks in_head empty all =
     subst (λ (inside : Place). Advances guard (reads inside head body asks) front (reads inside head body asks)) (sym in_head)
     (dropped_advances guard from head body front asks empty all)
-
--- the bytes that are dropped
-pub dropped_all : (bytes : List ℕ) → list_all ends_line (take (prefix_len ends_line bytes) bytes) ≡ true
-dropped_all [] = refl
-dropped_all (a ∷ bytes) = by_first (ends_line a) refl (dropped_all bytes)
-  where
-    by_first : (b : Bool) → ends_line a ≡ b → list_all ends_line (take (prefix_len ends_line bytes) bytes) ≡ true
-        → list_all ends_line (take (cond b (1 + prefix_len ends_line bytes) 0) (a ∷ bytes)) ≡ true
-    by_first true ends rest =
-        let one_more : 1 + prefix_len ends_line bytes ≡ suc (prefix_len ends_line bytes) = omega arith in
-        ap (λ count. list_all ends_line (take count (a ∷ bytes))) one_more ∙ ap (λ b. b && list_all ends_line (take (prefix_len ends_line bytes) bytes)) ends ∙ rest
-    by_first false ends rest = refl
-
-pub begun_take : (count : ℕ) (bytes : List ℕ) → 0 < count → is_begun bytes ≡ true → is_begun (take count bytes) ≡ true
-begun_take count [] some begun = absurd cc
-begun_take count (a ∷ bytes) some begun =
-    let more : count ≡ suc (count - 1) = omega (arith, some) in
-    ap (λ n. is_begun (take n (a ∷ bytes))) more ∙ begun
 
 pub when_none : {A : Type 0} (found : Option A) (P : Type 0) (Q : A → Type 0) → found ≡ None → MatchOption found P Q → P
 when_none found P Q is holds = subst (λ (o : Option _). MatchOption o P Q) is holds

@@ -78,7 +78,7 @@ same_head a b x y (inl one) (inr other) same = absurd (never_both a b x y one ot
 same_head a b x y (inr one) (inl other) same = absurd (never_both b a y x other one (sym same))
 same_head a b x y (inr one) (inr other) same = same_front a b x y (one.1 ∙ sym other.1) same
 
-abbrev size_of : Ruling → ℕ
+abbrev pub size_of : Ruling → ℕ
 size_of (Takes size close) = size
 size_of (Refused refusal) = 0
 

@@ -2,6 +2,7 @@ pub mod AskTable
 pub mod Authorization
 pub mod ReaderPlaces
 pub mod AsksOf
+pub mod Undecided
 pub mod ReplyText
 pub mod RequestStream
 pub mod RequestText

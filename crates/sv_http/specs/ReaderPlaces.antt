@@ -1,7 +1,9 @@
 -- How far a reader has come: what it keeps of the undecided bytes, and what it stands for.
-use Rattle.std.specs.Prelude.{◌≡◌, ◌⊎◌, ◌<◌, ◌+◌, ◌==◌, ℕ, List, [], ◌∷◌, ◌++◌, Option, None, Some, Bool, true, length, option_map, nat_lt, if◌then◌else◌}
-use Rattle.sv_http.specs.AskTable.{Judged}
-use Rattle.sv_http.specs.RequestStream.{AreAsks, IsHead, head_length, head_limit, is_begun}
+use Rattle.std.specs.Prelude.{◌≡◌, ◌⊎◌, ◌<◌, ◌+◌, ◌==◌, ℕ, List, [], ◌∷◌, ◌++◌, Option, None, Some, Bool, true, length, min, option_map, nat_lt, if◌then◌else◌}
+use Rattle.std.specs.List.{list_all}
+use Rattle.sv_http.specs.AskTable.{Judged, body_limit}
+use Rattle.sv_http.specs.RequestStream.{AreAsks, IsHead, head_length, head_limit, ends_line, is_begun}
+use Rattle.sv_http.specs.Undecided.{behind_asks}
 use Rattle.sv_http.specs.declared.ask.Ask.{Ask}
 use Rattle.sv_http.specs.declared.guard.Guard.{Guard}
 use Rattle.sv_http.specs.declared.head.Ruling.{Ruling}
@@ -37,19 +39,27 @@ IsSearched bytes at =
 abbrev pub IsFound : List ℕ → Type 0
 IsFound bytes = (more : List ℕ) → head_length (bytes ++ more) ≡ Some (length bytes)
 
--- whatever comes, the asks of what is kept and what comes are the next of the stream
-abbrev pub GoesOn : Guard → List ℕ → List ℕ → List Ask → Type 0
-GoesOn guard kept stream asks =
-    (more : List ℕ) (later : List Ask) → AreAsks guard (kept ++ more) later → AreAsks guard (stream ++ more) (asks ++ later)
+-- whatever comes, the asks of what is kept and what comes are the next of the stream, in which what is kept stands
+-- behind these asks and some CR and LF
+pub record GoesOn (guard : Guard) (kept stream : List ℕ) (asks : List Ask) : Type 0 where
+  pub next : (more : List ℕ) (later : List Ask) → AreAsks guard (kept ++ more) later → AreAsks guard (stream ++ more) (asks ++ later)
+  pub dropped : List ℕ
+  pub dropped_is : list_all ends_line dropped ≡ true
+  pub left : (more : List ℕ) → behind_asks guard asks (stream ++ more) ≡ dropped ++ (kept ++ more)
+
+-- whatever comes, the stream has these asks, and nothing counts behind them
+pub record IsOver (guard : Guard) (stream : List ℕ) (asks : List Ask) : Type 0 where
+  pub asked : (more : List ℕ) → AreAsks guard (stream ++ more) asks
+  pub left : (more : List ℕ) → behind_asks guard asks (stream ++ more) ≡ []
 
 -- what a place and the bytes that are kept stand for
 abbrev pub Stands : Guard → Place → List ℕ → List ℕ → List ℕ → List Ask → Type 0
 Stands guard (place.Head at) head body stream asks =
     IsSearched head at × ((head ≡ []) ⊎ (is_begun head ≡ true)) × (length head < head_limit) × (body ≡ []) × GoesOn guard head stream asks
 Stands guard (place.Body size close) head body stream asks =
-    (whole : List ℕ) × (is_begun whole ≡ true) × IsHead whole × Judged guard whole (Takes size close) × (length body < size)
-    × (head ≡ []) × GoesOn guard (whole ++ body) stream asks
-Stands guard place.Over head body stream asks = (more : List ℕ) → AreAsks guard (stream ++ more) asks
+    (whole : List ℕ) × (is_begun whole ≡ true) × IsHead whole × Judged guard whole (Takes size.body close) × (length body < size.body)
+    × (head ≡ []) × GoesOn guard (whole ++ body) stream asks × (size.head ≡ length whole)
+Stands guard place.Over head body stream asks = IsOver guard stream asks
 Stands guard place.Broken head body stream asks = ⊥
 
 -- the reader stands for a stream of which these are the asks
@@ -94,8 +104,17 @@ called close head body asks = reads (place.Head line.Text) head [] (asks ++ Call
 -- behind a whole head: a refusal, or a body, which is whole at once where it has no bytes
 abbrev pub after_ruling : Ruling → List ℕ → List ℕ → List Ask → Reading
 after_ruling (Refused refusal) head body asks = refused refusal head body asks
-after_ruling (Takes size close) head body asks = if size == 0 then called close [] [] asks else reads (place.Body size close) [] [] asks
+after_ruling (Takes size close) head body asks =
+    if size == 0 then called close [] [] asks
+    else reads (place.Body (record { head = length head; body = size }) close) [] [] asks
 
 -- a whole head is judged
 abbrev pub EndsHead : Guard → List ℕ → List ℕ → List Ask → Reading → Type 0
 EndsHead guard head body asks to = (judged : Ruling) × Judged guard head judged × (to ≡ after_ruling judged head body asks)
+
+-- how many undecided bytes are kept or counted: no more than a head and a body may have
+abbrev pub counted : Place → List ℕ → List ℕ → ℕ
+counted (place.Head at) head body = min (length head) head_limit
+counted (place.Body size close) head body = min size.head head_limit + min (length body) body_limit
+counted place.Over head body = 0
+counted place.Broken head body = 0

@@ -14,7 +14,7 @@ use httparse::Header;
 use std::alloc::{AllocError, Global};
 
 /// The most bytes of a body.
-const BODY_LIMIT: u64 = 1_048_576;
+pub(crate) const BODY_LIMIT: u64 = 1_048_576;
 
 /// The most bytes of the body of a reply.
 pub(crate) const REPLY_LIMIT: u64 = 67_108_864;

@@ -4,6 +4,7 @@ ghost use Rattle.std.specs.List.{prefix_len};
 ghost use Rattle.sv_http.specs.RequestStream.{ends_line, is_begun};
 
 use crate::ask::Ask;
+use crate::fields::BODY_LIMIT;
 use crate::guard::Guard;
 use crate::head::{Ruling, judge};
 use crate::line::{Line, look};
@@ -15,20 +16,28 @@ use sv_base::bytes::Bytes;
 /// The most bytes of a head.
 const HEAD_LIMIT: usize = 16_384;
 
+/// How many bytes a request has.
+#[derive(Clone, Copy, Debug)]
+struct Size {
+    head: usize,
+    body: usize,
+}
+
 /// How far a stream has come.
 #[derive(Clone, Copy, Debug)]
 enum Place {
     /// Before a head, or in one whose bytes end so.
     Head { line: Line },
-    /// In the body of a call.
-    Body { size: usize, close: bool },
+    /// In the body of a call, which has this size with its head.
+    Body { size: Size, close: bool },
     /// A request was refused.
     Over,
     /// Memory was refused.
     Broken,
 }
 
-/// A link's stream, of which only the undecided bytes of a request are kept: of its head, and then of its body.
+/// A link's stream, of which only the undecided bytes of a request are kept: of its head, and then of its body; of the
+/// whole head only the count.
 #[derive(Debug, Drop)]
 pub struct HttpReader {
     guard: Guard,
@@ -39,8 +48,9 @@ pub struct HttpReader {
 
 impl HttpReader {
     ghost use Rattle.sv_http.specs.RequestStream.{AreAsks};
-    ghost use Rattle.sv_http.specs.ReaderPlaces.{StandsFor, Advances, EndsHead, shown, refused, called, goes_on};
+    ghost use Rattle.sv_http.specs.ReaderPlaces.{StandsFor, Advances, EndsHead, shown, refused, called, goes_on, counted};
     ghost use Rattle.sv_http.specs.AsksOf.{asks_of};
+    ghost use Rattle.sv_http.specs.Undecided.{held_of, held_limit};
     ghost use Rattle.sv_http.specs.declared.line.Line.{Line};
     ghost use Rattle.sv_http.specs.declared.ask.Ask.{Ask};
     ghost use Rattle.sv_http.specs.declared.reader.Place.{Place};
@@ -88,6 +98,32 @@ impl HttpReader {
                 self.place = Place::Broken;
                 Err(refusal)
             }
+        }
+    }
+
+    /// How many bytes were read and are not decided yet: those of the head and of the body of the unfinished request,
+    /// without the CR and LF that are dropped before it. None are behind a refused request and after out of memory.
+    pub fn held(&self) -> u64
+        ensures held { (stream : List ℕ) (asks : List Ask) → StandsFor self.now stream asks
+            → result ≡ held_of self.now.guard stream }
+        ensures bound { result ≤ held_limit }
+        ensures over { self.now.place ≡ Place.Over → result ≡ 0 }
+        ensures broken { self.now.place ≡ Place.Broken → result ≡ 0 }
+    {
+        self.counted()
+    }
+
+    /// What is kept or counted, which the type alone doesn't bound.
+    fn counted(&self) -> u64
+        ensures { result ≡ counted self.now.place self.now.head.items self.now.body.items }
+    {
+        match self.place {
+            Place::Head { .. } => (self.head.as_slice().len() as u64).min(HEAD_LIMIT as u64),
+            Place::Body { size, .. } => {
+                let body = (self.body.as_slice().len() as u64).min(BODY_LIMIT);
+                (size.head as u64).min(HEAD_LIMIT as u64) + body
+            }
+            Place::Over | Place::Broken => 0,
         }
     }
 
@@ -200,11 +236,13 @@ impl HttpReader {
         match judge(alloc, &self.guard, self.head.as_slice())? {
             Ruling::Refused(refusal) => self.refuse(refusal, asks),
             Ruling::Takes { size, close } => {
+                let head = self.head.as_slice().len();
                 self.head.clear();
                 self.body = Vec::with_capacity(alloc, size)?;
                 if size == 0 {
                     self.call(alloc, close, asks)
                 } else {
+                    let size = Size { head, body: size };
                     self.place = Place::Body { size, close };
                     Ok(())
                 }
@@ -215,7 +253,7 @@ impl HttpReader {
     fn take_body(
         &mut self,
         alloc: Global,
-        size: usize,
+        size: Size,
         close: bool,
         bytes: &[u8],
         asks: &mut Vec<Ask>,
@@ -229,10 +267,10 @@ impl HttpReader {
         ensures bound { IfOk result (λ count. count ≤ length bytes.now) }
         ensures progress { IfOk result (λ count. 0 < count) }
     {
-        let room = size.saturating_sub(self.body.as_slice().len()).max(1);
+        let room = size.body.saturating_sub(self.body.as_slice().len()).max(1);
         let count = room.min(bytes.len());
         self.body.extend_from_slice(&bytes[..count])?;
-        if self.body.as_slice().len() >= size {
+        if self.body.as_slice().len() >= size.body {
             self.call(alloc, close, asks)?;
         }
         Ok(count)

@@ -1,7 +1,8 @@
 use Rattle.std.proofs.Common.{◌≡◌, ◌∙◌, sym, subst, true, ℕ, take}
 use Rattle.std.specs.List.{list_all}
 use Rattle.sv_http.specs.RequestStream.{ends_line}
-use Rattle.sv_http.proofs.Steps.{dropped_taken, dropped_all, no_bytes}
+use Rattle.sv_http.proofs.Advances.{dropped_all}
+use Rattle.sv_http.proofs.Steps.{dropped_taken, no_bytes}
 use Rattle.sv_http.proofs.reader.HttpReader.take.Goals as goal
 
 pub returns-then-ends_line-clause-advances : goal.returns-then-ends_line-clause-advances

@@ -1,7 +1,8 @@
 use Rattle.std.proofs.Common.{◌∙◌, ◌<◌, ◌++◌, List, ℕ, ap, subst, length, take, arith, MatchOption}
 use Rattle.std.proofs.lemmas.List.{length-take}
 use Rattle.sv_http.specs.ReaderPlaces.{shown, IsFound, IsSearched}
-use Rattle.sv_http.proofs.Steps.{whole_taken, searched_taken, begun_take, front_taken, when_none, when_some}
+use Rattle.sv_http.proofs.Advances.{begun_take}
+use Rattle.sv_http.proofs.Steps.{whole_taken, searched_taken, front_taken, when_none, when_some}
 use Rattle.sv_http.proofs.reader.HttpReader.take_head.Goals as goal
 
 pub returns-in_ok-end_head-in-None-clause-advances :
