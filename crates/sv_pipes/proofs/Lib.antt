@@ -10,3 +10,4 @@ pub mod Steps
 pub mod StreamReading
 pub mod TalkReading
 pub mod Talks
+pub mod Undecided

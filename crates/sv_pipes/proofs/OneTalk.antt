@@ -1,6 +1,6 @@
 -- A talk has one cut.
 use Rattle.std.proofs.Common.{◌≡◌, ◌+◌, ◌⊎◌, ℕ, List, [], ◌∷◌, ◌++◌, length, codes, refl, ap, sym, ◌∙◌, subst, inl, inr, arith, append_assoc, append-nil, length-append}
-use Rattle.std.proofs.lemmas.List.{append_cancel_left, map-append}
+use Rattle.std.proofs.lemmas.List.{append_cancel_left, length-map, map-append}
 use Rattle.sv_pipes.proofs.Digits.{digits_stop}
 use Rattle.sv_pipes.proofs.Fronts.{no_bytes}
 use Rattle.sv_pipes.specs.Talk.{Mark, Phrase, said, spelled, talk_of, tokens_of, Leads, IsRound, IsSaid, IsBegun, IsOutside, IsLength, GoesOn, IsLost, IsCut, result_text, number_of}
@@ -286,6 +286,17 @@ one_talk talk tokens others at also cut cut' =
         | inr off' ↦ (off.4 ∙ ap (λ front. front ++ token.Wrong ∷ []) told ∙ sym off'.4, off.3 ∙ sym off'.3)
       ]
     ]
+
+-- and one rest
+pub one_rest : (talk : List Mark) (tokens others : List Token) (to also : TalkState) (rest other : List ℕ) → GoesOn talk tokens to rest
+    → GoesOn talk others also other → length rest ≡ length other
+unfolding going_on
+one_rest talk tokens others to also rest other cut cut' =
+    let one = going_on talk tokens to rest cut in
+    let two = going_on talk others also other cut' in
+    let same = same_parts state.Acknowledged one.phrases two.phrases one.to two.to one.marks two.marks one.round two.round one.stops two.stops
+    (sym one.cut ∙ two.cut) in
+    sym (length-map rest Byte) ∙ ap length same.marks_are ∙ length-map other Byte
 
 -- a reader in a place was told a talk that has such a cut
 pub stands_cut : (at : Place) (held : List ℕ) (talk : List Mark) (tokens : List Token) → Stands at held talk tokens → IsCut talk tokens (state_of at)

@@ -174,7 +174,7 @@ lost_read talk tokens cut =
 goes_on_read : (talk : List Mark) (tokens : List Token) (to : TalkState) (rest : List ℕ) → GoesOn talk tokens to rest → IsRead talk
 goes_on_read talk tokens to rest cut = subst (λ (all : List Mark). IsRead all) (sym cut.cut) (begun_read cut.phrases to rest cut.round)
 
-cut_read : (talk : List Mark) (tokens : List Token) (at : TalkState) → IsCut talk tokens at → IsRead talk
+pub cut_read : (talk : List Mark) (tokens : List Token) (at : TalkState) → IsCut talk tokens at → IsRead talk
 cut_read talk tokens state.Acknowledged cut = goes_on_read talk tokens state.Acknowledged cut.0 cut.1
 cut_read talk tokens state.Ready cut = goes_on_read talk tokens state.Ready cut.0 cut.1
 cut_read talk tokens state.Busy cut = goes_on_read talk tokens state.Busy cut.0 cut.1

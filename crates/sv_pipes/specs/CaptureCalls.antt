@@ -2,7 +2,7 @@
 use Rattle.std.specs.Prelude.{◌≡◌, ◌++◌, ℕ, List}
 use Rattle.sv_pipes.specs.CaptureCut.{Decided, IsClosed, grouped}
 use Rattle.sv_pipes.specs.CapturePlaces.{StandsFor}
-use Rattle.sv_pipes.specs.StreamCut.{decided_of, closed_of}
+use Rattle.sv_pipes.specs.StreamCut.{decided_of, closed_of, undecided_of}
 use Rattle.sv_pipes.specs.declared.captured.Capture.{Capture}
 use Rattle.sv_pipes.specs.declared.parts.Part.{Part}
 
@@ -32,6 +32,12 @@ TellsEnd value parts =
     (limit : ℕ) (stream : List ℕ) (decided : List Decided) → StandsFor value limit stream decided
     → (fresh : List Decided) × (parts ≡ grouped fresh)
     × (decided ++ fresh ≡ closed_of limit stream)
+
+-- so many bytes of the whole stream aren't decided yet
+abbrev pub Holds : Capture → ℕ → Type 0
+Holds value count =
+    (limit : ℕ) (stream : List ℕ) (decided : List Decided) → StandsFor value limit stream decided
+    → count ≡ undecided_of limit stream
 
 -- there is no stream that the value stands for
 abbrev pub StandsForNone : Capture → Type 0

@@ -3,6 +3,12 @@ use Rattle.std.specs.Prelude.{ℕ}
 use Rattle.sv_pipes.specs.declared.talk.Place.{Place}
 use Rattle.sv_pipes.specs.declared.talk.Place.TheVariants as place
 
+-- how many bytes of a word were said
+abbrev pub word_in : Place → ℕ
+word_in (place.Greeting count) = count
+word_in (place.Word count) = count
+word_in at = 0
+
 -- how many digits of a result's length were said
 abbrev pub digits_in : Place → ℕ
 digits_in (place.Length count number) = count

@@ -1,6 +1,6 @@
 -- The cut of a whole captured stream, as a function: up to the first awaited token, and then what follows it.
-use Rattle.std.specs.Prelude.{◌==◌, ◌++◌, ◌∷◌, ℕ, zero, suc, List, [], length, Option, None, Some, option_map, if◌then◌else◌}
-use Rattle.sv_pipes.specs.CaptureCut.{Decided, Stretch, awaited, decided_by, decided_open}
+use Rattle.std.specs.Prelude.{◌==◌, ◌+◌, ◌++◌, ◌∷◌, ℕ, zero, suc, List, [], length, Option, None, Some, option_map, if◌then◌else◌}
+use Rattle.sv_pipes.specs.CaptureCut.{Decided, Stretch, awaited, decided_by, decided_open, last_of}
 use Rattle.sv_pipes.specs.CaptureCut.Stretch.{Plain, Captured}
 use Rattle.sv_pipes.specs.declared.parts.Side.{Side}
 use Rattle.sv_pipes.specs.declared.parts.Side.TheVariants.{Outside, Inside}
@@ -72,6 +72,16 @@ cut_at (suc most) limit side bytes =
 -- the cut of a whole stream
 unfoldable pub cut_of : ℕ → List ℕ → Cut
 cut_of limit stream = cut_at (length stream) limit Outside stream
+
+-- how many bytes on a side aren't decided: the held tail, and inside the last ones shown, as many as a message has
+abbrev pub undecided_on : ℕ → Side → List ℕ → List ℕ → ℕ
+undecided_on limit Outside shown held = length held
+undecided_on limit Inside shown held = length (last_of limit shown) + length held
+
+-- how many bytes of a whole stream aren't decided yet
+abbrev pub undecided_of : ℕ → List ℕ → ℕ
+undecided_of limit stream =
+    let cut = cut_of limit stream in undecided_on limit cut.side cut.shown cut.held
 
 -- what is decided of a whole stream
 abbrev pub decided_of : ℕ → List ℕ → List Decided

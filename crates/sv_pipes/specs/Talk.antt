@@ -114,6 +114,11 @@ pub record IsLost (talk : List Mark) (tokens : List Token) : Type 0 where
   pub outside : IsOutside to rest byte
   pub tokens_are : tokens ≡ tokens_of phrases ++ token.Wrong ∷ []
 
+-- the cut of a whole talk and how many of its bytes aren't decided yet: those of the rest, and none where it is lost
+abbrev pub IsUndecided : List Mark → List Token → TalkState → ℕ → Type 0
+IsUndecided talk tokens state.Unknown count = IsLost talk tokens × (count ≡ 0)
+IsUndecided talk tokens to count = (rest : List ℕ) × GoesOn talk tokens to rest × (count ≡ length rest)
+
 -- the cut of a whole talk: its tokens, and the state in which it leaves the listener
 abbrev pub IsCut : List Mark → List Token → TalkState → Type 0
 IsCut talk tokens state.Unknown = IsLost talk tokens

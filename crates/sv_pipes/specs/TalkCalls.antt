@@ -1,9 +1,9 @@
 -- What the calls of a reader do to the talk that it stands for.
 use Rattle.std.specs.Prelude.{◌≡◌, ◌++◌, ◌∷◌, ℕ, List, []}
-use Rattle.sv_pipes.specs.Talk.{Mark, IsCut, said}
+use Rattle.sv_pipes.specs.Talk.{Mark, IsCut, IsUndecided, said}
 use Rattle.sv_pipes.specs.Talk.Mark.{Sent}
-use Rattle.sv_pipes.specs.TalkCut.{talk_tokens, talk_state}
-use Rattle.sv_pipes.specs.TalkPlaces.{StandsFor}
+use Rattle.sv_pipes.specs.TalkCut.{talk_tokens, talk_state, undecided_of}
+use Rattle.sv_pipes.specs.TalkPlaces.{StandsFor, state_in}
 use Rattle.sv_pipes.specs.declared.talk.ListenerTalk.{ListenerTalk}
 use Rattle.sv_pipes.specs.declared.tokens.TalkState.{TalkState}
 use Rattle.sv_pipes.specs.declared.tokens.Token.{Token}
@@ -36,6 +36,17 @@ abbrev pub IsRead : ListenerTalk → TalkState → Type 0
 IsRead value state =
     (talk : List Mark) (tokens : List Token) → StandsFor value talk tokens
     → (tokens ≡ talk_tokens talk) × (state ≡ talk_state talk)
+
+-- by the cut of the talk so many bytes aren't decided yet
+abbrev pub HasUndecided : ListenerTalk → ℕ → Type 0
+HasUndecided value count =
+    (talk : List Mark) (tokens : List Token) → StandsFor value talk tokens
+    → IsUndecided talk tokens (state_in value) count
+
+-- so many bytes of the whole talk aren't decided yet
+abbrev pub Holds : ListenerTalk → ℕ → Type 0
+Holds value count =
+    (talk : List Mark) (tokens : List Token) → StandsFor value talk tokens → count ≡ undecided_of talk
 
 -- there is no talk that the value stands for
 abbrev pub StandsForNone : ListenerTalk → Type 0

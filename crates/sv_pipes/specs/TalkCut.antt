@@ -1,8 +1,8 @@
 -- The cut of a whole talk, as a function: it is read mark by mark, from a listener that said nothing.
-use Rattle.std.specs.Prelude.{◌≡◌, ◌++◌, ◌∷◌, List, []}
+use Rattle.std.specs.Prelude.{◌≡◌, ◌++◌, ◌∷◌, ℕ, List, []}
 use Rattle.sv_pipes.specs.Talk.{Mark}
 use Rattle.sv_pipes.specs.Talk.Mark.{Byte, Sent}
-use Rattle.sv_pipes.specs.TalkPlaces.{Told, goes, state_of, step}
+use Rattle.sv_pipes.specs.TalkPlaces.{Told, goes, state_of, step, undecided_at}
 use Rattle.sv_pipes.specs.declared.talk.Place.{Place}
 use Rattle.sv_pipes.specs.declared.talk.Place.TheVariants as place
 use Rattle.sv_pipes.specs.declared.tokens.TalkState.{TalkState}
@@ -35,6 +35,10 @@ talk_tokens talk = (told_of talk).tokens
 -- the state in which a whole talk leaves the listener
 abbrev pub talk_state : List Mark → TalkState
 talk_state talk = state_of (told_of talk).place
+
+-- how many bytes of a whole talk aren't decided yet
+abbrev pub undecided_of : List Mark → ℕ
+undecided_of talk = undecided_at (told_of talk).place (told_of talk).held
 
 -- events were sent where the listener waited for one
 abbrev pub IsAttended : List Mark → Type 0

@@ -29,6 +29,14 @@ state_of (place.Body count number) = state.Busy
 state_of place.Lost = state.Unknown
 state_of place.Broken = state.Unknown
 
+-- how many undecided bytes were said at a place, where these of a result are kept
+abbrev pub undecided_at : Place → List ℕ → ℕ
+undecided_at (place.Greeting count) held = count
+undecided_at (place.Word count) held = count
+undecided_at (place.Length count number) held = 7 + count
+undecided_at (place.Body count number) held = 8 + count + length held
+undecided_at at held = 0
+
 -- which undecided bytes a place stands for
 abbrev pub IsKept : Place → List ℕ → List ℕ → Type 0
 IsKept (place.Greeting count) held rest = (rest ≡ take count ready_line) × (count < 6) × (held ≡ [])

@@ -30,6 +30,22 @@ const STREAMS: &str = "\
 10|<!--xsupervisor:begin-->=>L<!--xsupervisor:begin-->;
 ";
 
+// Streams whose messages have at most 10 bytes, with marks as above, and how many of their bytes aren't decided yet.
+const HELD: [(&str, u64); 12] = [
+    ("", 0),
+    ("ab", 0),
+    ("ab<", 1),
+    ("ab<!--XSUPERVISOR:BEGIN--", 23),
+    ("ab<!--XSUPERVISOR:END--", 0),
+    ("ab[", 0),
+    ("ab[hello", 5),
+    ("ab[hello world!", 10),
+    ("ab[he<!--", 6),
+    ("ab[hello world!<!--XSUPERVISOR:END--", 31),
+    ("ab[hello world!]", 0),
+    ("ab[hello]cd<!", 2),
+];
+
 // A stream of 56 bytes.
 const STREAM: &str = "ab<!--XSUPERVISOR:BEGIN-->hello<!--XSUPERVISOR:END-->cd<";
 
@@ -122,6 +138,23 @@ fn play_cut(rt: &impl Abort, alloc: Global, first: usize, second: usize) {
     let parts = capture.close(alloc).expect(rt, "ample memory");
     tell(&mut told, parts.as_slice(), ("", ""), ("(", ")")).expect(rt, "ample memory");
     assert_eq!(rt; told.as_str(), "ab(hello)cd<");
+}
+
+/// So many bytes of this stream aren't decided yet.
+fn check_held(rt: &impl Abort, alloc: Global, text: &str, expected: u64) {
+    let mut capture = Capture::new(alloc, 10).expect(rt, "ample memory");
+    let piece = bytes_of(rt, alloc, text);
+    capture
+        .feed(alloc, piece.as_slice())
+        .expect(rt, "ample memory");
+    assert_eq!(rt; capture.held(), expected);
+}
+
+#[test]
+fn undecided_bytes(rt: HostRuntime) {
+    for row in &HELD {
+        check_held(&rt, rt.alloc(), row.0, row.1);
+    }
 }
 
 #[test]

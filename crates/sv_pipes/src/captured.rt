@@ -37,7 +37,7 @@ pub struct Capture {
 }
 
 impl Capture {
-    ghost use Rattle.sv_pipes.specs.CaptureCalls.{Feeds, Tells, Closes, TellsEnd, StandsForNone};
+    ghost use Rattle.sv_pipes.specs.CaptureCalls.{Feeds, Tells, Closes, TellsEnd, Holds, StandsForNone};
     ghost use Rattle.sv_pipes.specs.CapturePlaces.{StandsFor, IsBroken, shown, step, steps, step_outside, step_inside, held_outside};
     ghost use Rattle.sv_pipes.specs.declared.parts.Part.{Part};
 
@@ -98,6 +98,19 @@ impl Capture {
         flush(alloc, &mut parts, &mut logged)?;
         self.broken = false;
         Ok(parts)
+    }
+
+    /// The number of bytes that were read and aren't decided yet: inside the last bytes shown, as many as the limit has,
+    /// and on both sides the tail that may begin the awaited mark. It is 0 after out of memory. It takes no memory.
+    pub fn held(&self) -> u64
+        ensures read { Holds self.now result }
+        ensures refused { IsBroken self.now → result ≡ 0 }
+        ensures bound { result ≤ self.now.limit + 23 }
+    {
+        if self.broken {
+            return 0;
+        }
+        self.body.len() as u64 + self.matched as u64
     }
 
     /// The bytes outside that are held.

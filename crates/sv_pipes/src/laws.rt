@@ -1,8 +1,8 @@
 //! What holds of the definitions that the contracts cite.
 
 ghost use Rattle.std.specs.Prelude.{◌≡◌, List, ℕ};
-ghost use Rattle.sv_pipes.specs.Talk.{Mark, IsCut as IsTalkCut};
-ghost use Rattle.sv_pipes.specs.TalkCut.{IsAttended, talk_tokens, talk_state};
+ghost use Rattle.sv_pipes.specs.Talk.{Mark, IsCut as IsTalkCut, IsUndecided};
+ghost use Rattle.sv_pipes.specs.TalkCut.{IsAttended, talk_tokens, talk_state, undecided_of};
 ghost use Rattle.sv_pipes.specs.TalkPlaces.{StandsFor as TalkStandsFor, state_in};
 ghost use Rattle.sv_pipes.specs.CaptureCut.{Decided, IsCut, IsClosed};
 ghost use Rattle.sv_pipes.specs.CapturePlaces.{StandsFor, KeepsSame};
@@ -31,6 +31,12 @@ pub fn each_talk_has_its_cut()
 pub fn a_cut_is_that_of_the_talk()
     ensures { (talk : List Mark) (tokens : List Token) (at : TalkState)
         → IsTalkCut talk tokens at → (tokens ≡ talk_tokens talk) × (at ≡ talk_state talk) }
+{}
+
+/// A law: the cut of a talk leaves one number of bytes undecided, and the function of the whole talk gives it.
+pub fn a_talk_leaves_one_number_undecided()
+    ensures { (talk : List Mark) (tokens : List Token) (at : TalkState) (count : ℕ)
+        → IsUndecided talk tokens at count → count ≡ undecided_of talk }
 {}
 
 /// A law: a captured stream has one cut, so its bytes alone decide what is for the log, what makes a message, and

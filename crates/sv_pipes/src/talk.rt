@@ -1,7 +1,7 @@
 //! The talk of an event listener: what it says on its standard output, and the events that were sent to it.
 
 ghost use Rattle.std.specs.Prelude.{◌≡◌, ◌↔◌, ◌+◌, ◌<◌, ◌≤◌, ◌++◌, ◌∷◌, [], List, length, IfOk, OnOk, OnErr, IsTrue, IsErr};
-ghost use Rattle.sv_pipes.specs.PlaceBounds.{digits_in, length_in, room_in};
+ghost use Rattle.sv_pipes.specs.PlaceBounds.{digits_in, length_in, room_in, word_in};
 
 use crate::tokens::{TalkState, Token};
 use crate::word::is_next;
@@ -40,15 +40,38 @@ pub struct ListenerTalk {
     place: Place,
     /// The bytes of a result so far.
     held: Vec<u8>,
+    ghost short_word: { word_in place ≤ 6 },
     ghost few_digits: { digits_in place ≤ 7 },
     ghost short_result: { length_in place ≤ 1048576 },
     ghost open_result: { length held.items < room_in place },
 }
 
+impl Place {
+    ghost use Rattle.sv_pipes.specs.TalkPlaces.{undecided_at};
+
+    /// How many undecided bytes were said, where these of a result are kept.
+    fn undecided(self, held: &[u8]) -> u64
+        requires word { word_in self ≤ 6 }
+        requires digits { digits_in self ≤ 7 }
+        requires result { length_in self ≤ 1048576 }
+        requires held { length held.now < room_in self }
+        ensures value { result ≡ undecided_at self held.now }
+        ensures bound { result ≤ 1048591 }
+    {
+        match self {
+            Place::Greeting { count } => count as u64,
+            Place::Word { count } => count as u64,
+            Place::Length { count, number: _ } => 7 + u64::from(count),
+            Place::Body { count, number: _ } => 8 + u64::from(count) + held.len() as u64,
+            Place::Idle | Place::Lost | Place::Broken => 0,
+        }
+    }
+}
+
 impl ListenerTalk {
     ghost use Rattle.sv_pipes.specs.TalkPlaces.{StandsFor, IsBroken, state_in, shown, goes, lost, step, steps};
     ghost use Rattle.sv_pipes.specs.TalkPlaces.{after_greeting, after_word, after_digit, after_length, after_body};
-    ghost use Rattle.sv_pipes.specs.TalkCalls.{Feeds, Tells, Sends, HasCut, IsRead, StandsForNone};
+    ghost use Rattle.sv_pipes.specs.TalkCalls.{Feeds, Tells, Sends, HasCut, IsRead, HasUndecided, Holds, StandsForNone};
     ghost use Rattle.sv_pipes.specs.declared.talk.Place.{Place};
     ghost use Rattle.sv_pipes.specs.declared.tokens.TalkState.{TalkState};
 
@@ -83,6 +106,17 @@ impl ListenerTalk {
             Place::Lost => TalkState::Unknown,
             Place::Broken => TalkState::Unknown,
         }
+    }
+
+    /// The number of bytes that were read and aren't decided yet: those of a token that isn't whole, with its word and
+    /// digits. It is 0 after a byte outside the talk and after out of memory. It takes no memory.
+    pub fn held(&self) -> u64
+        ensures cut { HasUndecided self.now result }
+        ensures read { Holds self.now result }
+        ensures refused { IsBroken self.now → result ≡ 0 }
+        ensures bound { result ≤ 1048591 }
+    {
+        self.place.undecided(self.held.as_slice())
     }
 
     /// Puts the mark of an event that was sent.

@@ -34,6 +34,25 @@ ready~>!U
 >A
 ";
 
+// Talks, in which `^` sends an event and `~` stands for a line feed, and how many of their bytes aren't decided yet.
+const HELD: [(&str, u64); 15] = [
+    ("", 0),
+    ("READ", 4),
+    ("READY", 5),
+    ("READY~", 0),
+    ("READY~^", 0),
+    ("READY~^RESULT", 6),
+    ("READY~^RESULT ", 7),
+    ("READY~^RESULT 12", 9),
+    ("READY~^RESULT 12~", 10),
+    ("READY~^RESULT 12~hello", 15),
+    ("READY~^RESULT 0000002~O", 16),
+    ("READY~^RESULT 2~OK", 0),
+    ("READY~^RESULT 0~", 0),
+    ("READY~^RESULT 2~OKREA", 3),
+    ("READY~^RESUME", 0),
+];
+
 // A talk of 23 bytes, in which an event is sent behind the sixth.
 const TALK: &str = "READY\nRESULT 2\nOKREADY\n";
 
@@ -103,6 +122,22 @@ fn play(rt: &impl Abort, alloc: Global, line: &str) {
     }
 }
 
+/// So many bytes of this talk aren't decided yet.
+fn check_held(rt: &impl Abort, alloc: Global, text: &str, expected: u64) {
+    let mut talk = ListenerTalk::new(alloc);
+    let mut told = String::new(alloc);
+    let mut has_begun = false;
+    for piece in text.split('^') {
+        if has_begun {
+            send(rt, &mut talk);
+        }
+        has_begun = true;
+        let piece = bytes_of(rt, alloc, piece);
+        feed(rt, alloc, &mut talk, piece.as_slice(), &mut told);
+    }
+    assert_eq!(rt; talk.held(), expected);
+}
+
 /// The worked talk, cut behind so many bytes, and where the event is sent.
 fn play_cut(rt: &impl Abort, alloc: Global, first: usize, second: usize) {
     let mut talk = ListenerTalk::new(alloc);
@@ -134,11 +169,18 @@ fn longest_result(rt: &impl Abort, alloc: Global) {
     for _ in 0..65_536 {
         piece.push(b'x').expect(rt, "ample memory");
     }
-    for _ in 0..16 {
+    assert_eq!(rt; talk.held(), 15);
+    for _ in 0..15 {
         assert!(rt; talk.state() == TalkState::Busy);
         feed(rt, alloc, &mut talk, piece.as_slice(), &mut told);
     }
+    assert!(rt; piece.pop() == Some(b'x'));
+    feed(rt, alloc, &mut talk, piece.as_slice(), &mut told);
+    assert_eq!(rt; talk.held(), 1_048_590);
+    assert!(rt; talk.state() == TalkState::Busy);
+    feed(rt, alloc, &mut talk, b"x", &mut told);
     assert!(rt; talk.state() == TalkState::Acknowledged);
+    assert_eq!(rt; talk.held(), 0);
     assert_eq!(rt; told.as_str().len(), 1_048_578);
 }
 
@@ -153,4 +195,11 @@ fn talks(rt: HostRuntime) {
         }
     }
     longest_result(&rt, rt.alloc());
+}
+
+#[test]
+fn undecided_bytes(rt: HostRuntime) {
+    for row in &HELD {
+        check_held(&rt, rt.alloc(), row.0, row.1);
+    }
 }
