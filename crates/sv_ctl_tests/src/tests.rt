@@ -1,8 +1,10 @@
 //! Conversations over dials, shelves, inputs and outputs in memory.
 ghost use Rattle.std.specs.Prelude.{◌≤◌};
 
+use crate::commands::{COMMANDS, Row};
+use crate::failures::{BYTE_BY_BYTE, FAILURES, Failure, HEARD, IN_PIECES, PRINTED, Session};
 use crate::replies::{dial_of, one_call};
-use crate::sessions::{COMMANDS, FAILURES, OPTIONS, Row, TALKS};
+use crate::sessions::{CREDENTIALS, OPTIONS, TALKS};
 use std::alloc::{AllocError, Global};
 use std::process::Abort;
 use sv_base::{Bytes, Host, Items, Moment, Text};
@@ -20,11 +22,15 @@ Authorization: Basic dXNlcjphYmM=\r\n\r\n\
 <?xml version='1.0'?><methodCall><methodName>supervisor.getPID</methodName><params></params></methodCall>";
 
 /// The files of the shelf.
-const FILES: [(&str, &str); 6] = [
+const FILES: [(&str, &str); 7] = [
     ("/good.conf", "[supervisorctl]\nserverurl=http://h:1\n"),
     ("/part.conf", "[include]\nfiles=/part.d/*\n"),
     ("/part.d/ctl", "[supervisorctl]\nserverurl=http://h:1\n"),
     ("/wrong.conf", "[supervisorctl]\nserverurl=h:1\n"),
+    (
+        "/user.conf",
+        "[supervisorctl]\nserverurl=http://localhost:9001\nusername=user\npassword=abc\n",
+    ),
     ("/bad.conf", "loose\n"),
     ("/lost.conf", "[include]\n"),
 ];
@@ -233,22 +239,99 @@ fn inputs_come_to_this(rt: HostRuntime) {
     }
 }
 
+/// A conversation in which calls fail comes to what its row says.
+fn failure_is(rt: &impl Abort, alloc: Global, row: &Failure) {
+    let (calls, words, input, replies, status, text) = *row;
+    let [shelf, dial, link, input_call, out] = calls;
+    let failing = Failing {
+        shelf,
+        dial,
+        link,
+        input: input_call,
+        out,
+    };
+    let wanted = expected(alloc, status, text).expect(rt, "ample memory");
+    let came = come(alloc, words, input, replies, 100_000, failing).expect(rt, "ample memory");
+    let line = told(alloc, &came).expect(rt, "ample memory");
+    assert_eq!(rt; line.as_str(), wanted.as_str(), "{words}");
+}
+
 #[test]
 fn failures_come_to_this(rt: HostRuntime) {
     let alloc = rt.alloc();
-    for (calls, words, input, replies, status, text) in FAILURES {
-        let [shelf, dial, link, input_call, out] = calls;
-        let failing = Failing {
-            shelf,
-            dial,
-            link,
-            input: input_call,
-            out,
-        };
-        let wanted = expected(alloc, status, text).expect(&rt, "ample memory");
-        let came = come(alloc, words, input, replies, 100_000, failing).expect(&rt, "ample memory");
-        let line = told(alloc, &came).expect(&rt, "ample memory");
-        assert_eq!(&rt; line.as_str(), wanted.as_str(), "{words}");
+    for row in &FAILURES {
+        failure_is(&rt, alloc, row);
+    }
+}
+
+/// A session in pieces, of which one call fails, comes to this.
+fn session_is(
+    rt: &impl Abort,
+    alloc: Global,
+    session: &Session,
+    failing: Failing,
+    wanted: &(u8, &str),
+) {
+    let (words, input, replies, most) = *session;
+    let (status, text) = *wanted;
+    let wanted = expected(alloc, status, text).expect(rt, "ample memory");
+    let came = come(alloc, words, input, replies, most.max(1), failing).expect(rt, "ample memory");
+    let line = told(alloc, &came).expect(rt, "ample memory");
+    assert_eq!(rt; line.as_str(), wanted.as_str(), "{words}");
+}
+
+#[test]
+fn each_call_of_the_output_may_fail(rt: HostRuntime) {
+    let alloc = rt.alloc();
+    let mut failing = NONE;
+    for wanted in &PRINTED {
+        failing.out = failing.out.saturating_add(1);
+        session_is(&rt, alloc, &IN_PIECES, failing, wanted);
+    }
+}
+
+#[test]
+fn each_call_of_the_input_may_fail(rt: HostRuntime) {
+    let alloc = rt.alloc();
+    let mut failing = NONE;
+    for wanted in &HEARD {
+        failing.input = failing.input.saturating_add(1);
+        session_is(&rt, alloc, &BYTE_BY_BYTE, failing, wanted);
+    }
+}
+
+/// The name and the password that a request sends, or nothing.
+fn sent_credentials(sent: &str) -> &str {
+    match sent.split_once("Authorization: Basic ") {
+        Some((_, rest)) => match rest.split_once("\r\n") {
+            Some((credentials, _)) => credentials,
+            None => rest,
+        },
+        None => "",
+    }
+}
+
+/// What words of the options send.
+fn credentials_are(rt: &impl Abort, alloc: Global, row: &(&str, &str)) {
+    let (words, wanted) = *row;
+    let came = come(alloc, words, "", "#7|", 100_000, NONE).expect(rt, "ample memory");
+    match came.dial.exchanges() {
+        [exchange] => {
+            let sent = String::from_utf8_lossy(alloc, exchange.sent.as_slice()).expect(
+                rt,
+                "ample memory",
+            );
+            assert_eq!(rt; sent_credentials(sent.as_str()), wanted, "{words}");
+        }
+        _ => assert!(rt; false, "one call"),
+    }
+}
+
+#[test]
+fn credentials_are_sent(rt: HostRuntime) {
+    let alloc = rt.alloc();
+    for row in &CREDENTIALS {
+        credentials_are(&rt, alloc, row);
     }
 }
 
