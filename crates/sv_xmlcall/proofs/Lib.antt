@@ -41,3 +41,4 @@ mod ReplyFronts
 mod ReplyGood
 mod MeasuredDocuments
 mod JudgedLaws
+mod CalledLaws

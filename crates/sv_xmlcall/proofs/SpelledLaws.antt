@@ -254,7 +254,8 @@ refuses spelled (fault.NotACall place) size verdict (inr (inl w)) f = absurd (ma
 refuses spelled (fault.NotACall place) size verdict (inr (inr w)) f = absurd (left_read f.0 spelled (sym f.1.0 ∙ w.2))
 refuses spelled fault.OutOfMemory size verdict w f = tt
 
-found_is : (spelled other : Spelled) (verdict : Verdict) → Ways the_limits spelled verdict → verdict ≡ Read other → (other ≡ spelled) × IsWithin spelled
+-- what is read is what is spelled, within the limits
+pub found_is : (spelled other : Spelled) (verdict : Verdict) → Ways the_limits spelled verdict → verdict ≡ Read other → (other ≡ spelled) × IsWithin spelled
 found_is spelled other verdict (inl w) f = absurd (deep_read other (sym w.1 ∙ f))
 found_is spelled other verdict (inr (inl w)) f = absurd (many_read other (sym w.2 ∙ f))
 found_is spelled other verdict (inr (inr w)) f = (read_same other spelled (sym f ∙ w.2), (w.0, w.1))

@@ -1,6 +1,7 @@
 pub mod Answers
 pub mod Atoms
 pub mod Beginnings
+pub mod Called
 pub mod Characters
 pub mod Documents
 pub mod Given

@@ -6,6 +6,7 @@ ghost use Rattle.sv_xmlcall.specs.SpelledTexts.{SpellsCall, SpellsReply};
 ghost use Rattle.sv_xmlcall.specs.Given.{OnlyCall, OnlyReply};
 ghost use Rattle.sv_xmlcall.specs.Beginnings.{BeginsCall, BeginsReply};
 ghost use Rattle.sv_xmlcall.specs.Judged.{Judges};
+ghost use Rattle.sv_xmlcall.specs.Called.{called, replied, AnswersCalled, AnswersReplied};
 ghost use Rattle.sv_xmlcall.specs.Spelled.{ACall, AReply, fault_of, two_of, named_fault};
 ghost use Rattle.std.specs.Str.{bytes_eq};
 ghost use Rattle.sv_xmlcall.specs.Outcome.{Gives};
@@ -31,6 +32,7 @@ pub fn read_call(alloc: Global, bytes: &[u8]) -> Result<Call, CallFault>
     ensures found { IfOk result (λ call. SpellsCall bytes.now (call_view call)) }
     ensures only { OnlyCall bytes.now result }
     ensures judged { Judges BeginsCall bytes.now result }
+    ensures called { AnswersCalled (called bytes.now) result }
 {
     let mut opened = 0;
     match call(alloc, &mut opened, bytes) {
@@ -47,6 +49,7 @@ pub fn read_reply(alloc: Global, bytes: &[u8]) -> Result<Answered, CallFault>
     ensures found { IfOk result (λ answered. SpellsReply bytes.now (reply_view answered)) }
     ensures only { OnlyReply bytes.now result }
     ensures judged { Judges BeginsReply bytes.now result }
+    ensures replied { AnswersReplied (replied bytes.now) result }
 {
     let mut opened = 0;
     match reply(alloc, &mut opened, bytes) {

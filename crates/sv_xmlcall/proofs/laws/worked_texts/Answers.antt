@@ -1,6 +1,7 @@
 use Rattle.std.proofs.Common.{[], ◌++◌, refl, arith, codes}
 use Rattle.sv_xmlcall.specs.Beginnings.{BeginsCall}
 use Rattle.sv_xmlcall.specs.Machine.{the_limits, OfCall}
+use Rattle.sv_xmlcall.specs.Called.{called, replied}
 use Rattle.sv_xmlcall.specs.Written.{opening, closing}
 use Rattle.sv_xmlcall.specs.WorkedTexts.{plain_call, declared_call, call_without_params, version_call}
 use Rattle.sv_xmlcall.proofs.CallsBack.{call_back}
@@ -24,3 +25,15 @@ returns-clause-good c =
 pub returns-clause-written : goal.returns-clause-written
 unfolding opening closing
 returns-clause-written c = refl
+
+pub returns-clause-is_call : goal.returns-clause-is_call
+unfolding called
+returns-clause-is_call c = refl
+
+pub returns-clause-is_none : goal.returns-clause-is_none
+unfolding called
+returns-clause-is_none c = refl
+
+pub returns-clause-is_reply : goal.returns-clause-is_reply
+unfolding replied
+returns-clause-is_reply c = refl

@@ -5,6 +5,7 @@ use Rattle.sv_xmlcall.proofs.SpelledLaws.{gives_reply}
 use Rattle.sv_xmlcall.specs.Trees.{reply_view}
 use Rattle.sv_xmlcall.specs.Machine.{the_limits}
 use Rattle.sv_xmlcall.proofs.JudgedLaws.{judges_reply}
+use Rattle.sv_xmlcall.proofs.CalledLaws.{answers_replied}
 use Rattle.sv_xmlcall.proofs.CallsBack.{reply_back}
 use Rattle.sv_xmlcall.proofs.read.read_reply.Goals as goal
 
@@ -28,3 +29,12 @@ returns-in-Ok-2-clause-judged c = judges_reply c.args.bytes.now (Err fault.TooMa
 
 pub returns-in-Err-clause-judged : goal.returns-in-Err-clause-judged
 returns-in-Err-clause-judged c = judges_reply c.args.bytes.now (Err c.fault.result) (grind (arith, fault_is))
+
+pub returns-in-Ok-clause-replied : goal.returns-in-Ok-clause-replied
+returns-in-Ok-clause-replied c = answers_replied c.args.bytes.now (Ok c.in-Ok.answered) (search rules)
+
+pub returns-in-Ok-2-clause-replied : goal.returns-in-Ok-2-clause-replied
+returns-in-Ok-2-clause-replied c = answers_replied c.args.bytes.now (Err fault.TooManyValues) (search rules)
+
+pub returns-in-Err-clause-replied : goal.returns-in-Err-clause-replied
+returns-in-Err-clause-replied c = answers_replied c.args.bytes.now (Err c.fault.result) (grind (arith, fault_is))
