@@ -26,19 +26,23 @@ FaultIs fault.TooManyValues size verdict = verdict ≡ TooMany
 FaultIs fault.TooDeep size verdict = verdict ≡ TooDeep
 FaultIs fault.OutOfMemory size verdict = Unit {0}
 
+-- what a reader of calls answers is this verdict on a text of so many bytes
 abbrev pub ReadsCall : Verdict → ℕ → Result Call CallFault → Type 0
 ReadsCall verdict size (Ok call) = verdict ≡ Read (ACall (call_view call))
 ReadsCall verdict size (Err fault) = FaultIs fault size verdict
 
+-- what a reader of replies answers is this verdict on a text of so many bytes
 abbrev pub ReadsReply : Verdict → ℕ → Result Answered CallFault → Type 0
 ReadsReply verdict size (Ok answered) = verdict ≡ Read (AReply (reply_view answered))
 ReadsReply verdict size (Err fault) = FaultIs fault size verdict
 
+-- the fault of a reader that stops so when so many values are opened, in a text of so many bytes
 abbrev pub faulted : Stop → ℕ → ℕ → CallFault
 faulted (stop.At left) opened size = if nat_lt 65536 opened then fault.TooManyValues else fault.NotACall (size - left)
 faulted stop.TooDeep opened size = fault.TooDeep
 faulted stop.OutOfMemory opened size = fault.OutOfMemory
 
+-- how a text goes on from behind `<params>` to behind the closing tag of the call
 abbrev pub ReadsFurther : {X : Type 0} → List ℕ → ℕ → List ℕ → ℕ → (X → Trees) → (X → List ℕ) → Result X Stop → Type 0
 ReadsFurther method before bytes count params rest (Ok x) =
     run the_limits (at (At (AtParams method no_tree)) [] before) bytes

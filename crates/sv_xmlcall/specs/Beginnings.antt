@@ -6,11 +6,13 @@ use Rattle.sv_xmlcall.specs.Spells.{IsWhite, ValueText, printed_value, IsValue}
 use Rattle.sv_xmlcall.specs.SpelledTexts.{HeadText, printed_head, IsHead, SpellsCall, SpellsReply}
 use Rattle.sv_xmlcall.specs.declared.tag.Tag.TheVariants as tag
 
+-- the bytes are a front of a text that spells a call
 pub record BeginsCall (front : List ℕ) : Type 0 where
   pub rest : List ℕ
   pub call : CallTree
   pub spells : SpellsCall (front ++ rest) call
 
+-- the bytes are a front of a text that spells a reply
 pub record BeginsAnswer (front : List ℕ) : Type 0 where
   pub rest : List ℕ
   pub reply : Reply
@@ -23,13 +25,16 @@ pub record FaultText : Type 0 where
   pub before_value : List ℕ
   pub value : ValueText
 
+-- such a reply is right where its white space, its declaration and its value are
 abbrev pub IsFaultText : FaultText → Type 0
 IsFaultText fault = IsHead fault.head × IsWhite fault.before × IsWhite fault.before_value × IsValue fault.value
 
+-- its bytes, from the declaration to the end of the value
 abbrev pub printed_fault : FaultText → List ℕ
 printed_fault fault =
     printed_head fault.head ++ spelling tag.MethodResponse ++ fault.before ++ spelling tag.Fault ++ fault.before_value ++ printed_value fault.value
 
+-- the bytes are a front of such a reply
 pub record BeginsFault (front : List ℕ) : Type 0 where
   pub rest : List ℕ
   pub text : FaultText

@@ -19,19 +19,23 @@ is_allowed c =
 abbrev pub is_plain : ℕ → Bool
 is_plain b = nat_le 32 b || (b == 9) || (b == 10) || (b == 13)
 
+-- these letters have this character of ASCII
 abbrev pub is_lead : Letters → ℕ → Bool
 is_lead Any b = true
 is_lead OfXml b = is_plain b
 
+-- this byte may come where that is awaited; C0, C1 and F5 to FF never may (RFC 3629, section 4)
 abbrev pub allows : Letters → Awaits → ℕ → Bool
 allows letters Character b = if nat_lt b 128 then is_lead letters b else nat_le 194 b && nat_le b 244
 allows letters Private b = nat_le 128 b && nat_le b 191
 allows letters (Continuation low high more) b = nat_le low b && nat_le b high
 
+-- the byte EF in XML: it leads U+F000 to U+FFFF, the last two of which XML does not allow
 abbrev pub is_private : Letters → ℕ → Bool
 is_private Any b = false
 is_private OfXml b = b == 239
 
+-- what is awaited behind the first byte of a character
 abbrev pub after_lead : Letters → ℕ → Awaits
 after_lead letters b =
     if nat_lt b 128 then Character
@@ -40,15 +44,18 @@ after_lead letters b =
     else if nat_lt b 240 then Continuation (if b == 224 then 160 else 128) (if b == 237 then 159 else 191) 1
     else Continuation (if b == 240 then 144 else 128) (if b == 244 then 143 else 191) 2
 
+-- what is awaited behind a further byte of a character, when so many more have to come
 abbrev pub after_continuation : ℕ → Awaits
 after_continuation zero = Character
 after_continuation (suc more) = Continuation 128 191 more
 
+-- what is awaited behind this byte
 abbrev pub after : Letters → Awaits → ℕ → Awaits
 after letters Character b = after_lead letters b
 after letters Private b = Continuation 128 (if b == 191 then 189 else 191) 0
 after letters (Continuation low high more) b = after_continuation more
 
+-- no character is begun that has not ended
 abbrev pub is_whole : Awaits → Bool
 is_whole Character = true
 is_whole awaits = false
@@ -66,6 +73,7 @@ length_from awaits n (b ∷ bs) =
     if is_whole (after OfXml awaits b) then suc n else length_from (after OfXml awaits b) (suc n) bs
     else 0
 
+-- how many bytes the character of XML has that begins these bytes; none where none does
 abbrev pub character_length : List ℕ → ℕ
 character_length bs = length_from Character 0 bs
 
@@ -77,5 +85,6 @@ log_from zero (b ∷ bs) =
     if nat_lt 0 (character_length (b ∷ bs)) then b ∷ log_from (character_length (b ∷ bs) - 1) bs else 63 ∷ log_from 0 bs
 log_from (suc left) (b ∷ bs) = b ∷ log_from left bs
 
+-- the text of bytes from a log
 abbrev pub log_text : List ℕ → List ℕ
 log_text bytes = log_from 0 bytes

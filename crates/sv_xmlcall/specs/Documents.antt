@@ -11,12 +11,14 @@ use Rattle.sv_xmlcall.specs.declared.stop.Stop.{Stop}
 use Rattle.sv_xmlcall.specs.declared.tag.Tag.{Tag}
 use Rattle.sv_xmlcall.specs.declared.tag.Tag.TheVariants as tag
 
+-- the declaration, from behind its `<?xml`, and this opening tag of the outermost element
 abbrev pub declared_at : Tag → List ℕ → Result (List ℕ) ℕ
 declared_at begin bs = do
   rest ← prolog_from false Character bs
   r ← tag_behind (begin ∷ []) rest
   Ok r.1
 
+-- behind the first tag of a text, a declaration's or this opening tag: what follows the opening tag
 abbrev pub document_of : Tag → Tag → List ℕ → Result (List ℕ) ℕ
 document_of begin tag.Declaration bs = declared_at begin bs
 document_of begin t bs = Ok bs
@@ -34,9 +36,11 @@ head_at bs = do
   r ← tag_behind (tag.MethodName ∷ []) rest
   method_at r.1
 
+-- no further param comes, and this follows the call
 abbrev pub ended_by : Result (List ℕ) ℕ → Result (Bool × List ℕ) ℕ
 ended_by r = r >>= (λ rest. Ok (false, rest))
 
+-- what comes behind this tag, the first after the method's name
 abbrev pub begun_of : Tag → List ℕ → Result (Bool × List ℕ) ℕ
 begun_of tag.Params bs = Ok (true, bs)
 begun_of tag.NoParams bs = ended_by (closing_at (tag.EndMethodCall ∷ []) bs)
@@ -48,6 +52,7 @@ begun_at bs = do
   r ← tag_behind (tag.Params ∷ tag.NoParams ∷ tag.EndMethodCall ∷ []) bs
   begun_of r.0 r.1
 
+-- what comes behind this tag, which opens a param or closes all of them
 abbrev pub param_of : Tag → List ℕ → Result (Bool × List ℕ) ℕ
 param_of tag.Param bs = Ok (true, bs)
 param_of t bs = close_at bs >>= (λ rest. ended_by (closing_at (tag.EndMethodCall ∷ []) rest))
@@ -58,6 +63,7 @@ param_at bs = do
   r ← tag_behind (tag.Param ∷ tag.EndParams ∷ []) bs
   param_of r.0 r.1
 
+-- what comes behind this tag, the first inside `<methodResponse>`
 abbrev pub answer_of : Tag → List ℕ → Result (Bool × List ℕ) ℕ
 answer_of tag.Params bs = do
   r ← tag_behind (tag.Param ∷ []) bs
@@ -89,6 +95,7 @@ abbrev pub Comes : {X : Type 0} → Verdict → ℕ → (X → Spelled) → Resu
 Comes verdict count shown (Ok x) = verdict ≡ unless_many the_limits count (Read (shown x))
 Comes verdict count shown (Err stop) = Halts stop count verdict
 
+-- the end of the bytes
 abbrev pub nothing_at : List ℕ → Result (Unit {0}) ℕ
 nothing_at [] = Ok tt
 nothing_at (b ∷ bs) = Err (suc (length bs))
@@ -97,9 +104,11 @@ nothing_at (b ∷ bs) = Err (suc (length bs))
 abbrev pub end_at : List ℕ → Result (Unit {0}) ℕ
 end_at bs = nothing_at (skip_white bs)
 
+-- the end of a method's reply, from behind its value
 abbrev pub value_end_at : List ℕ → Result (Unit {0}) ℕ
 value_end_at bs = param_end_at bs >>= (λ rest. end_at rest)
 
+-- the end of a fault, from behind its value; none where that is not the value of a fault
 abbrev pub faulty_at : Option Reply → List ℕ → Result Reply ℕ
 faulty_at (Some reply) bs = fault_end_at bs >>= (λ rest. end_at rest >>= (λ u. Ok reply))
 faulty_at None bs = Err (length bs)

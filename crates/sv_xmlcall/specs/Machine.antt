@@ -17,9 +17,11 @@ pub record Limits : Type 0 where
   pub values : ℕ
   pub keeping : ℕ
 
+-- the limits of the readers: 32 deep, 65,536 values, and all of these are kept
 abbrev pub the_limits : Limits
 the_limits = record { nesting = 32; values = 65536; keeping = 65536 }
 
+-- what a text is read as, a methodCall or a methodResponse
 pub data Document : Type 0 where
   OfCall : Document
   OfReply : Document
@@ -94,23 +96,28 @@ pub data Control : Type 0 where
   Prolog : Document → (question : Bool) → Awaits → Control
   Stuck : Control
 
+-- how far a text is read: where it stands, what each open value stands in, the innermost first, and
+-- how many values were opened
 pub record State : Type 0 where
   pub control : Control
   pub frames : List Frame
   pub count : ℕ
 
+-- what a byte leads to: a state, nothing as it may not stand there, or a value that is too deep
 pub data Step : Type 0 where
   Go : State → Step
   Bad : Step
   Deep : Step
 
+-- the state of these three
 abbrev pub at : Control → List Frame → ℕ → State
 at control frames count = record { control = control; frames = frames; count = count }
 
+-- the step to the state of these three
 abbrev pub goes : Control → List Frame → ℕ → Step
 goes control frames count = Go (at control frames count)
 
--- the tags that may stand at a place
+-- the closing tag of the element that a text is the content of
 abbrev pub end_of : Content → Tag
 end_of InMethod = tag.EndMethodName
 end_of (InName before) = tag.EndName
@@ -120,14 +127,17 @@ end_of InDate = tag.EndDateTime
 end_of InBase = tag.EndBase64
 end_of InBare = tag.EndValue
 
+-- the closing tag of an integer, of `<i4>` or of `<int>`
 abbrev pub end_of_integer : Bool → Tag
 end_of_integer true = tag.EndI4
 end_of_integer false = tag.EndInt
 
+-- the opening tag of the outermost element
 abbrev pub begin_of : Document → Tag
 begin_of OfCall = tag.MethodCall
 begin_of OfReply = tag.MethodResponse
 
+-- the tags that may stand at a place
 abbrev pub tags_of : Place → List Tag
 tags_of (AtStart document) = tag.Declaration ∷ begin_of document ∷ []
 tags_of (AtDeclared document) = begin_of document ∷ []
@@ -164,10 +174,12 @@ tags_of (AtEntity content bytes) =
 abbrev pub kept : Limits → ℕ → Trees → Tree → Trees
 kept limits count before value = if nat_le count limits.keeping then snoc before value else before
 
+-- no member is kept beyond the most that are kept
 abbrev pub kept_member : Limits → ℕ → Members → List ℕ → Tree → Members
 kept_member limits count before name value =
     if nat_le count limits.keeping then snoc_member before name value else before
 
+-- behind the value of a fault; no text goes on behind another value there
 abbrev pub after_fault : Option Reply → List Frame → ℕ → State
 after_fault (Some reply) frames count = at (At (AtFaultEnd reply)) frames count
 after_fault None frames count = at Stuck frames count
@@ -185,6 +197,7 @@ after_value limits value (InFault ∷ frames) count = after_fault (whole_fault l
 after_value limits value (InArray before ∷ frames) count = at (At (AtItems (kept limits count before value))) frames count
 after_value limits value (InMember before name ∷ frames) count = at (At (AtMemberEnd (kept_member limits count before name value))) frames count
 
+-- behind the closing tag of a text
 abbrev pub after_text : Limits → Content → List ℕ → List Frame → ℕ → State
 after_text limits InMethod bytes frames count = at (At (AtCalled bytes)) frames count
 after_text limits (InName before) bytes frames count = at (At AtValue) (InMember before bytes ∷ frames) count
@@ -198,11 +211,12 @@ after_text limits InBare bytes frames count = after_value limits (text bytes) fr
 abbrev pub counted : Limits → ℕ → ℕ
 counted limits count = if nat_le count limits.values then suc count else count
 
--- behind `<value>`, and behind `<value/>`
+-- behind `<value>`
 abbrev pub open_value : Limits → List Frame → ℕ → Step
 open_value limits frames count =
     if nat_le (length frames) limits.nesting then goes (Opened []) frames (counted limits count) else Deep
 
+-- behind `<value/>`, which is the empty string
 abbrev pub empty_value : Limits → List Frame → ℕ → Step
 empty_value limits frames count =
     if nat_le (length frames) limits.nesting then Go (after_value limits (text []) frames (counted limits count)) else Deep
@@ -269,10 +283,11 @@ leave limits (AtIntegerEnd short n) frames count = at (At (AtFormEnd (integer n)
 leave limits (AtTruthEnd b) frames count = at (At (AtFormEnd (truth b))) frames count
 leave limits place frames count = at Stuck frames count
 
--- the words of tags, and those that go on with a byte
+-- the words of tags
 abbrev pub words_of : List Tag → List (List ℕ × Tag)
 words_of tags = map (λ t. (spelling t, t)) tags
 
+-- those of the words that go on with this byte, what is left of each
 abbrev pub going_on : ℕ → List (List ℕ × Tag) → List (List ℕ × Tag)
 going_on b [] = []
 going_on b (([], t) ∷ words) = going_on b words
@@ -288,6 +303,7 @@ within limits place ((w ∷ ws, t) ∷ words) frames count = goes (Within place 
 abbrev pub in_tag : Limits → Place → List (List ℕ × Tag) → List Frame → ℕ → ℕ → Step
 in_tag limits place words frames count b = within limits place (going_on b words) frames count
 
+-- there are no bytes
 abbrev pub is_empty : List ℕ → Bool
 is_empty [] = true
 is_empty (b ∷ bs) = false
@@ -297,10 +313,13 @@ abbrev pub may_end : Content → List ℕ → Bool
 may_end InMethod bytes = not (is_empty bytes)
 may_end content bytes = true
 
+-- no character of UTF-8 is begun that has not ended
 abbrev pub is_between : Awaits → Bool
 is_between Character = true
 is_between awaits = false
 
+-- in a text: the `<` of its closing tag, the `&` of an entity, or a byte of a character that XML
+-- allows
 abbrev pub in_chars : Limits → Content → List ℕ → Awaits → List Frame → ℕ → ℕ → Step
 in_chars limits content bytes awaits frames count b =
     if b == 60 then
@@ -314,23 +333,30 @@ in_chars limits content bytes awaits frames count b =
     else if allows OfXml awaits b then goes (Chars content (bytes ++ b ∷ []) (after OfXml awaits b)) frames count
     else Bad
 
+-- a hexadecimal digit, of either case
 abbrev pub is_hex_digit : ℕ → Bool
 is_hex_digit b = is_ascii_digit b || (nat_le 65 b && nat_le b 70) || (nat_le 97 b && nat_le b 102)
 
+-- a digit of a character reference, hexadecimal or decimal (XML 1.0, production 66)
 abbrev pub is_digit : Bool → ℕ → Bool
 is_digit true b = is_hex_digit b
 is_digit false b = is_ascii_digit b
 
+-- the value of a digit
 abbrev pub digit_value : ℕ → ℕ
 digit_value b = if nat_le b 57 then b - 48 else if nat_le b 70 then b - 55 else b - 87
 
+-- the base of a character reference, hexadecimal or decimal
 abbrev pub base_of : Bool → ℕ
 base_of true = 16
 base_of false = 10
 
+-- the number with this digit at its end
 abbrev pub longer : Bool → ℕ → ℕ → ℕ
 longer hex n b = n * base_of hex + digit_value b
 
+-- in a character reference: a digit, up to 10FFFF, or the `;` behind the number of a character that
+-- XML allows
 abbrev pub in_numeral : Content → List ℕ → Bool → Bool → ℕ → List Frame → ℕ → ℕ → Step
 in_numeral content bytes hex seen n frames count b =
     if is_digit hex b then
@@ -338,16 +364,18 @@ in_numeral content bytes hex seen n frames count b =
     else if (b == 59) && seen && is_allowed n then goes (Chars content (bytes ++ encode_utf8 n) Character) frames count
     else Bad
 
+-- behind `&#`: the `x` of hexadecimal digits, or a decimal digit
 abbrev pub in_hash : Content → List ℕ → List Frame → ℕ → ℕ → Step
 in_hash content bytes frames count b =
     if b == 120 then goes (Numeral content bytes true false 0) frames count
     else in_numeral content bytes false false 0 frames count b
 
--- 64 bits
+-- the largest size of an integer of 64 bits, negative or not
 abbrev pub most_of : Bool → ℕ
 most_of true = 2 ^ 63
 most_of false = 2 ^ 63 - 1
 
+-- in an integer, a byte that is no digit: a sign before all digits, or the closing tag behind them
 abbrev pub in_sign : Limits → Bool → Bool → Sign → ℕ → List Frame → ℕ → ℕ → Step
 in_sign limits short negative Fresh n frames count b =
     if b == 45 then goes (Digits short true Signed n) frames count
@@ -357,18 +385,21 @@ in_sign limits short negative Signed n frames count b = Bad
 in_sign limits short negative Counted n frames count b =
     in_tag limits (AtIntegerEnd short (signed negative n)) (words_of (tags_of (AtIntegerEnd short (signed negative n)))) frames count b
 
+-- in an integer: a digit, within 64 bits, or another byte
 abbrev pub in_digits : Limits → Bool → Bool → Sign → ℕ → List Frame → ℕ → ℕ → Step
 in_digits limits short negative sign n frames count b =
     if is_ascii_digit b then
     if nat_le (n * 10 + (b - 48)) (most_of negative) then goes (Digits short negative Counted (n * 10 + (b - 48))) frames count else Bad
     else in_sign limits short negative sign n frames count b
 
+-- behind `<value>` and white space: more of it, a tag, or a bare text that begins with it
 abbrev pub in_opened : Limits → List ℕ → List Frame → ℕ → ℕ → Step
 in_opened limits white frames count b =
     if is_white b then goes (Opened (white ++ b ∷ [])) frames count
     else if b == 60 then in_tag limits (AtForm white) (words_of (tags_of (AtForm white))) frames count b
     else in_chars limits InBare white Character frames count b
 
+-- in the declaration, which ends at its first `?>`
 abbrev pub in_prolog : Document → Bool → Awaits → List Frame → ℕ → ℕ → Step
 in_prolog document question awaits frames count b =
     if question && (b == 62) then goes (At (AtDeclared document)) frames count
@@ -382,6 +413,7 @@ in_truth frames count b =
     else if b == 49 then goes (Within (AtTruthEnd true) (words_of (tags_of (AtTruthEnd true)))) frames count
     else Bad
 
+-- what a byte leads to at each place of a text
 abbrev pub next_of : Limits → Control → List Frame → ℕ → ℕ → Step
 next_of limits (At place) frames count b =
     if is_white b then goes (At place) frames count else in_tag limits place (words_of (tags_of place)) frames count b
@@ -397,6 +429,7 @@ next_of limits TruthDigit frames count b = in_truth frames count b
 next_of limits (Prolog document question awaits) frames count b = in_prolog document question awaits frames count b
 next_of limits Stuck frames count b = Bad
 
+-- what a byte leads to from a state
 abbrev pub next : Limits → State → ℕ → Step
 next limits state b = next_of limits state.control state.frames state.count b
 
@@ -407,18 +440,22 @@ pub data Verdict : Type 0 where
   TooMany : Verdict
   TooDeep : Verdict
 
+-- the verdict, unless too many values were opened
 abbrev pub unless_many : Limits → ℕ → Verdict → Verdict
 unless_many limits count verdict = if nat_lt limits.values count then TooMany else verdict
 
+-- the verdict where the bytes end: only a whole text is read
 abbrev pub finished : Control → Verdict
 finished (At (AtDone spelled)) = Read spelled
 finished control = NotRead 0
 
+-- the verdict behind a step: of the next state, of a bad byte, or of a value that stands too deep
 abbrev pub on_step : Step → (State → Verdict) → Verdict → Verdict
 on_step (Go state) on bad = on state
 on_step Bad on bad = bad
 on_step Deep on bad = TooDeep
 
+-- the verdict on these bytes, read from a state on
 abbrev pub run : Limits → State → List ℕ → Verdict
 run limits state [] = unless_many limits state.count (finished state.control)
 run limits state (b ∷ bs) =

@@ -33,9 +33,10 @@ behind_mark question (b ∷ bs) = if question && (b == 62) then bs else behind_m
 abbrev pub outside : List ℕ → List ℕ
 outside bytes = if begins (spelling tag.Declaration) (skip_white bytes) then behind_mark false (skip_white bytes) else bytes
 
--- how many values a front opens, and the most that stand one inside the other there
+-- how many values a front opens
 abbrev pub amount_in : List ℕ → ℕ
 amount_in front = opened (outside front)
 
+-- the most values that stand one inside the other where a front opens one
 abbrev pub depth_in : List ℕ → ℕ
 depth_in front = deepest 0 (outside front)

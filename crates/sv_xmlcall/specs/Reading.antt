@@ -13,10 +13,12 @@ use Rattle.sv_xmlcall.specs.declared.tag.Tag.{Tag}
 use Rattle.sv_xmlcall.specs.declared.tag.Tag.TheVariants as tag
 
 infixl 10 ◌>>=◌
+-- reads on behind what was read; where it stops, all does
 abbrev pub ◌>>=◌ : {A B : Type 0} → Result A ℕ → (A → Result B ℕ) → Result B ℕ
 (Ok x) >>= f = f x
 (Err e) >>= f = Err e
 
+-- the digits of a character reference and its `;`: its character and what follows
 abbrev pub numeral_at : Bool → Bool → ℕ → List ℕ → Result (ℕ × List ℕ) ℕ
 numeral_at hex seen n [] = Err 0
 numeral_at hex seen n (b ∷ bs) =
@@ -25,13 +27,16 @@ numeral_at hex seen n (b ∷ bs) =
     else if (b == 59) && seen && is_allowed n then Ok (n, bs)
     else Err (suc (length bs))
 
+-- a character reference, from behind `&#`
 abbrev pub numbered_at : List ℕ → Result (ℕ × List ℕ) ℕ
 numbered_at [] = Err 0
 numbered_at (b ∷ bs) = if b == 120 then numeral_at true false 0 bs else numeral_at false false 0 (b ∷ bs)
 
+-- the predefined entities (XML 1.0, section 4.6), and the beginning of a character reference
 abbrev pub entities : List Tag
 entities = tag.Ampersand ∷ tag.Less ∷ tag.Greater ∷ tag.Quote ∷ tag.Apostrophe ∷ tag.Numbered ∷ []
 
+-- the character of this entity, and what follows
 abbrev pub entity_of : Tag → List ℕ → Result (ℕ × List ℕ) ℕ
 entity_of tag.Ampersand bs = Ok (38, bs)
 entity_of tag.Less bs = Ok (60, bs)
@@ -51,6 +56,7 @@ entity_at bs = do
 abbrev pub Piece : Type 0
 Piece = List ℕ × Option (Awaits × List ℕ)
 
+-- a piece of a text: a byte, an entity, or none before the `<`
 unfoldable pub piece_at : List ℕ → Awaits → List ℕ → Result Piece ℕ
 piece_at kept awaits [] = Err 0
 piece_at kept awaits (b ∷ bs) =
@@ -59,6 +65,7 @@ piece_at kept awaits (b ∷ bs) =
     else if not (b == 60) && not (b == 38) && allows OfXml awaits b then Ok (kept ++ b ∷ [], Some (after OfXml awaits b, bs))
     else Err (suc (length bs))
 
+-- reads on behind a piece; where there is none, the text has ended
 abbrev pub on_piece : List ℕ → List ℕ → Option (Awaits × List ℕ) → (Awaits → List ℕ → Result (List ℕ × List ℕ) ℕ) → Result (List ℕ × List ℕ) ℕ
 on_piece kept bs None on = Ok (kept, bs)
 on_piece kept bs (Some p) on = on p.0 p.1
@@ -69,6 +76,7 @@ pieces_at zero kept awaits bs = Err (length bs)
 pieces_at (suc most) kept awaits bs =
     piece_at kept awaits bs >>= (λ p. on_piece p.0 bs p.1 (λ awaits rest. pieces_at most p.0 awaits rest))
 
+-- a text behind the bytes that were kept, up to its `<`
 unfoldable pub text_at : List ℕ → List ℕ → Result (List ℕ × List ℕ) ℕ
 text_at kept bs = pieces_at (suc (length bs)) kept Character bs
 
@@ -83,9 +91,11 @@ content_at t bs = do
   rest ← shut_at t r.1
   Ok (r.0, rest)
 
+-- the closing tag of a method's name, which may not be empty
 abbrev pub name_at : List ℕ → List ℕ → Result (List ℕ × List ℕ) ℕ
 name_at name bs = if is_empty name then Err (length bs) else (shut_at tag.EndMethodName bs >>= (λ rest. Ok (name, rest)))
 
+-- a method's name and its closing tag
 unfoldable pub method_at : List ℕ → Result (List ℕ × List ℕ) ℕ
 method_at bs = do
   r ← text_at [] bs
@@ -100,6 +110,7 @@ size_from negative seen n (b ∷ bs) =
     else if seen then Ok (n, b ∷ bs)
     else Err (suc (length bs))
 
+-- an optional sign and digits: whether it is a minus, and the number
 abbrev pub size_at : List ℕ → Result (Bool × (ℕ × List ℕ)) ℕ
 size_at [] = Err 0
 size_at (b ∷ bs) =
@@ -114,10 +125,12 @@ integer_at t bs = do
   rest ← shut_at t r.1.1
   Ok (signed r.0 r.1.0, rest)
 
+-- `0` or `1`
 abbrev pub digit_at : List ℕ → Result (Bool × List ℕ) ℕ
 digit_at [] = Err 0
 digit_at (b ∷ bs) = if b == 48 then Ok (false, bs) else if b == 49 then Ok (true, bs) else Err (suc (length bs))
 
+-- a boolean and its closing tag
 unfoldable pub truth_at : List ℕ → Result (Bool × List ℕ) ℕ
 truth_at bs = do
   r ← digit_at bs

@@ -12,10 +12,12 @@ abbrev mutual
   nested (structure members) = suc (nested_members members)
   nested (array values) = suc (nested_values values)
 
+  -- the most values that stand one inside the other among these
   pub nested_values : Trees → ℕ
   nested_values no_tree = 0
   nested_values (tree value values) = max (nested value) (nested_values values)
 
+  -- the most values that stand one inside the other among those of these members
   pub nested_members : Members → ℕ
   nested_members no_member = 0
   nested_members (member name value members) = max (nested value) (nested_members members)
@@ -30,10 +32,12 @@ abbrev mutual
   size (structure members) = suc (size_of_members members)
   size (array values) = suc (size_of_values values)
 
+  -- how many values there are among these, those inside them too
   pub size_of_values : Trees → ℕ
   size_of_values no_tree = 0
   size_of_values (tree value values) = size value + size_of_values values
 
+  -- how many values these members have, those inside them too
   pub size_of_members : Members → ℕ
   size_of_members no_member = 0
   size_of_members (member name value members) = size value + size_of_members members

@@ -3,6 +3,7 @@ use Rattle.std.specs.Prelude.{ℕ, zero, suc, ℤ, pos, negsuc, List, Bool, true
 use Rattle.std.specs.Str.{bytes_eq}
 use Rattle.sv_xmlcall.specs.Trees.{Tree, Trees, Members, integer, text, structure, no_tree, tree, no_member, member, CallTree, Reply, Faults}
 
+-- what a text may spell
 pub data Spelled : Type 0 where
   ACall : CallTree → Spelled
   AReply : Reply → Spelled
@@ -11,10 +12,12 @@ pub data Spelled : Type 0 where
 abbrev pub is_white : ℕ → Bool
 is_white b = (b == 32) || (b == 9) || (b == 13) || (b == 10)
 
+-- the values with one more at their end
 abbrev pub snoc : Trees → Tree → Trees
 snoc no_tree value = tree value no_tree
 snoc (tree first trees) value = tree first (snoc trees value)
 
+-- the members with one more at their end
 abbrev pub snoc_member : Members → List ℕ → Tree → Members
 snoc_member no_member name value = member name value no_member
 snoc_member (member first one members) name value = member first one (snoc_member members name value)
@@ -25,6 +28,7 @@ signed false n = pos n
 signed true zero = pos 0
 signed true (suc n) = negsuc n
 
+-- the fault of this number and text, if its members have the right names
 abbrev pub named_fault : Bool → ℤ → List ℕ → Option Reply
 named_fault true number content = Some (Faults number content)
 named_fault false number content = None

@@ -11,6 +11,7 @@ pub data HeadText : Type 0 where
   NoDeclaration : (before : List ℕ) → HeadText
   Declared : (before declared after : List ℕ) → HeadText
 
+-- the bytes of what stands before the outermost element
 abbrev pub printed_head : HeadText → List ℕ
 printed_head (NoDeclaration before) = before
 printed_head (Declared before declared after) = before ++ spelling tag.Declaration ++ declared ++ codes "?>" ++ after
@@ -21,26 +22,32 @@ IsHead (NoDeclaration before) = IsWhite before
 IsHead (Declared before declared after) =
     IsWhite before × IsUtf8 declared × ((front back : List ℕ) → declared ≢ front ++ codes "?>" ++ back) × IsWhite after
 
+-- a param: white space, `<param>`, white space, the value, and the closing tag
 pub record ParamText : Type 0 where
   pub before : List ℕ
   pub before_value : List ℕ
   pub value : ValueText
   pub ending : Ending
 
+-- a param is right where its white space and its value are
 abbrev pub IsParam : ParamText → Type 0
 IsParam param = IsWhite param.before × IsWhite param.before_value × IsValue param.value × IsEnding param.ending
 
+-- the bytes of a param
 abbrev pub printed_param : ParamText → List ℕ
 printed_param param = param.before ++ spelling tag.Param ++ param.before_value ++ printed_value param.value ++ printed_end tag.EndParam param.ending
 
+-- all these params are right
 abbrev pub AreParams : List ParamText → Type 0
 AreParams [] = ⊤
 AreParams (param ∷ params) = IsParam param × AreParams params
 
+-- the bytes of these params
 abbrev pub printed_each : List ParamText → List ℕ
 printed_each [] = []
 printed_each (param ∷ params) = printed_param param ++ printed_each params
 
+-- the values of these params
 abbrev pub values_of : List ParamText → Trees
 values_of [] = no_tree
 values_of (param ∷ params) = tree (value_of param.value) (values_of params)
@@ -51,21 +58,26 @@ pub data ParamsText : Type 0 where
   NoParams : (before : List ℕ) → ParamsText
   Params : (before : List ℕ) → List ParamText → Ending → ParamsText
 
+-- the params of a call are right
 abbrev pub ArePossible : ParamsText → Type 0
 ArePossible Without = ⊤
 ArePossible (NoParams before) = IsWhite before
 ArePossible (Params before params ending) = IsWhite before × AreParams params × IsEnding ending
 
+-- the bytes of the params of a call
 abbrev pub printed_params : ParamsText → List ℕ
 printed_params Without = []
 printed_params (NoParams before) = before ++ spelling tag.NoParams
 printed_params (Params before params ending) = before ++ spelling tag.Params ++ printed_each params ++ printed_end tag.EndParams ending
 
+-- the values of the params of a call
 abbrev pub params_of : ParamsText → Trees
 params_of Without = no_tree
 params_of (NoParams before) = no_tree
 params_of (Params before params ending) = values_of params
 
+-- a call: `<methodCall>`, the method's name, in whose closing tag there may be white space
+-- `inside`, and the params
 pub record CallText : Type 0 where
   pub head : HeadText
   pub before_name : List ℕ
@@ -86,11 +98,13 @@ pub record IsCall (call : CallText) : Type 0 where
   pub ending : IsEnding call.ending
   pub after : IsWhite call.after
 
+-- the bytes of a call
 abbrev pub printed_call : CallText → List ℕ
 printed_call call =
     printed_head call.head ++ spelling tag.MethodCall ++ call.before_name ++ spelling tag.MethodName ++ printed_text call.name
     ++ printed_shut tag.EndMethodName call.inside ++ printed_params call.params ++ printed_end tag.EndMethodCall call.ending ++ call.after
 
+-- the call that is meant
 abbrev pub call_of : CallText → CallTree
 call_of call = record { method = text_of call.name; params = params_of call.params }
 
@@ -99,9 +113,11 @@ pub data AnswerText : Type 0 where
   Answer : (before : List ℕ) → ParamText → (of_params : Ending) → AnswerText
   Fault : (before before_value : List ℕ) → ValueText → (number : ℤ) (content : List ℕ) → (of_fault : Ending) → AnswerText
 
+-- the name of the member of a fault that is an integer
 abbrev pub code_name : List ℕ
 code_name = codes "faultCode"
 
+-- the name of the member of a fault that is a string
 abbrev pub string_name : List ℕ
 string_name = codes "faultString"
 
@@ -111,42 +127,50 @@ IsFault value number content =
     (value ≡ structure (member code_name (integer number) (member string_name (text content) no_member)))
     ⊎ (value ≡ structure (member string_name (text content) (member code_name (integer number) no_member)))
 
+-- the answer is right; the value of a fault is that of its number and its text
 abbrev pub IsAnswer : AnswerText → Type 0
 IsAnswer (Answer before param of_params) = IsWhite before × IsParam param × IsEnding of_params
 IsAnswer (Fault before before_value value number content of_fault) =
     IsWhite before × IsWhite before_value × IsValue value × IsFault (value_of value) number content × IsEnding of_fault
 
+-- the bytes of the answer
 abbrev pub printed_answer : AnswerText → List ℕ
 printed_answer (Answer before param of_params) = before ++ spelling tag.Params ++ printed_param param ++ printed_end tag.EndParams of_params
 printed_answer (Fault before before_value value number content of_fault) =
     before ++ spelling tag.Fault ++ before_value ++ printed_value value ++ printed_end tag.EndFault of_fault
 
+-- the reply that is meant
 abbrev pub answer_of : AnswerText → Reply
 answer_of (Answer before param of_params) = Returns (value_of param.value)
 answer_of (Fault before before_value value number content of_fault) = Faults number content
 
+-- a reply: `<methodResponse>`, the answer, and the closing tag
 pub record ReplyText : Type 0 where
   pub head : HeadText
   pub answer : AnswerText
   pub ending : Ending
   pub after : List ℕ
 
+-- a reply is right where its parts are
 pub record IsReply (reply : ReplyText) : Type 0 where
   pub head : IsHead reply.head
   pub answer : IsAnswer reply.answer
   pub ending : IsEnding reply.ending
   pub after : IsWhite reply.after
 
+-- the bytes of a reply
 abbrev pub printed_reply : ReplyText → List ℕ
 printed_reply reply =
     printed_head reply.head ++ spelling tag.MethodResponse ++ printed_answer reply.answer ++ printed_end tag.EndMethodResponse reply.ending ++ reply.after
 
+-- the bytes spell this call: a right layout prints them and means it
 pub record SpellsCall (bytes : List ℕ) (call : CallTree) : Type 0 where
   pub text : CallText
   pub right : IsCall text
   pub printed : printed_call text ≡ bytes
   pub means : call_of text ≡ call
 
+-- the bytes spell this reply: a right layout prints them and means it
 pub record SpellsReply (bytes : List ℕ) (reply : Reply) : Type 0 where
   pub text : ReplyText
   pub right : IsReply text

@@ -35,6 +35,7 @@ pub data Turning : Type 0 where
   Named : Members → List ℕ → Turning
   Whole : Tree → Turning
 
+-- the stage of the code, its values as trees
 abbrev pub stage_view : Stage → Standing
 stage_view code_stage.Before = Before
 stage_view code_stage.Opened = Opened
@@ -44,6 +45,7 @@ stage_view (code_stage.Items items) = Items (trees_view items.items)
 stage_view (code_stage.Further members) = Further (members_view members.items)
 stage_view (code_stage.Ended members) = Ended (members_view members.items)
 
+-- the turn of the code, its values as trees
 abbrev pub turn_view : Turn → Turning
 turn_view (code_turn.On stage) = On (stage_view stage)
 turn_view (code_turn.Opening empty) = Opening empty
@@ -51,6 +53,7 @@ turn_view (code_turn.Item items empty) = Item (trees_view items.items) empty
 turn_view (code_turn.Named members name) = Named (members_view members.items) name
 turn_view (code_turn.Whole value) = Whole (view value)
 
+-- what the code holds on its stack of an array or a struct that is open, as a frame
 abbrev pub held_view : Held → Frame
 held_view (held.Item items) = InArray (trees_view items.items)
 held_view (held.Member members name) = InMember (members_view members.items) name
@@ -60,6 +63,7 @@ abbrev pub frames_on : List Frame → List Held → List Frame
 frames_on below [] = below
 frames_on below (h ∷ hs) = frames_on (held_view h ∷ below) hs
 
+-- `<value/>` is empty, `<value>` is not
 abbrev pub is_empty_tag : Tag → Bool
 is_empty_tag tag.Value = false
 is_empty_tag t = true
@@ -70,31 +74,37 @@ before_at bs = do
   r ← tag_behind (tag.Value ∷ tag.NoValue ∷ []) bs
   Ok (Opening (is_empty_tag r.0), r.1)
 
+-- the white space at the front
 abbrev pub white_of : List ℕ → List ℕ
 white_of [] = []
 white_of (b ∷ bs) = if is_white b then b ∷ white_of bs else []
 
+-- a bare text that begins with this white space, and `</value>`
 abbrev pub bare_at : List ℕ → List ℕ → Result (Turning × List ℕ) ℕ
 bare_at white bs = do
   r ← text_at white bs
   rest ← shut_at tag.EndValue r.1
   Ok (Whole (text r.0), rest)
 
+-- a double, a date or base64 and its closing tag; the text is kept as it stands
 abbrev pub other_at : List ℕ → Tag → List ℕ → Result (Turning × List ℕ) ℕ
 other_at form t bs = do
   r ← content_at t bs
   Ok (On (Formed (other form r.0)), r.1)
 
+-- an integer and its closing tag
 abbrev pub number_at : Tag → List ℕ → Result (Turning × List ℕ) ℕ
 number_at t bs = do
   r ← integer_at t bs
   Ok (On (Formed (integer r.0)), r.1)
 
+-- the tags that may stand behind `<value>`
 abbrev pub forms : List Tag
 forms =
     tag.I4 ∷ tag.Int ∷ tag.Boolean ∷ tag.String ∷ tag.NoString ∷ tag.Double ∷ tag.DateTime ∷ tag.Base64
     ∷ tag.Struct ∷ tag.NoMembers ∷ tag.Array ∷ tag.EndValue ∷ []
 
+-- what is read behind this tag, before which this white space stands
 abbrev pub form_of : List ℕ → Tag → List ℕ → Result (Turning × List ℕ) ℕ
 form_of white tag.I4 bs = number_at tag.EndI4 bs
 form_of white tag.Int bs = number_at tag.EndInt bs
@@ -115,10 +125,12 @@ typed_at white bs = do
   r ← tag_at forms bs
   form_of white r.0 r.1
 
+-- a tag stands here
 abbrev pub begins_tag : List ℕ → Bool
 begins_tag [] = false
 begins_tag (b ∷ bs) = b == 60
 
+-- what is read behind `<value>` and this white space
 abbrev pub behind_white : List ℕ → List ℕ → Result (Turning × List ℕ) ℕ
 behind_white white bs = if begins_tag bs then typed_at white bs else bare_at white bs
 
@@ -126,31 +138,38 @@ behind_white white bs = if begins_tag bs then typed_at white bs else bare_at whi
 unfoldable pub opened_at : List ℕ → Result (Turning × List ℕ) ℕ
 opened_at bs = behind_white (white_of bs) (skip_white bs)
 
+-- the `</value>` behind a form
 abbrev pub formed_at : Tree → List ℕ → Result (Turning × List ℕ) ℕ
 formed_at value bs = closing_at (tag.EndValue ∷ []) bs >>= (λ rest. Ok (Whole value, rest))
 
+-- the `</array>` behind the data
 abbrev pub array_end_at : Trees → List ℕ → Result (Turning × List ℕ) ℕ
 array_end_at items bs = closing_at (tag.EndArray ∷ []) bs >>= (λ rest. Ok (On (Formed (array items)), rest))
 
+-- what is read behind this tag, which opens the data of an array or is `<data/>`
 abbrev pub data_of : Tag → List ℕ → Result (Turning × List ℕ) ℕ
 data_of tag.Data bs = Ok (On (Items no_tree), bs)
 data_of t bs = array_end_at no_tree bs
 
+-- what is read behind `<array>`
 abbrev pub data_at : List ℕ → Result (Turning × List ℕ) ℕ
 data_at bs = do
   r ← tag_behind (tag.Data ∷ tag.NoData ∷ []) bs
   data_of r.0 r.1
 
+-- what is read behind this tag, which opens a further value of an array or closes its data
 abbrev pub item_of : Trees → Tag → List ℕ → Result (Turning × List ℕ) ℕ
 item_of items tag.Value bs = Ok (Item items false, bs)
 item_of items tag.NoValue bs = Ok (Item items true, bs)
 item_of items t bs = close_at bs >>= (λ rest. array_end_at items rest)
 
+-- what is read in the data of an array behind these values
 abbrev pub items_at : Trees → List ℕ → Result (Turning × List ℕ) ℕ
 items_at items bs = do
   r ← tag_behind (tag.Value ∷ tag.NoValue ∷ tag.EndData ∷ []) bs
   item_of items r.0 r.1
 
+-- what is read behind this tag, which opens a further member of a struct or closes the struct
 abbrev pub member_of : Members → Tag → List ℕ → Result (Turning × List ℕ) ℕ
 member_of members tag.Member bs = do
   r ← tag_behind (tag.Name ∷ []) bs
@@ -158,11 +177,13 @@ member_of members tag.Member bs = do
   Ok (Named members name.0, name.1)
 member_of members t bs = close_at bs >>= (λ rest. Ok (On (Formed (structure members)), rest))
 
+-- what is read in a struct behind these members
 abbrev pub members_at : Members → List ℕ → Result (Turning × List ℕ) ℕ
 members_at members bs = do
   r ← tag_behind (tag.Member ∷ tag.EndStruct ∷ []) bs
   member_of members r.0 r.1
 
+-- the `</member>` behind the value of a member
 abbrev pub ended_at : Members → List ℕ → Result (Turning × List ℕ) ℕ
 ended_at members bs = closing_at (tag.EndMember ∷ []) bs >>= (λ rest. Ok (On (Further members), rest))
 

@@ -3,6 +3,7 @@ use Rattle.std.specs.Prelude.{ℕ, suc, List, [], ◌∷◌, length, ◌==◌, i
 use Rattle.sv_xmlcall.specs.declared.tag.Tag.{Tag}
 use Rattle.sv_xmlcall.specs.declared.tag.Tag.TheVariants.{Declaration, MethodCall, MethodName, MethodResponse, Params, NoParams, Param, Fault, Value, NoValue, I4, Int, Boolean, String, NoString, Double, DateTime, Base64, Struct, NoMembers, Member, Name, Array, Data, NoData, EndMethodCall, EndMethodName, EndMethodResponse, EndParams, EndParam, EndFault, EndValue, EndI4, EndInt, EndBoolean, EndString, EndDouble, EndDateTime, EndBase64, EndStruct, EndMember, EndName, EndArray, EndData, Ampersand, Less, Greater, Quote, Apostrophe, Numbered}
 
+-- the bytes of each tag and entity
 abbrev pub spelling : Tag → List ℕ
 spelling Declaration = codes "<?xml"
 spelling MethodCall = codes "<methodCall>"
@@ -61,10 +62,12 @@ word_at [] bs = Ok bs
 word_at (w ∷ ws) [] = Err 0
 word_at (w ∷ ws) (b ∷ bs) = if b == w then word_at ws bs else Err (suc (length bs))
 
+-- this tag if it was read, else what the others give; the fewest bytes left so far are handed on
 abbrev pub or_later : Tag → (ℕ → Result (Tag × List ℕ) ℕ) → ℕ → Result (List ℕ) ℕ → Result (Tag × List ℕ) ℕ
 or_later tag others least (Ok rest) = Ok (tag, rest)
 or_later tag others least (Err left) = others (min least left)
 
+-- one of these tags and what follows it; the fewest bytes that the tags before left are handed on
 abbrev pub tag_from : List Tag → ℕ → List ℕ → Result (Tag × List ℕ) ℕ
 tag_from [] least bs = Err least
 tag_from (tag ∷ tags) least bs = or_later tag (λ least. tag_from tags least bs) least (word_at (spelling tag) bs)

@@ -10,6 +10,7 @@ use Rattle.sv_xmlcall.specs.declared.nested.Settled.TheVariants as settled
 use Rattle.sv_xmlcall.specs.declared.stop.Stop.{Stop}
 use Rattle.sv_xmlcall.specs.declared.stop.Stop.TheVariants as stop
 
+-- the state of the reading byte by byte that a stage is
 abbrev pub stand : Standing → List Frame → ℕ → State
 stand Before frames count = at (At AtValue) frames count
 stand Opened frames count = at (behind_value []) frames count
@@ -19,13 +20,16 @@ stand (Items items) frames count = at (At (AtItems items)) frames count
 stand (Further members) frames count = at (At (AtMembers members)) frames count
 stand (Ended members) frames count = at (At (AtMemberEnd members)) frames count
 
+-- the step behind the opening of a value, empty or not, that was counted
 abbrev pub opened_of : Bool → List Frame → ℕ → Step
 opened_of false frames count = goes (behind_value []) frames count
 opened_of true frames count = Go (after_value the_limits (text []) frames count)
 
+-- the step behind `<value/>` or `<value>`: not deeper than 32, and counted
 abbrev pub opening_of : Bool → List Frame → ℕ → Step
 opening_of empty frames count = if nat_le (length frames) 32 then opened_of empty frames (counted the_limits count) else Deep
 
+-- the step of a turn
 abbrev pub turned : Turning → List Frame → ℕ → Step
 turned (On standing) frames count = Go (stand standing frames count)
 turned (Opening empty) frames count = opening_of empty frames count
@@ -33,6 +37,8 @@ turned (Item items empty) frames count = opening_of empty (InArray items ∷ fra
 turned (Named members name) frames count = goes (At AtValue) (InMember members name ∷ frames) count
 turned (Whole value) frames count = Go (after_value the_limits value frames count)
 
+-- the state after a turn: that of a stage, or behind the outermost value, which stands in this
+-- frame
 abbrev pub settled_state : Frame → Settled → List Frame → ℕ → State
 settled_state frame (settled.On stage) frames count = stand (stage_view stage) frames count
 settled_state frame (settled.Done value) frames count = after_value the_limits (view value) (frame ∷ []) count

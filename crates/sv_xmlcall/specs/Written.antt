@@ -13,16 +13,20 @@ escaped_byte b =
     else if b == 13 then codes "&#13;"
     else b ∷ []
 
+-- a text as it is written
 abbrev pub escaped : List ℕ → List ℕ
 escaped bytes = flat_map escaped_byte bytes
 
+-- a boolean is `1` or `0`
 abbrev pub digit_of : Bool → List ℕ
 digit_of true = codes "1"
 digit_of false = codes "0"
 
+-- the opening tag of an element of this name
 unfoldable pub opening : List ℕ → List ℕ
 opening name = codes "<" ++ name ++ codes ">"
 
+-- the closing tag of an element of this name
 unfoldable pub closing : List ℕ → List ℕ
 closing name = codes "</" ++ name ++ codes ">"
 
@@ -40,22 +44,27 @@ abbrev mutual
   written_form (structure members) = element (codes "struct") (written_members members)
   written_form (array values) = element (codes "array") (element (codes "data") (written_values values))
 
+  -- the values of an array, each in its `<value>`
   pub written_values : Trees → List ℕ
   written_values no_tree = []
   written_values (tree value values) = element (codes "value") (written_form value) ++ written_values values
 
+  -- the members of a struct, each in its `<member>`
   pub written_members : Members → List ℕ
   written_members no_member = []
   written_members (member name value members) =
       element (codes "member") (element (codes "name") (escaped name) ++ element (codes "value") (written_form value)) ++ written_members members
 
+-- a value in its `<value>`
 abbrev pub written_value : Tree → List ℕ
 written_value value = element (codes "value") (written_form value)
 
+-- the params of a call, each in its `<param>`
 abbrev pub written_params : Trees → List ℕ
 written_params no_tree = []
 written_params (tree value values) = element (codes "param") (written_value value) ++ written_params values
 
+-- the declaration of XML, version 1.0
 abbrev pub declaration : List ℕ
 declaration = codes "<?xml version='1.0'?>"
 

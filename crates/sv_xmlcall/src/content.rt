@@ -128,7 +128,8 @@ fn piece<'a>(
     awaits: Awaits,
     bytes: &'a [u8],
 ) -> Result<Option<(Awaits, &'a [u8])>, Stop>
-    ensures value { Gives (λ o. (kept.new.items, option_map (λ x. (x.0, x.1.now)) o)) result (piece_at kept.old.items awaits bytes.now) }
+    ensures value { Gives (λ o. (kept.new.items, option_map (λ x. (x.0, x.1.now)) o)) result
+        (piece_at kept.old.items awaits bytes.now) }
     ensures shorter { IfOk result (λ o. IfSome o (λ x. length x.1.now < length bytes.now)) }
 {
     match bytes {

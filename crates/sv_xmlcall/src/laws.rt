@@ -16,13 +16,16 @@ ghost use Rattle.sv_xmlcall.specs.declared.call.CallFault.{CallFault};
 
 /// A law: no text spells two things.
 pub fn no_text_spells_two()
-    ensures { (bytes : List ℕ) (one two : Spelled) → Spells bytes one → Spells bytes two → one ≡ two }
+    ensures { (bytes : List ℕ) (one two : Spelled) → Spells bytes one → Spells bytes two
+        → one ≡ two }
 {}
 
 /// A law: bytes have one good front as a call, and one as a reply.
 pub fn one_good_front()
-    ensures calls { (bytes one two : List ℕ) → IsLongest BeginsCall bytes one → IsLongest BeginsCall bytes two → one ≡ two }
-    ensures replies { (bytes one two : List ℕ) → IsLongest BeginsReply bytes one → IsLongest BeginsReply bytes two → one ≡ two }
+    ensures calls { (bytes one two : List ℕ) → IsLongest BeginsCall bytes one
+        → IsLongest BeginsCall bytes two → one ≡ two }
+    ensures replies { (bytes one two : List ℕ) → IsLongest BeginsReply bytes one
+        → IsLongest BeginsReply bytes two → one ≡ two }
 {}
 
 /// A law: the call that bytes are, as `called` says, is the one that they spell within the limits; so it is of replies.
@@ -40,15 +43,17 @@ pub fn what_bytes_are()
 /// A law: the written text of what can be written spells it.
 pub fn written_texts_spell()
     ensures calls { (call : CallTree) → IsWritableCall call → SpellsCall (written_call call) call }
-    ensures replies { (reply : Reply) → IsWritableReply reply → SpellsReply (written_reply reply) reply }
+    ensures replies { (reply : Reply) → IsWritableReply reply
+        → SpellsReply (written_reply reply) reply }
 {}
 
 /// A law: what is written within the limits is read again as it was, by whoever answers as the readers do.
 pub fn written_texts_are_read()
-    ensures calls { (call : CallTree) (result : Result Call CallFault) → IsWritableCall call → IsWithin (ACall call)
-        → OnlyCall (written_call call) result → IsBackCall call result }
-    ensures replies { (reply : Reply) (result : Result Answered CallFault) → IsWritableReply reply → IsWithin (AReply reply)
-        → OnlyReply (written_reply reply) result → IsBackReply reply result }
+    ensures calls { (call : CallTree) (result : Result Call CallFault) → IsWritableCall call
+        → IsWithin (ACall call) → OnlyCall (written_call call) result → IsBackCall call result }
+    ensures replies { (reply : Reply) (result : Result Answered CallFault) → IsWritableReply reply
+        → IsWithin (AReply reply) → OnlyReply (written_reply reply) result
+        → IsBackReply reply result }
 {}
 
 /// A law: three texts that spell one call, the reply to it as it is written, which call and which reply texts are, and that

@@ -71,7 +71,8 @@ pub fn value<'a>(
     opened: &mut u32,
     bytes: &'a [u8],
 ) -> Result<(Value, &'a [u8]), Stop>
-    ensures reads { (frame : Frame) → ReadsValue frame opened.old bytes.now opened.new (λ x. view x.0) (λ x. x.1.now) result }
+    ensures reads { (frame : Frame) → ReadsValue frame opened.old bytes.now opened.new
+        (λ x. view x.0) (λ x. x.1.now) result }
     ensures shorter { IfOk result (λ x. length x.1.now < length bytes.now) }
 {
     let mut stack = Vec::new(alloc);
@@ -93,7 +94,8 @@ pub fn value<'a>(
 
 #[tactic(auto, using(crate::proofs::Frames::frames_more))]
 fn push(stack: &mut Vec<Held>, held: Held) -> Result<(), AllocError>
-    ensures { OnOk result ((below : List Frame) → frames_on below stack.new.items ≡ held_view held ∷ frames_on below stack.old.items) }
+    ensures { OnOk result ((below : List Frame)
+        → frames_on below stack.new.items ≡ held_view held ∷ frames_on below stack.old.items) }
 {
     stack.push(held)?;
     Ok(())
@@ -102,7 +104,8 @@ fn push(stack: &mut Vec<Held>, held: Held) -> Result<(), AllocError>
 #[tactic(auto, using(crate::proofs::Frames::frames_more))]
 fn pop(stack: &mut Vec<Held>) -> Option<Held>
     ensures { MatchOption result (stack.old.items ≡ [])
-        (λ held. (below : List Frame) → frames_on below stack.old.items ≡ held_view held ∷ frames_on below stack.new.items) }
+        (λ held. (below : List Frame)
+        → frames_on below stack.old.items ≡ held_view held ∷ frames_on below stack.new.items) }
 {
     stack.pop()
 }
@@ -111,8 +114,10 @@ fn pop(stack: &mut Vec<Held>) -> Option<Held>
 #[inline(always)]
 #[tactic(auto, using(crate::proofs::Frames::begin_ok, crate::proofs::Frames::begin_deep))]
 fn begin(empty: bool, stack: &mut Vec<Held>, opened: &mut u32) -> Result<Settled, Stop>
-    ensures { Settles (λ frame. opening_of empty (frames_on (frame ∷ []) stack.old.items) opened.old)
-        (λ frame s. settled_state frame s (frames_on (frame ∷ []) stack.new.items) opened.new) result }
+    ensures { Settles
+        (λ frame. opening_of empty (frames_on (frame ∷ []) stack.old.items) opened.old)
+        (λ frame s. settled_state frame s (frames_on (frame ∷ []) stack.new.items) opened.new)
+        result }
 {
     if stack.as_slice().len() >= NESTING {
         return Err(Stop::TooDeep);
@@ -142,7 +147,9 @@ fn open(empty: bool, stack: &mut Vec<Held>, opened: u32) -> Result<Settled, Stop
 /// Goes on behind a whole value.
 #[inline(always)]
 fn whole(value: Value, stack: &mut Vec<Held>, opened: u32) -> Result<Settled, Stop>
-    ensures { Settles (λ frame. Go (after_value the_limits (view value) (frames_on (frame ∷ []) stack.old.items) opened))
+    ensures { Settles
+        (λ frame. Go
+        (after_value the_limits (view value) (frames_on (frame ∷ []) stack.old.items) opened))
         (λ frame s. settled_state frame s (frames_on (frame ∷ []) stack.new.items) opened) result }
 {
     match pop(stack) {
@@ -158,7 +165,8 @@ fn whole(value: Value, stack: &mut Vec<Held>, opened: u32) -> Result<Settled, St
 #[inline(always)]
 #[tactic(auto, using(crate::proofs::Frames::trees_view_more))]
 pub fn kept(items: Vec<Value>, value: Value, opened: u32) -> Result<Vec<Value>, AllocError>
-    ensures { IfOk result (λ all. trees_view all.items ≡ kept the_limits opened (trees_view items.items) (view value)) }
+    ensures { IfOk result (λ all. trees_view all.items
+        ≡ kept the_limits opened (trees_view items.items) (view value)) }
 {
     let mut all = items;
     if opened <= VALUES {
@@ -175,7 +183,8 @@ fn kept_member(
     value: Value,
     opened: u32,
 ) -> Result<Vec<(Text, Value)>, AllocError>
-    ensures { IfOk result (λ all. members_view all.items ≡ kept_member the_limits opened (members_view members.items) name (view value)) }
+    ensures { IfOk result (λ all. members_view all.items
+        ≡ kept_member the_limits opened (members_view members.items) name (view value)) }
 {
     let mut all = members;
     if opened <= VALUES {
@@ -185,8 +194,10 @@ fn kept_member(
 }
 
 fn settle(turn: Turn, stack: &mut Vec<Held>, opened: &mut u32) -> Result<Settled, Stop>
-    ensures { Settles (λ frame. turned (turn_view turn) (frames_on (frame ∷ []) stack.old.items) opened.old)
-        (λ frame s. settled_state frame s (frames_on (frame ∷ []) stack.new.items) opened.new) result }
+    ensures { Settles
+        (λ frame. turned (turn_view turn) (frames_on (frame ∷ []) stack.old.items) opened.old)
+        (λ frame s. settled_state frame s (frames_on (frame ∷ []) stack.new.items) opened.new)
+        result }
 {
     match turn {
         Turn::On(stage) => Ok(Settled::On(stage)),
@@ -205,7 +216,8 @@ fn settle(turn: Turn, stack: &mut Vec<Held>, opened: &mut u32) -> Result<Settled
 
 /// Reads what stands at this stage.
 fn read_stage(alloc: Global, stage: Stage, bytes: &[u8]) -> Result<(Turn, &[u8]), Stop>
-    ensures value { Gives (λ x. (turn_view x.0, x.1.now)) result (stage_at (stage_view stage) bytes.now) }
+    ensures value { Gives (λ x. (turn_view x.0, x.1.now)) result
+        (stage_at (stage_view stage) bytes.now) }
     ensures shorter { IfOk result (λ x. length x.1.now < length bytes.now) }
 {
     match stage {
@@ -231,7 +243,8 @@ fn before(bytes: &[u8]) -> Result<(Turn, &[u8]), Stop>
 }
 
 fn formed(value: Value, bytes: &[u8]) -> Result<(Turn, &[u8]), Stop>
-    ensures value { Gives (λ x. (turn_view x.0, x.1.now)) result (formed_at (view value) bytes.now) }
+    ensures value { Gives (λ x. (turn_view x.0, x.1.now)) result
+        (formed_at (view value) bytes.now) }
     ensures shorter { IfOk result (λ x. length x.1.now < length bytes.now) }
 {
     let rest = closing(Tag::EndValue, bytes)?;
@@ -239,7 +252,8 @@ fn formed(value: Value, bytes: &[u8]) -> Result<(Turn, &[u8]), Stop>
 }
 
 fn array_end(items: Vec<Value>, bytes: &[u8]) -> Result<(Turn, &[u8]), Stop>
-    ensures value { Gives (λ x. (turn_view x.0, x.1.now)) result (array_end_at (trees_view items.items) bytes.now) }
+    ensures value { Gives (λ x. (turn_view x.0, x.1.now)) result
+        (array_end_at (trees_view items.items) bytes.now) }
     ensures shorter { IfOk result (λ x. length x.1.now < length bytes.now) }
 {
     let rest = closing(Tag::EndArray, bytes)?;
@@ -258,7 +272,8 @@ fn data(alloc: Global, bytes: &[u8]) -> Result<(Turn, &[u8]), Stop>
 }
 
 fn further_item(items: Vec<Value>, bytes: &[u8]) -> Result<(Turn, &[u8]), Stop>
-    ensures value { Gives (λ x. (turn_view x.0, x.1.now)) result (items_at (trees_view items.items) bytes.now) }
+    ensures value { Gives (λ x. (turn_view x.0, x.1.now)) result
+        (items_at (trees_view items.items) bytes.now) }
     ensures shorter { IfOk result (λ x. length x.1.now < length bytes.now) }
 {
     let (tag, rest) = tag_behind(&[Tag::Value, Tag::NoValue, Tag::EndData], bytes)?;
@@ -277,7 +292,8 @@ fn further_member(
     members: Vec<(Text, Value)>,
     bytes: &[u8],
 ) -> Result<(Turn, &[u8]), Stop>
-    ensures value { Gives (λ x. (turn_view x.0, x.1.now)) result (members_at (members_view members.items) bytes.now) }
+    ensures value { Gives (λ x. (turn_view x.0, x.1.now)) result
+        (members_at (members_view members.items) bytes.now) }
     ensures shorter { IfOk result (λ x. length x.1.now < length bytes.now) }
 {
     let (tag, rest) = tag_behind(&[Tag::Member, Tag::EndStruct], bytes)?;
@@ -295,7 +311,8 @@ fn further_member(
 }
 
 fn ended(members: Vec<(Text, Value)>, bytes: &[u8]) -> Result<(Turn, &[u8]), Stop>
-    ensures value { Gives (λ x. (turn_view x.0, x.1.now)) result (ended_at (members_view members.items) bytes.now) }
+    ensures value { Gives (λ x. (turn_view x.0, x.1.now)) result
+        (ended_at (members_view members.items) bytes.now) }
     ensures shorter { IfOk result (λ x. length x.1.now < length bytes.now) }
 {
     let rest = closing(Tag::EndMember, bytes)?;
@@ -330,7 +347,8 @@ fn opened(alloc: Global, bytes: &[u8]) -> Result<(Turn, &[u8]), Stop>
 
 fn behind_white(alloc: Global, white: Vec<u8>, bytes: &[u8]) -> Result<(Turn, &[u8]), Stop>
     requires { IsTrue (are_letters OfXml Awaits.Character white.items) }
-    ensures value { Gives (λ x. (turn_view x.0, x.1.now)) result (behind_white white.items bytes.now) }
+    ensures value { Gives (λ x. (turn_view x.0, x.1.now)) result
+        (behind_white white.items bytes.now) }
     ensures shorter { IfOk result (λ x. length x.1.now < length bytes.now) }
 {
     if begins_tag(bytes) {
@@ -401,7 +419,8 @@ fn typed(alloc: Global, white: Vec<u8>, bytes: &[u8]) -> Result<(Turn, &[u8]), S
 #[tactic(auto, using(crate::proofs::LetterLaws::letters_utf8))]
 fn form(alloc: Global, white: Vec<u8>, tag: Tag, bytes: &[u8]) -> Result<(Turn, &[u8]), Stop>
     requires { IsTrue (are_letters OfXml Awaits.Character white.items) }
-    ensures value { Gives (λ x. (turn_view x.0, x.1.now)) result (form_of white.items tag bytes.now) }
+    ensures value { Gives (λ x. (turn_view x.0, x.1.now)) result
+        (form_of white.items tag bytes.now) }
     ensures shorter { IfOk result (λ x. length x.1.now ≤ length bytes.now) }
 {
     match tag {

@@ -74,7 +74,8 @@ fn fault(size: usize, opened: u32, stop: Stop) -> CallFault
 #[tactic(auto, using(crate::proofs::DocumentLaws::head_halts, crate::proofs::DocumentLaws::head_goes))]
 fn call(alloc: Global, opened: &mut u32, bytes: &[u8]) -> Result<Call, Stop>
     requires { opened.old ≡ 0 }
-    ensures { Comes (run the_limits (start OfCall) bytes.now) opened.new (λ call. ACall (call_view call)) result }
+    ensures { Comes (run the_limits (start OfCall) bytes.now) opened.new
+        (λ call. ACall (call_view call)) result }
 {
     match head(alloc, bytes) {
         Ok((method, rest)) => call_of(alloc, opened, method, rest),
@@ -84,7 +85,8 @@ fn call(alloc: Global, opened: &mut u32, bytes: &[u8]) -> Result<Call, Stop>
 
 /// Reads a call behind its method's name.
 fn call_of(alloc: Global, opened: &mut u32, method: Text, bytes: &[u8]) -> Result<Call, Stop>
-    ensures { Comes (run the_limits (at (At (AtCalled method)) [] opened.old) bytes.now) opened.new (λ call. ACall (call_view call)) result }
+    ensures { Comes (run the_limits (at (At (AtCalled method)) [] opened.old) bytes.now) opened.new
+        (λ call. ACall (call_view call)) result }
 {
     match params(alloc, opened, bytes) {
         Ok((params, rest)) => match end(rest) {
@@ -101,7 +103,8 @@ fn params<'a>(
     opened: &mut u32,
     bytes: &'a [u8],
 ) -> Result<(Vec<Value>, &'a [u8]), Stop>
-    ensures { (method : List ℕ) → ReadsParams method opened.old bytes.now opened.new (λ x. trees_view x.0.items) (λ x. x.1.now) result }
+    ensures { (method : List ℕ) → ReadsParams method opened.old bytes.now opened.new
+        (λ x. trees_view x.0.items) (λ x. x.1.now) result }
 {
     match begun(bytes) {
         Ok((true, rest)) => further_params(alloc, opened, rest),
@@ -115,7 +118,8 @@ fn further_params<'a>(
     opened: &mut u32,
     bytes: &'a [u8],
 ) -> Result<(Vec<Value>, &'a [u8]), Stop>
-    ensures { (method : List ℕ) → ReadsFurther method opened.old bytes.now opened.new (λ x. trees_view x.0.items) (λ x. x.1.now) result }
+    ensures { (method : List ℕ) → ReadsFurther method opened.old bytes.now opened.new
+        (λ x. trees_view x.0.items) (λ x. x.1.now) result }
 {
     let mut params = Vec::new(alloc);
     let mut rest = bytes;
@@ -141,7 +145,9 @@ fn one_param<'a>(
     params: Vec<Value>,
     bytes: &'a [u8],
 ) -> Result<(Vec<Value>, &'a [u8]), Stop>
-    ensures reads { (method : List ℕ) → ReadsOne method (trees_view params.items) opened.old bytes.now opened.new (λ x. trees_view x.0.items) (λ x. x.1.now) result }
+    ensures reads { (method : List ℕ)
+        → ReadsOne method (trees_view params.items) opened.old bytes.now opened.new
+        (λ x. trees_view x.0.items) (λ x. x.1.now) result }
     ensures shorter { IfOk result (λ x. length x.1.now < length bytes.now) }
 {
     match value(alloc, opened, bytes) {
@@ -159,7 +165,8 @@ fn one_param<'a>(
 #[tactic(auto, using(crate::proofs::DocumentLaws::answer_halts, crate::proofs::DocumentLaws::answer_value, crate::proofs::DocumentLaws::answer_fault))]
 fn reply(alloc: Global, opened: &mut u32, bytes: &[u8]) -> Result<Answered, Stop>
     requires { opened.old ≡ 0 }
-    ensures { Comes (run the_limits (start OfReply) bytes.now) opened.new (λ answered. AReply (reply_view answered)) result }
+    ensures { Comes (run the_limits (start OfReply) bytes.now) opened.new
+        (λ answered. AReply (reply_view answered)) result }
 {
     match answer(bytes) {
         Ok((true, rest)) => value_reply(alloc, opened, rest),
@@ -170,7 +177,8 @@ fn reply(alloc: Global, opened: &mut u32, bytes: &[u8]) -> Result<Answered, Stop
 
 /// Reads the value of a method's reply and the rest of the reply.
 fn value_reply(alloc: Global, opened: &mut u32, bytes: &[u8]) -> Result<Answered, Stop>
-    ensures { Comes (run the_limits (at (At AtValue) (InReply ∷ []) opened.old) bytes.now) opened.new (λ answered. AReply (reply_view answered)) result }
+    ensures { Comes (run the_limits (at (At AtValue) (InReply ∷ []) opened.old) bytes.now)
+        opened.new (λ answered. AReply (reply_view answered)) result }
 {
     match value(alloc, opened, bytes) {
         Ok((one, rest)) => match value_end(rest) {
@@ -190,7 +198,8 @@ fn value_end(bytes: &[u8]) -> Result<(), Stop>
 
 /// Reads the value of a fault and the rest of the reply.
 fn fault_reply(alloc: Global, opened: &mut u32, bytes: &[u8]) -> Result<Answered, Stop>
-    ensures { Comes (run the_limits (at (At AtValue) (InFault ∷ []) opened.old) bytes.now) opened.new (λ answered. AReply (reply_view answered)) result }
+    ensures { Comes (run the_limits (at (At AtValue) (InFault ∷ []) opened.old) bytes.now)
+        opened.new (λ answered. AReply (reply_view answered)) result }
 {
     match value(alloc, opened, bytes) {
         Ok((one, rest)) => match fault_of(&one) {
@@ -240,7 +249,8 @@ fn two_members(
     second: &Text,
     other: &Value,
 ) -> Result<Option<Answered>, AllocError>
-    ensures { IfOk result (λ o. option_map reply_view o ≡ two_of first.now (view one.now) second.now (view other.now)) }
+    ensures { IfOk result (λ o. option_map reply_view o
+        ≡ two_of first.now (view one.now) second.now (view other.now)) }
 {
     match one {
         Value::Int(number) => match other {
@@ -262,7 +272,9 @@ fn named(
     text: &Text,
 ) -> Result<Option<Answered>, AllocError>
     ensures { IfOk result (λ o. option_map reply_view o
-        ≡ named_fault (bytes_eq code.now (codes "faultCode") && bytes_eq string.now (codes "faultString")) number text.now) }
+        ≡ named_fault
+        (bytes_eq code.now (codes "faultCode") && bytes_eq string.now (codes "faultString"))
+        number text.now) }
 {
     if code.as_str() == "faultCode" && string.as_str() == "faultString" {
         Ok(Some(Answered::Fault(number, text.clone()?)))

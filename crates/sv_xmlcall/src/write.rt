@@ -126,7 +126,8 @@ fn put_text(out: &mut Vec<u8>, text: &str) -> Result<(), AllocError>
 /// Writes the simple bytes with which these begin, and gives what is behind them.
 #[tactic(auto, using(crate::proofs::SimpleLaws::written_run))]
 fn put_run<'a>(out: &mut Vec<u8>, bytes: &'a [u8]) -> Result<&'a [u8], AllocError>
-    ensures written { IfOk result (λ rest. out.new.items ++ escaped rest.now ≡ out.old.items ++ escaped bytes.now) }
+    ensures written { IfOk result (λ rest. out.new.items ++ escaped rest.now
+        ≡ out.old.items ++ escaped bytes.now) }
     ensures shorter { IfOk result (λ rest. length rest.now ≤ length bytes.now) }
 {
     push_run(out, bytes)
@@ -142,7 +143,8 @@ fn put_content(out: &mut Vec<u8>, name: &[u8], text: &Text) -> Result<(), AllocE
 }
 
 fn put_method(out: &mut Vec<u8>, method: &Text) -> Result<(), AllocError>
-    ensures { OnOk result (out.new.items ≡ out.old.items ++ element (codes "methodName") (escaped method.now)) }
+    ensures { OnOk result (out.new.items
+        ≡ out.old.items ++ element (codes "methodName") (escaped method.now)) }
 {
     put_content(out, b"methodName", method)
 }
@@ -158,7 +160,8 @@ fn put_truth(out: &mut Vec<u8>, truth: bool) -> Result<(), AllocError>
 
 #[tactic(auto, using(crate::proofs::WriteLaws::written_between), unfolding(crate::specs::Written::opening, crate::specs::Written::closing))]
 fn put_int(out: &mut Vec<u8>, number: i64) -> Result<(), AllocError>
-    ensures { OnOk result (out.new.items ≡ out.old.items ++ element (codes "int") (signed_decimal number)) }
+    ensures { OnOk result (out.new.items
+        ≡ out.old.items ++ element (codes "int") (signed_decimal number)) }
 {
     out.extend_from_slice(b"<int>")?;
     put_integer(out, number)?;
@@ -167,7 +170,8 @@ fn put_int(out: &mut Vec<u8>, number: i64) -> Result<(), AllocError>
 
 #[tactic(auto, using(crate::proofs::WriteLaws::written_between), unfolding(crate::specs::Written::opening, crate::specs::Written::closing))]
 fn put_boolean(out: &mut Vec<u8>, truth: bool) -> Result<(), AllocError>
-    ensures { OnOk result (out.new.items ≡ out.old.items ++ element (codes "boolean") (digit_of truth)) }
+    ensures { OnOk result (out.new.items
+        ≡ out.old.items ++ element (codes "boolean") (digit_of truth)) }
 {
     out.extend_from_slice(b"<boolean>")?;
     put_truth(out, truth)?;
@@ -176,7 +180,8 @@ fn put_boolean(out: &mut Vec<u8>, truth: bool) -> Result<(), AllocError>
 
 #[tactic(auto, using(crate::proofs::WriteLaws::written_between), unfolding(crate::specs::Written::opening, crate::specs::Written::closing))]
 fn put_string(out: &mut Vec<u8>, text: &Text) -> Result<(), AllocError>
-    ensures { OnOk result (out.new.items ≡ out.old.items ++ element (codes "string") (escaped text.now)) }
+    ensures { OnOk result (out.new.items
+        ≡ out.old.items ++ element (codes "string") (escaped text.now)) }
 {
     out.extend_from_slice(b"<string>")?;
     put_text(out, text.as_str())?;
@@ -218,7 +223,8 @@ fn put_value(out: &mut Vec<u8>, value: &Value) -> Result<(), AllocError>
 
 #[cycle(put)]
 fn put_data(out: &mut Vec<u8>, values: &Vec<Value>) -> Result<(), AllocError>
-    ensures { OnOk result (out.new.items ≡ out.old.items ++ element (codes "data") (written_values (trees_view values.now.items))) }
+    ensures { OnOk result (out.new.items
+        ≡ out.old.items ++ element (codes "data") (written_values (trees_view values.now.items))) }
 {
     open(out, b"data")?;
     for value in values {
@@ -242,7 +248,8 @@ fn put_member(out: &mut Vec<u8>, name: &Text, value: &Value) -> Result<(), Alloc
 
 #[cycle(put)]
 fn put_members(out: &mut Vec<u8>, members: &Vec<(Text, Value)>) -> Result<(), AllocError>
-    ensures { OnOk result (out.new.items ≡ out.old.items ++ written_members (members_view members.now.items)) }
+    ensures { OnOk result (out.new.items
+        ≡ out.old.items ++ written_members (members_view members.now.items)) }
 {
     for (name, value) in members {
         put_member(out, name, value)?;
@@ -251,7 +258,8 @@ fn put_members(out: &mut Vec<u8>, members: &Vec<(Text, Value)>) -> Result<(), Al
 }
 
 fn put_param(out: &mut Vec<u8>, value: &Value) -> Result<(), AllocError>
-    ensures { OnOk result (out.new.items ≡ out.old.items ++ element (codes "param") (written_value (view value.now))) }
+    ensures { OnOk result (out.new.items
+        ≡ out.old.items ++ element (codes "param") (written_value (view value.now))) }
 {
     open(out, b"param")?;
     put_value(out, value)?;
@@ -259,7 +267,8 @@ fn put_param(out: &mut Vec<u8>, value: &Value) -> Result<(), AllocError>
 }
 
 fn put_params(out: &mut Vec<u8>, values: &Vec<Value>) -> Result<(), AllocError>
-    ensures { OnOk result (out.new.items ≡ out.old.items ++ element (codes "params") (written_params (trees_view values.now.items))) }
+    ensures { OnOk result (out.new.items ≡ out.old.items
+        ++ element (codes "params") (written_params (trees_view values.now.items))) }
 {
     open(out, b"params")?;
     for value in values {
