@@ -7,13 +7,15 @@ ghost use Rattle.sv_journal.specs.JournalLine.{FitsInput, input_line, FitsHeader
 
 /// A law: no line has two meanings as an input.
 pub fn each_line_is_one_input()
-    ensures { (one : Input) (other : Input) → FitsInput one → FitsInput other → input_line one ≡ input_line other → one ≡ other }
+    ensures { (one : Input) (other : Input)
+        → FitsInput one → FitsInput other → input_line one ≡ input_line other → one ≡ other }
 {}
 
 /// A law: no line has two meanings as a header.
 #[tactic(auto, using(crate::proofs::OneMeaning::one_header))]
 pub fn each_line_is_one_header()
-    ensures { (one : Header) (other : Header) → FitsHeader one → FitsHeader other → header_line one ≡ header_line other → one ≡ other }
+    ensures { (one : Header) (other : Header)
+        → FitsHeader one → FitsHeader other → header_line one ≡ header_line other → one ≡ other }
 {}
 
 /// A law: no line of an input holds a line feed, so that lines end where their line feeds are.

@@ -26,7 +26,8 @@ pub fn read_input(alloc: Global, line: &[u8]) -> Result<Input, LineFault>
     ensures fits { IfOk result (λ i. FitsInput i) }
     ensures short { IfOk result (λ i. length line.now ≤ line_limit) }
     ensures column { IfErr result (λ fault. IsFaultOf FitsInput input_line line.now fault) }
-    ensures only { (i : Input) → FitsInput i → line.now ≡ input_line i → length line.now ≤ line_limit → IsOrNoMemory result i }
+    ensures only { (i : Input) → FitsInput i → line.now ≡ input_line i
+        → length line.now ≤ line_limit → IsOrNoMemory result i }
 {
     match input(alloc, line) {
         Ok(input) if line.len() <= LINE_LIMIT => Ok(input),
@@ -44,7 +45,8 @@ pub fn read_header(alloc: Global, line: &[u8]) -> Result<Header, LineFault>
     ensures fits { IfOk result (λ h. FitsHeader h) }
     ensures short { IfOk result (λ h. length line.now ≤ line_limit) }
     ensures column { IfErr result (λ fault. IsFaultOf FitsHeader header_line line.now fault) }
-    ensures only { (h : Header) → FitsHeader h → line.now ≡ header_line h → length line.now ≤ line_limit → IsOrNoMemory result h }
+    ensures only { (h : Header) → FitsHeader h → line.now ≡ header_line h
+        → length line.now ≤ line_limit → IsOrNoMemory result h }
 {
     match header(alloc, line) {
         Ok(header) if line.len() <= LINE_LIMIT => Ok(header),

@@ -173,7 +173,8 @@ fn second_digit(
     bytes: &[u8],
 ) -> Result<(u8, &[u8]), Stop>
     requires { high < 16 }
-    ensures value { Gives (λ x. (x.0, x.1.now)) result (second_digit_at letters awaits high bytes.now) }
+    ensures value { Gives (λ x. (x.0, x.1.now)) result
+        (second_digit_at letters awaits high bytes.now) }
     ensures shorter { IfOk result (λ x. length x.1.now < length bytes.now) }
 {
     let [digit, rest @ ..] = bytes else {
@@ -196,7 +197,8 @@ pub fn escape(letters: Letters, awaits: Awaits, bytes: &[u8]) -> Result<(u8, &[u
 
 /// Reads one byte of a token, or gives none where the token ends.
 fn spelled_byte(letters: Letters, awaits: Awaits, bytes: &[u8]) -> Result<Option<(u8, &[u8])>, Stop>
-    ensures value { Gives (option_map (λ x. (x.0, x.1.now))) result (spelled_byte_at letters awaits bytes.now) }
+    ensures value { Gives (option_map (λ x. (x.0, x.1.now))) result
+        (spelled_byte_at letters awaits bytes.now) }
     ensures shorter { IfOk result (λ o. IfSome o (λ x. length x.1.now < length bytes.now)) }
 {
     match bytes {
@@ -214,7 +216,8 @@ fn spelled_byte(letters: Letters, awaits: Awaits, bytes: &[u8]) -> Result<Option
 /// Reads the bytes of a token.
 #[tactic(auto, using(crate::proofs::Stages::step_more, crate::proofs::Stages::step_end, crate::proofs::Stages::step_err))]
 fn spelled(alloc: Global, letters: Letters, bytes: &[u8]) -> Result<(Vec<u8>, &[u8]), Stop>
-    ensures { Gives (λ x. (x.0.items, x.1.now)) result (token_from letters (Stage.Between Awaits.Character) bytes.now) }
+    ensures { Gives (λ x. (x.0.items, x.1.now)) result
+        (token_from letters (Stage.Between Awaits.Character) bytes.now) }
 {
     let mut value = Vec::new(alloc);
     let mut awaits = Awaits::Character;

@@ -74,7 +74,8 @@ fn put_input(line: &mut String, input: &Input) -> Result<(), AllocError>
 /// Adds a moment and what happened then.
 #[tactic(auto, using(crate::proofs::Lists::joined))]
 fn put_at(line: &mut String, at: Moment, verb: &str) -> Result<(), AllocError>
-    ensures { OnOk result (string_bytes line.new ≡ string_bytes line.old ++ (decimal at ++ verb.now)) }
+    ensures { OnOk result (string_bytes line.new
+        ≡ string_bytes line.old ++ (decimal at ++ verb.now)) }
 {
     put_number(line, at.milliseconds())?;
     line.push_str(verb)
@@ -83,7 +84,8 @@ fn put_at(line: &mut String, at: Moment, verb: &str) -> Result<(), AllocError>
 /// Adds a moment, what happened then, and to which run or link.
 #[tactic(auto, using(crate::proofs::Lists::joined))]
 fn put_numbered(line: &mut String, at: Moment, verb: &str, number: u32) -> Result<(), AllocError>
-    ensures { OnOk result (string_bytes line.new ≡ string_bytes line.old ++ (decimal at ++ verb.now ++ decimal number)) }
+    ensures { OnOk result (string_bytes line.new
+        ≡ string_bytes line.old ++ (decimal at ++ verb.now ++ decimal number)) }
 {
     put_at(line, at, verb)?;
     put_number(line, u64::from(number))
@@ -98,7 +100,9 @@ fn put_numbered_token(
     number: u32,
     bytes: &[u8],
 ) -> Result<(), AllocError>
-    ensures { OnOk result (string_bytes line.new ≡ string_bytes line.old ++ (decimal at ++ verb.now ++ decimal number ++ codes " " ++ token bytes.now)) }
+    ensures { OnOk result (string_bytes line.new
+        ≡ string_bytes line.old
+        ++ (decimal at ++ verb.now ++ decimal number ++ codes " " ++ token bytes.now)) }
 {
     put_numbered(line, at, verb, number)?;
     line.push_str(" ")?;
@@ -108,7 +112,8 @@ fn put_numbered_token(
 /// Adds a moment, what is asked for then, and of what.
 #[tactic(auto, using(crate::proofs::Lists::joined))]
 fn put_named(line: &mut String, at: Moment, verb: &str, name: &Text) -> Result<(), AllocError>
-    ensures { OnOk result (string_bytes line.new ≡ string_bytes line.old ++ (decimal at ++ verb.now ++ token name.now)) }
+    ensures { OnOk result (string_bytes line.new
+        ≡ string_bytes line.old ++ (decimal at ++ verb.now ++ token name.now)) }
 {
     put_at(line, at, verb)?;
     put_token(line, name.as_str().as_bytes())
@@ -116,7 +121,9 @@ fn put_named(line: &mut String, at: Moment, verb: &str, name: &Text) -> Result<(
 
 #[tactic(auto, using(crate::proofs::Lists::joined))]
 fn put_exit(line: &mut String, at: Moment, run: u32, how: How) -> Result<(), AllocError>
-    ensures { OnOk result (string_bytes line.new ≡ string_bytes line.old ++ (decimal at ++ codes " exit " ++ decimal run ++ codes " " ++ how_words how)) }
+    ensures { OnOk result (string_bytes line.new
+        ≡ string_bytes line.old
+        ++ (decimal at ++ codes " exit " ++ decimal run ++ codes " " ++ how_words how)) }
 {
     put_numbered(line, at, " exit ", run)?;
     line.push_str(" ")?;
@@ -125,7 +132,9 @@ fn put_exit(line: &mut String, at: Moment, run: u32, how: How) -> Result<(), All
 
 #[tactic(auto, using(crate::proofs::Lists::joined))]
 fn put_open(line: &mut String, at: Moment, link: u32, side: Side) -> Result<(), AllocError>
-    ensures { OnOk result (string_bytes line.new ≡ string_bytes line.old ++ (decimal at ++ codes " open " ++ decimal link ++ codes " " ++ side_word side)) }
+    ensures { OnOk result (string_bytes line.new
+        ≡ string_bytes line.old
+        ++ (decimal at ++ codes " open " ++ decimal link ++ codes " " ++ side_word side)) }
 {
     put_numbered(line, at, " open ", link)?;
     line.push_str(" ")?;
@@ -134,7 +143,8 @@ fn put_open(line: &mut String, at: Moment, link: u32, side: Side) -> Result<(), 
 
 #[tactic(auto, using(crate::proofs::Lists::joined))]
 fn put_signal(line: &mut String, at: Moment, signal: Signal) -> Result<(), AllocError>
-    ensures { OnOk result (string_bytes line.new ≡ string_bytes line.old ++ (decimal at ++ codes " signal " ++ signal_name signal)) }
+    ensures { OnOk result (string_bytes line.new
+        ≡ string_bytes line.old ++ (decimal at ++ codes " signal " ++ signal_name signal)) }
 {
     put_at(line, at, " signal ")?;
     line.push_str(signal.name())
@@ -163,7 +173,8 @@ fn end_verb(stream: Stream) -> &'static str
 /// Adds a word and a number.
 #[tactic(auto, using(crate::proofs::Lists::joined))]
 fn put_counted(line: &mut String, word: &str, number: u64) -> Result<(), AllocError>
-    ensures { OnOk result (string_bytes line.new ≡ string_bytes line.old ++ (word.now ++ decimal number)) }
+    ensures { OnOk result (string_bytes line.new
+        ≡ string_bytes line.old ++ (word.now ++ decimal number)) }
 {
     line.push_str(word)?;
     put_number(line, number)
@@ -172,7 +183,8 @@ fn put_counted(line: &mut String, word: &str, number: u64) -> Result<(), AllocEr
 /// Adds a word and a token.
 #[tactic(auto, using(crate::proofs::Lists::joined))]
 fn put_spelled(line: &mut String, word: &str, bytes: &[u8]) -> Result<(), AllocError>
-    ensures { OnOk result (string_bytes line.new ≡ string_bytes line.old ++ (word.now ++ token bytes.now)) }
+    ensures { OnOk result (string_bytes line.new
+        ≡ string_bytes line.old ++ (word.now ++ token bytes.now)) }
 {
     line.push_str(word)?;
     put_token(line, bytes)
@@ -236,7 +248,8 @@ fn put_state(
     from: State,
     to: State,
 ) -> Result<(), AllocError>
-    ensures { OnOk result (string_bytes line.new ≡ string_bytes line.old ++ order_line (Order.State group.now name.now from to)) }
+    ensures { OnOk result (string_bytes line.new
+        ≡ string_bytes line.old ++ order_line (Order.State group.now name.now from to)) }
 {
     line.push_str("state")?;
     put_then_token(line, group)?;
@@ -256,7 +269,10 @@ fn put_text_and_numbers(
     first: u64,
     second: u64,
 ) -> Result<(), AllocError>
-    ensures { OnOk result (string_bytes line.new ≡ string_bytes line.old ++ (word.now ++ then_token text.now ++ codes " " ++ decimal first ++ codes " " ++ decimal second)) }
+    ensures { OnOk result (string_bytes line.new
+        ≡ string_bytes line.old
+        ++ (word.now ++ then_token text.now
+        ++ codes " " ++ decimal first ++ codes " " ++ decimal second)) }
 {
     put_one_token(line, word, text)?;
     line.push_str(" ")?;
@@ -273,7 +289,8 @@ fn put_number_and_bytes(
     number: u32,
     bytes: &Bytes,
 ) -> Result<(), AllocError>
-    ensures { OnOk result (string_bytes line.new ≡ string_bytes line.old ++ (word.now ++ decimal number ++ then_token bytes.now)) }
+    ensures { OnOk result (string_bytes line.new
+        ≡ string_bytes line.old ++ (word.now ++ decimal number ++ then_token bytes.now)) }
 {
     put_counted(line, word, u64::from(number))?;
     put_then_bytes(line, bytes.as_slice())
@@ -282,7 +299,8 @@ fn put_number_and_bytes(
 /// Adds a word and a text.
 #[tactic(auto, using(crate::proofs::Lists::joined))]
 fn put_one_token(line: &mut String, word: &str, text: &Text) -> Result<(), AllocError>
-    ensures { OnOk result (string_bytes line.new ≡ string_bytes line.old ++ (word.now ++ then_token text.now)) }
+    ensures { OnOk result (string_bytes line.new
+        ≡ string_bytes line.old ++ (word.now ++ then_token text.now)) }
 {
     line.push_str(word)?;
     put_then_token(line, text)
@@ -296,7 +314,8 @@ fn put_two_tokens(
     text: &Text,
     bytes: &[u8],
 ) -> Result<(), AllocError>
-    ensures { OnOk result (string_bytes line.new ≡ string_bytes line.old ++ (word.now ++ then_token text.now ++ then_token bytes.now)) }
+    ensures { OnOk result (string_bytes line.new
+        ≡ string_bytes line.old ++ (word.now ++ then_token text.now ++ then_token bytes.now)) }
 {
     put_one_token(line, word, text)?;
     put_then_bytes(line, bytes)
@@ -304,7 +323,8 @@ fn put_two_tokens(
 
 #[tactic(auto, using(crate::proofs::Lists::joined))]
 fn put_kill(line: &mut String, run: u32, signal: Signal, group: bool) -> Result<(), AllocError>
-    ensures { OnOk result (string_bytes line.new ≡ string_bytes line.old ++ order_line (Order.Kill (record { 0 = run }) signal group)) }
+    ensures { OnOk result (string_bytes line.new
+        ≡ string_bytes line.old ++ order_line (Order.Kill (record { 0 = run }) signal group)) }
 {
     line.push_str("kill ")?;
     put_number(line, u64::from(run))?;
@@ -337,7 +357,8 @@ fn put_spawn(line: &mut String, spawn: &SpawnOrder) -> Result<(), AllocError>
 /// Adds a space, the number of words, and each word after a space.
 #[tactic(auto, using(crate::proofs::Lists::joined))]
 fn put_words(line: &mut String, words: &[Text]) -> Result<(), AllocError>
-    ensures { OnOk result (string_bytes line.new ≡ string_bytes line.old ++ counted_words words.now) }
+    ensures { OnOk result (string_bytes line.new
+        ≡ string_bytes line.old ++ counted_words words.now) }
 {
     line.push_str(" ")?;
     put_number(line, words.len() as u64)?;
@@ -350,7 +371,8 @@ fn put_words(line: &mut String, words: &[Text]) -> Result<(), AllocError>
 /// Adds a space, the number of pairs, and each name and value after a space.
 #[tactic(auto, using(crate::proofs::Lists::joined))]
 fn put_pairs(line: &mut String, pairs: &[(Text, Text)]) -> Result<(), AllocError>
-    ensures { OnOk result (string_bytes line.new ≡ string_bytes line.old ++ counted_pairs pairs.now) }
+    ensures { OnOk result (string_bytes line.new
+        ≡ string_bytes line.old ++ counted_pairs pairs.now) }
 {
     line.push_str(" ")?;
     put_number(line, pairs.len() as u64)?;
@@ -397,7 +419,8 @@ fn put_token(line: &mut String, bytes: &[u8]) -> Result<(), AllocError>
 
 #[tactic(auto, using(crate::proofs::Lists::joined))]
 fn put_bytes(line: &mut String, bytes: &[u8]) -> Result<(), AllocError>
-    ensures { OnOk result (string_bytes line.new ≡ string_bytes line.old ++ bytes_spelling bytes.now) }
+    ensures { OnOk result (string_bytes line.new
+        ≡ string_bytes line.old ++ bytes_spelling bytes.now) }
 {
     for byte in bytes {
         put_byte(line, *byte)?;
