@@ -1,5 +1,6 @@
 -- What a dial tells once a link was given back.
-use Rattle.std.proofs.Common.{◌≡◌, ◌≤◌, ◌^◌, ◌-◌, ◌++◌, ◌∷◌, ℕ, zero, suc, Bool, List, [], Option, Some, Result, Ok, Err, min, refl, ap, ◌∙◌, option_map, arith, IfOk}
+use Rattle.std.proofs.Common.{◌≡◌, ◌≤◌, ◌^◌, ◌-◌, ◌++◌, ◌∷◌, ℕ, zero, suc, Bool, List, [], Option, Some, Result, Ok, Err, min, refl, ap, ◌∙◌, option_map, arith, inl, inr, subst, sym, IfOk}
+use Rattle.std.specs.Option.{ForSome}
 use Rattle.sv_base.specs.declared.config.ClientSpec.{ClientSpec}
 use Rattle.sv_base.specs.declared.config.Place.{Place}
 use Rattle.sv_http.specs.RequestText.{request_text}
@@ -24,7 +25,7 @@ told_as before after place request exchange (Err LinkFailed) kept is = (exchange
 told_as before after place request exchange (Err Ended) kept is = (exchange, kept, is)
 told_as before after place request exchange (Err BadReply) kept is = (exchange, kept, is)
 told_as before after place request exchange (Err (Status status)) kept is = (exchange, kept, is)
-told_as before after place request exchange (Err OutOfMemory) kept is = tt
+told_as before after place request exchange (Err OutOfMemory) kept is = inr (exchange, kept, is)
 
 pub given_back : (dial mid after : Option (List Exchange)) (before : List Exchange) (first last : Option Exchange) (place : Place)
     (request : List ℕ) (result : Result Answered AskFault) → dial ≡ Some before → mid ≡ dial
@@ -35,6 +36,12 @@ given_back dial mid after before first last place request result is_told same is
     told_as before after place request (having_heard asks.heard asks.ended (sent_more asks.sent (fresh place))) result
     (keeps before (same ∙ is_told) (having_heard asks.heard asks.ended (sent_more asks.sent (fresh place))) is_last)
     (record { place_is = refl; sends = asks.sends; hears = asks.hears })
+
+-- memory was refused, and the dial tells what it told
+pub untold : (before after : Option (List Exchange)) (place : Place) (request : List ℕ) (result : Result Answered AskFault)
+    → result ≡ Err OutOfMemory → after ≡ before → ForSome before (λ exchanges. Calls exchanges after place request result)
+untold before after place request result is same exchanges told =
+    subst (λ (r : Result Answered AskFault). Calls exchanges after place request r) (sym is) (inl (same ∙ told))
 
 -- ---- the count of the dial
 

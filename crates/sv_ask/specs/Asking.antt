@@ -89,12 +89,20 @@ pub record IsExchange (place : Place) (request : List ℕ) (exchange : Exchange)
   pub sends : Sends request exchange.sent result
   pub hears : Hears exchange.heard exchange.ended result
 
--- what a dial tells of a call, behind what it told before
+-- a dial tells the exchange of a call behind those before
+abbrev pub AddsOne : List Exchange → Option (List Exchange) → Place → List ℕ
+    → Result Answered AskFault → Type 0
+AddsOne before after place request result =
+    (exchange : Exchange) × (after ≡ Some (before ++ exchange ∷ []))
+    × IsExchange place request exchange result
+
+-- what a dial tells of a call, behind what it told before; where memory was refused, its exchange or
+-- nothing
 abbrev pub Calls : List Exchange → Option (List Exchange) → Place → List ℕ → Result Answered AskFault → Type 0
 Calls before after place request (Err Refused) = after ≡ Some before
-Calls before after place request (Err OutOfMemory) = Unit {0}
-Calls before after place request result =
-    (exchange : Exchange) × (after ≡ Some (before ++ exchange ∷ [])) × IsExchange place request exchange result
+Calls before after place request (Err OutOfMemory) =
+    (after ≡ Some before) ⊎ AddsOne before after place request (Err OutOfMemory)
+Calls before after place request result = AddsOne before after place request result
 
 -- the dial or the link failed
 abbrev pub IsLost : Result Answered AskFault → Type 0

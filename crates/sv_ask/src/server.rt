@@ -13,6 +13,7 @@ use sv_xmlcall::{Answered, Call};
 
 /// Asks a server: connects to its place, asks over the link, and gives the link back. `Refused` and `LinkFailed` come
 /// only where the dial's count of faults rose.
+#[tactic(auto, using(crate::proofs::Servers::untold))]
 pub fn ask_server<D: Dial>(
     alloc: Global,
     dial: &mut D,

@@ -19,7 +19,7 @@ use Rattle.sv_out.specs.Written.{AppendsFront}
 use Rattle.sv_out.specs.declared.connection.Exchange.{Exchange}
 use Rattle.sv_xmlcall.specs.Trees.{CallTree}
 use Rattle.sv_talk.proofs.Slices.{first_and_rest, rest_of}
-use Rattle.sv_talk.proofs.Doings.{asked, comes, goes_comes, nothing_printed, printed, tells_call, unprinted}
+use Rattle.sv_talk.proofs.Doings.{asked, call_unsaid, comes, goes_comes, nothing_printed, printed, tells_call, unprinted}
 
 -- ---- what is printed
 
@@ -34,7 +34,8 @@ says_front old new text course wrote server told next =
     unprinted server told old new text (goes_on course next) wrote
 
 pub says_nothing : (written : Option (List ℕ)) (text : List ℕ) (course : Course) → Prints written written text course NoMemory
-says_nothing written text course server told next = nothing_printed written (printing text (goes_on course next))
+says_nothing written text course server told next =
+    nothing_printed server told written (printing text (goes_on course next))
 
 -- what goes on was to go on
 pub goes_as : (old new : Option (List ℕ)) (text : List ℕ) (course result : Course) (so_far : status.Status)
@@ -46,15 +47,16 @@ goes_as old new text course result so_far (inr said) is = absurd (let never : Un
 
 pub shows : (answer : Answer) (old new : Option (List ℕ)) (told : Answer → Told) (given : Told) (result : Course)
     → given ≡ told answer → IsKnown answer → Prints old new given.text given.course result → Shows answer old new told result
-shows answer old new told given result is known prints server call before after next tells =
+shows answer old new told given result is known prints server call before after next calls =
     let printed_of : Prints old new (told answer).text (told answer).course result =
     subst (λ (t : Told). Prints old new t.text t.course result) is prints in
     goes_comes server before after after old old new (asks call told next)
     (printing (told answer).text (goes_on (told answer).course next)) next result
-    (asked server before after old call answer told next (tells known)) (printed_of server after next)
+    (asked server before after old call answer told next (tells_call server before after call answer calls known)) (printed_of server after next)
 
 pub shows_nothing : (answer : Answer) (written : Option (List ℕ)) (told : Answer → Told) → Shows answer written written told NoMemory
-shows_nothing answer written told server call before after next tells = nothing_printed written (asks call told next)
+shows_nothing answer written told server call before after next calls =
+    call_unsaid server before after written call answer told next calls
 
 pub stepped : (server : Server) (before after : Option (List Exchange)) (old new : Option (List ℕ)) (call : CallTree)
     (answer : Answer) (told : Answer → Told) (result : Course)
@@ -62,7 +64,7 @@ pub stepped : (server : Server) (before after : Option (List Exchange)) (old new
     → Shows answer old new told result
     → (next : status.Status → Talk) → Comes server before after old new (asks call told next) next result
 stepped server before after old new call answer told result calls shown next =
-    shown server call before after next (tells_call server before after call answer calls)
+    shown server call before after next calls
 
 -- ---- the calls of a command
 

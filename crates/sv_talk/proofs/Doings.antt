@@ -1,5 +1,5 @@
 -- What was done of a conversation, one part behind the other.
-use Rattle.std.proofs.Common.{◌≡◌, ◌++◌, ◌∷◌, ℕ, List, [], Option, None, Some, Ok, Err, refl, sym, ap, ◌∙◌, append_assoc, append-nil}
+use Rattle.std.proofs.Common.{◌≡◌, ◌++◌, ◌∷◌, ℕ, List, [], Option, None, Some, Ok, Err, inl, inr, refl, sym, ap, ◌∙◌, append_assoc, append-nil, option_map, subst}
 use Rattle.std.proofs.KnownBytes.{Appends-nil, Appends-trans}
 use Rattle.std.specs.Io.KnownBytes.{Appends}
 use Rattle.std.specs.Option.{ForSome}
@@ -140,16 +140,6 @@ same_talk server told written talk other same = record {
   same = λ more. same more;
 }
 
-pub nothing_printed : (written : Option (List ℕ)) (talk : Talk) → Breaks written written talk
-nothing_printed written talk = record {
-  answers = [];
-  calls = [];
-  text = [];
-  left = talk;
-  wrote = whole_front written written [] (Appends-nil written);
-  same = λ more. refl;
-}
-
 pub goes_then : (server : Server) (before mid after : Option (List Exchange)) (old now new : Option (List ℕ))
     (talk between left : Talk) → Goes server before mid old now talk between → Goes server mid after now new between left
     → Goes server before after old new talk left
@@ -164,7 +154,7 @@ goes_then server before mid after old now new talk between left first second = r
       ∙ having_more first.calls second.calls first.text second.text (left more);
 }
 
-pub goes_breaks : (server : Server) (before mid : Option (List Exchange)) (old now new : Option (List ℕ))
+goes_breaks : (server : Server) (before mid : Option (List Exchange)) (old now new : Option (List ℕ))
     (talk between : Talk) → Goes server before mid old now talk between → Breaks now new between → Breaks old new talk
 goes_breaks server before mid old now new talk between first second = record {
   answers = first.answers ++ second.answers;
@@ -199,7 +189,7 @@ goes_comes server before mid after old now new talk between next (Quit so_far) f
 goes_comes server before mid after old now new talk between next Lost first second =
     goes_then server before mid after old now new talk between (ends Lost) first second
 goes_comes server before mid after old now new talk between next NoMemory first second =
-    goes_breaks server before mid old now new talk between first second
+    goes_fails server before mid after old now new talk between first second
 goes_comes server before mid after old now new talk between next Unprinted first second =
     goes_fails server before mid after old now new talk between first second
 
@@ -214,21 +204,32 @@ breaks_at server before after old new talk left goes = record {
   same = goes.same;
 }
 
+fails_at : (server : Server) (before after : Option (List Exchange)) (old new : Option (List ℕ)) (talk left : Talk)
+    → Goes server before after old new talk left → Fails server before after old new talk
+unfolding breaks_at
+fails_at server before after old new talk left goes = record {
+  breaks = breaks_at server before after old new talk left goes;
+  tells = goes.tells;
+}
+
+-- nothing was done
+pub nothing_printed : (server : Server) (told : Option (List Exchange)) (written : Option (List ℕ)) (talk : Talk)
+    → Fails server told told written written talk
+nothing_printed server told written talk =
+    fails_at server told told written written talk talk (nothing_done server told written talk)
+
 -- what is gone through comes to its course
 pub comes : (server : Server) (before after : Option (List Exchange)) (old new : Option (List ℕ)) (talk : Talk)
     (next : status.Status → Talk) (course : Course) → Goes server before after old new talk (goes_on course next)
     → Comes server before after old new talk next course
-unfolding breaks_at
 comes server before after old new talk next (On so_far) goes = goes
 comes server before after old new talk next Broken goes = goes
 comes server before after old new talk next (Quit so_far) goes = goes
 comes server before after old new talk next Lost goes = goes
 comes server before after old new talk next NoMemory goes =
-    breaks_at server before after old new talk (ends NoMemory) goes
-comes server before after old new talk next Unprinted goes = record {
-  breaks = breaks_at server before after old new talk (ends Unprinted) goes;
-  tells = goes.tells;
-}
+    fails_at server before after old new talk (ends NoMemory) goes
+comes server before after old new talk next Unprinted goes =
+    fails_at server before after old new talk (ends Unprinted) goes
 
 -- ---- what is printed
 
@@ -264,6 +265,63 @@ asked server before after written call answer told next tells = record {
   wrote = Appends-nil written;
   same = λ more. refl;
 }
+
+-- ---- memory was refused in a call, or behind it
+
+call_told : (server : Server) (before : List Exchange) (after : Option (List Exchange)) (written : Option (List ℕ))
+    (call : CallTree) (answer : Answer) (told : Answer → Told) (next : status.Status → Talk) (exchanges : List Exchange)
+    → after ≡ Some (before ++ exchanges) → IsMade server call answer exchanges
+    → Fails server (Some before) after written written (asks call told next)
+call_told server before after written call answer told next exchanges kept made =
+    fails_at server (Some before) after written written (asks call told next)
+    (printing (told answer).text (goes_on (told answer).course next))
+    (asked server (Some before) after written call answer told next
+    (λ some is. adds_one server some after call answer exchanges (kept ∙ ap (λ l. option_map (λ b. b ++ exchanges) l) is) made))
+
+call_untold : (server : Server) (before : List Exchange) (after : Option (List Exchange)) (written : Option (List ℕ))
+    (talk : Talk) → after ≡ Some before → Fails server (Some before) after written written talk
+call_untold server before after written talk same =
+    subst (λ (a : Option (List Exchange)). Fails server (Some before) a written written talk) (sym same)
+    (nothing_printed server (Some before) written talk)
+
+call_failed : (server : Server) (before : List Exchange) (after : Option (List Exchange)) (written : Option (List ℕ))
+    (call : CallTree) (answer : Answer) (told : Answer → Told) (next : status.Status → Talk)
+    → Calls before after server.place (request_of server.client call) answer
+    → Fails server (Some before) after written written (asks call told next)
+call_failed server before after written call (Ok answered) told next calls =
+    call_told server before after written call (Ok answered) told next (calls.0 ∷ []) calls.1 (calls.0, refl, calls.2)
+call_failed server before after written call (Err Refused) told next calls =
+    call_told server before after written call (Err Refused) told next []
+    (calls ∙ ap (λ l. Some l) (sym (append-nil before))) refl
+call_failed server before after written call (Err LinkFailed) told next calls =
+    call_told server before after written call (Err LinkFailed) told next (calls.0 ∷ []) calls.1 (calls.0, refl, calls.2)
+call_failed server before after written call (Err Ended) told next calls =
+    call_told server before after written call (Err Ended) told next (calls.0 ∷ []) calls.1 (calls.0, refl, calls.2)
+call_failed server before after written call (Err BadReply) told next calls =
+    call_told server before after written call (Err BadReply) told next (calls.0 ∷ []) calls.1 (calls.0, refl, calls.2)
+call_failed server before after written call (Err (Status number)) told next calls =
+    call_told server before after written call (Err (Status number)) told next (calls.0 ∷ []) calls.1 (calls.0, refl, calls.2)
+call_failed server before after written call (Err OutOfMemory) told next (inl same) =
+    call_untold server before after written (asks call told next) same
+call_failed server before after written call (Err OutOfMemory) told next (inr kept) =
+    call_told server before after written call (Err OutOfMemory) told next (kept.0 ∷ []) kept.1 (kept.0, refl, kept.2)
+
+untold_failed : (server : Server) (after : Option (List Exchange)) (written : Option (List ℕ)) (talk : Talk)
+    → Fails server None after written written talk
+untold_failed server after written talk = record {
+  breaks = breaks_at server None None written written talk talk (nothing_done server None written talk);
+  tells = λ told is. absurd cc;
+}
+
+-- nothing was printed of the answer to a call
+pub call_unsaid : (server : Server) (before after : Option (List Exchange)) (written : Option (List ℕ)) (call : CallTree)
+    (answer : Answer) (told : Answer → Told) (next : status.Status → Talk)
+    → ForSome before (λ exchanges. Calls exchanges after server.place (request_of server.client call) answer)
+    → Fails server before after written written (asks call told next)
+call_unsaid server None after written call answer told next calls =
+    untold_failed server after written (asks call told next)
+call_unsaid server (Some before) after written call answer told next calls =
+    call_failed server before after written call answer told next (calls before refl)
 
 -- ---- a line behind another
 
@@ -301,11 +359,19 @@ breaks_after old new talk next breaks = record {
       ∙ after_having breaks.calls breaks.text (breaks.left more) next;
 }
 
+fails_after : (server : Server) (before after_it : Option (List Exchange)) (old new : Option (List ℕ)) (talk : Talk)
+    (next : status.Status → Talk) → Fails server before after_it old new talk
+    → Fails server before after_it old new (λ answers. after (talk answers) next)
+unfolding breaks_after
+fails_after server before after_it old new talk next fails = record {
+  breaks = breaks_after old new talk next fails.breaks;
+  tells = fails.tells;
+}
+
 -- what a command comes to, where a further line may follow
 pub comes_after : (server : Server) (before after_it : Option (List Exchange)) (old new : Option (List ℕ)) (talk : Talk)
     (course : Course) (next : status.Status → Talk) → Comes server before after_it old new talk stops course
     → Comes server before after_it old new (λ answers. after (talk answers) next) next (settled course)
-unfolding breaks_after
 comes_after server before after_it old new talk (On so_far) next goes =
     goes_after server before after_it old new talk (On so_far) next goes
 comes_after server before after_it old new talk Broken next goes =
@@ -314,8 +380,7 @@ comes_after server before after_it old new talk (Quit so_far) next goes =
     goes_after server before after_it old new talk (Quit so_far) next goes
 comes_after server before after_it old new talk Lost next goes =
     goes_after server before after_it old new talk Lost next goes
-comes_after server before after_it old new talk NoMemory next breaks = breaks_after old new talk next breaks
-comes_after server before after_it old new talk Unprinted next fails = record {
-  breaks = breaks_after old new talk next fails.breaks;
-  tells = fails.tells;
-}
+comes_after server before after_it old new talk NoMemory next fails =
+    fails_after server before after_it old new talk next fails
+comes_after server before after_it old new talk Unprinted next fails =
+    fails_after server before after_it old new talk next fails

@@ -2,10 +2,10 @@
 use Rattle.std.specs.Prelude.{◌≡◌, ◌⊎◌, ◌++◌, ◌∷◌, ℕ, List, [], Option, Some, Err}
 use Rattle.std.specs.Io.KnownBytes.{Appends}
 use Rattle.std.specs.Option.{ForSome}
-use Rattle.sv_ask.specs.Asking.{IsExchange, request_of}
+use Rattle.sv_ask.specs.Asking.{Calls, IsExchange, request_of}
 use Rattle.sv_ask.specs.declared.fault.AskFault.TheVariants.{Refused}
 use Rattle.sv_commands.specs.declared.status.Status.{Status}
-use Rattle.sv_talk.specs.Answers.{Answer, IsKnown}
+use Rattle.sv_talk.specs.Answers.{Answer}
 use Rattle.sv_talk.specs.Conversation.{Talk, asks, goes_on, having, printing}
 use Rattle.sv_talk.specs.declared.course.Course.{Course}
 use Rattle.sv_talk.specs.declared.course.Course.TheVariants.{On, Broken, Quit, Lost, NoMemory, Unprinted}
@@ -60,7 +60,7 @@ pub record Breaks (old new : Option (List ℕ)) (talk : Talk) : Type 0 where
   pub wrote : AppendsFront old new text
   pub same : (more : List Answer) → talk (answers ++ more) ≡ having calls text (left more)
 
--- the calls up to that place were made
+-- the calls up to that place were made; the last may be one in which memory was refused
 pub record Fails (server : Server) (before after : Option (List Exchange)) (old new : Option (List ℕ)) (talk : Talk) : Type 0 where
   pub breaks : Breaks old new talk
   pub tells : Tells server before after breaks.calls breaks.answers
@@ -69,7 +69,7 @@ pub record Fails (server : Server) (before after : Option (List Exchange)) (old 
 -- at some place of it
 abbrev pub Comes : Server → Option (List Exchange) → Option (List Exchange) → Option (List ℕ) → Option (List ℕ)
     → Talk → (Status → Talk) → Course → Type 0
-Comes server before after old new talk next NoMemory = Breaks old new talk
+Comes server before after old new talk next NoMemory = Fails server before after old new talk
 Comes server before after old new talk next Unprinted = Fails server before after old new talk
 Comes server before after old new talk next course = Goes server before after old new talk (goes_on course next)
 
@@ -84,9 +84,10 @@ Prints old new text course result =
     (server : Server) (told : Option (List Exchange)) (next : Status → Talk)
     → Comes server told told old new (printing text (goes_on course next)) next result
 
--- what was printed of an answer, where the dial tells its call
+-- what was printed of the answer to a call
 abbrev pub Shows : Answer → Option (List ℕ) → Option (List ℕ) → (Answer → Told) → Course → Type 0
 Shows answer old new told result =
     (server : Server) (call : CallTree) (before after : Option (List Exchange)) (next : Status → Talk)
-    → (IsKnown answer → Tells server before after (call ∷ []) (answer ∷ []))
+    → ForSome before (λ exchanges.
+    Calls exchanges after server.place (request_of server.client call) answer)
     → Comes server before after old new (asks call told next) next result
