@@ -197,11 +197,11 @@ pub(crate) const FAILURES: [Failure; 35] = [
     ),
 ];
 
-/// Words, bytes of the input, replies, and how many bytes of each stream go at a time at most.
-pub(crate) type Session = (&'static str, &'static str, &'static str, usize);
+/// Words, bytes of the input, and replies.
+pub(crate) type Session = (&'static str, &'static str, &'static str);
 
-/// A command whose line of 11 bytes is written in pieces.
-pub(crate) const IN_PIECES: Session = ("-s http://h:1 start x", "", "true|", 4);
+/// A command whose line of 11 bytes is written in pieces of 4.
+pub(crate) const IN_PIECES: Session = ("-s http://h:1 start x", "", "true|");
 
 /// What is printed where the first write fails, the second and so on; behind them none does.
 pub(crate) const PRINTED: [(u8, &str); 4] = [
@@ -212,7 +212,7 @@ pub(crate) const PRINTED: [(u8, &str); 4] = [
 ];
 
 /// A session over one line, which comes byte by byte.
-pub(crate) const BYTE_BY_BYTE: Session = ("-s http://h:1", "pid~", "#7|", 1);
+pub(crate) const BYTE_BY_BYTE: Session = ("-s http://h:1", "pid~", "#7|");
 
 /// What is printed where the first read of the input fails, the second and so on; behind them none does.
 pub(crate) const HEARD: [(u8, &str); 6] = [

@@ -212,30 +212,42 @@ fn commands_come_to_this(rt: HostRuntime) {
     }
 }
 
+/// Words of the options come to what their row says.
+fn options_are(rt: &impl Abort, alloc: Global, row: &(&str, u8, &str)) {
+    let (words, status, text) = *row;
+    let wanted = expected(alloc, status, text).expect(rt, "ample memory");
+    let came = come(alloc, words, "", "#7|", 100_000, NONE).expect(rt, "ample memory");
+    let line = told(alloc, &came).expect(rt, "ample memory");
+    assert_eq!(rt; line.as_str(), wanted.as_str(), "{words}");
+}
+
 #[test]
 fn options_come_to_this(rt: HostRuntime) {
     let alloc = rt.alloc();
-    for (words, status, text) in OPTIONS {
-        let wanted = expected(alloc, status, text).expect(&rt, "ample memory");
-        let came = come(alloc, words, "", "#7|", 100_000, NONE).expect(&rt, "ample memory");
-        let line = told(alloc, &came).expect(&rt, "ample memory");
-        assert_eq!(&rt; line.as_str(), wanted.as_str(), "{words}");
+    for row in &OPTIONS {
+        options_are(&rt, alloc, row);
+    }
+}
+
+/// An input comes to what its row says, in whatever pieces it comes.
+fn input_is(rt: &impl Abort, alloc: Global, row: &(&str, &str, u8, &str)) {
+    let (input, replies, status, text) = *row;
+    let wanted = expected(alloc, status, text).expect(rt, "ample memory");
+    for most in [1, 100_000] {
+        let came = come(alloc, "-s http://h:1", input, replies, most, NONE).expect(
+            rt,
+            "ample memory",
+        );
+        let line = told(alloc, &came).expect(rt, "ample memory");
+        assert_eq!(rt; line.as_str(), wanted.as_str(), "{input}");
     }
 }
 
 #[test]
 fn inputs_come_to_this(rt: HostRuntime) {
     let alloc = rt.alloc();
-    for (input, replies, status, text) in TALKS {
-        let wanted = expected(alloc, status, text).expect(&rt, "ample memory");
-        for most in [1, 100_000] {
-            let came = come(alloc, "-s http://h:1", input, replies, most, NONE).expect(
-                &rt,
-                "ample memory",
-            );
-            let line = told(alloc, &came).expect(&rt, "ample memory");
-            assert_eq!(&rt; line.as_str(), wanted.as_str(), "{input}");
-        }
+    for row in &TALKS {
+        input_is(&rt, alloc, row);
     }
 }
 
@@ -264,18 +276,21 @@ fn failures_come_to_this(rt: HostRuntime) {
     }
 }
 
-/// A session in pieces, of which one call fails, comes to this.
+/// A session in pieces of so many bytes at most, of which one call fails, comes to this.
 fn session_is(
     rt: &impl Abort,
     alloc: Global,
     session: &Session,
+    most: usize,
     failing: Failing,
     wanted: &(u8, &str),
-) {
-    let (words, input, replies, most) = *session;
+)
+    requires { 1 ≤ most }
+{
+    let (words, input, replies) = *session;
     let (status, text) = *wanted;
     let wanted = expected(alloc, status, text).expect(rt, "ample memory");
-    let came = come(alloc, words, input, replies, most.max(1), failing).expect(rt, "ample memory");
+    let came = come(alloc, words, input, replies, most, failing).expect(rt, "ample memory");
     let line = told(alloc, &came).expect(rt, "ample memory");
     assert_eq!(rt; line.as_str(), wanted.as_str(), "{words}");
 }
@@ -286,7 +301,7 @@ fn each_call_of_the_output_may_fail(rt: HostRuntime) {
     let mut failing = NONE;
     for wanted in &PRINTED {
         failing.out = failing.out.saturating_add(1);
-        session_is(&rt, alloc, &IN_PIECES, failing, wanted);
+        session_is(&rt, alloc, &IN_PIECES, 4, failing, wanted);
     }
 }
 
@@ -296,7 +311,7 @@ fn each_call_of_the_input_may_fail(rt: HostRuntime) {
     let mut failing = NONE;
     for wanted in &HEARD {
         failing.input = failing.input.saturating_add(1);
-        session_is(&rt, alloc, &BYTE_BY_BYTE, failing, wanted);
+        session_is(&rt, alloc, &BYTE_BY_BYTE, 1, failing, wanted);
     }
 }
 
