@@ -11,16 +11,32 @@ use Rattle.std.specs.declared.cmp.Ordering.TheVariants.{Less}
 use Rattle.sv_base.specs.declared.ids.LinkId.{LinkId}
 use Rattle.sv_links.proofs.Changes.{StandsIn, is_eq_self, same_number}
 use Rattle.sv_links.proofs.Unchanged.{idle_over}
-use Rattle.sv_links.specs.LinkBook.{LinkRecord, holds_of, is_busy, is_open, open_from, open_links}
+use Rattle.sv_links.specs.LinkBook.{LinkRecord, busy_links, holds_of, is_busy, is_open, links_from, open_links}
 use Rattle.sv_links.specs.StandsFor.{IsKept, IsRead, StandsFor, busy_link}
 use Rattle.sv_links.specs.declared.kept_link.KeptLink.{KeptLink}
 use Rattle.sv_links.specs.declared.links.Links.{Links}
 use Rattle.sv_links.specs.declared.open_link.OpenLink.{OpenLink}
 
+-- those of these entries that pass a test
+abbrev pub picked : (KeptLink → Bool) → List (ℕ × KeptLink) → List LinkId
+picked test [] = []
+picked test (e ∷ es) = if test e.1 then record { 0 = e.0 } ∷ picked test es else picked test es
+
+-- the link isn't over
+abbrev pub reads : KeptLink → Bool
+reads x = is_some x.reading
+
+-- it is kept
+abbrev pub any : KeptLink → Bool
+any x = true
+
 -- those of these entries that are open
 abbrev pub ids : List (ℕ × KeptLink) → List LinkId
-ids [] = []
-ids (e ∷ es) = if is_some e.1.reading then record { 0 = e.0 } ∷ ids es else ids es
+ids es = picked reads es
+
+-- all of these entries
+abbrev pub numbers : List (ℕ × KeptLink) → List LinkId
+numbers es = picked any es
 
 -- the keys rise, from this number on
 abbrev pub Rises : ℕ → List (ℕ × KeptLink) → Type 0
@@ -68,44 +84,70 @@ kept_open x r k = by_test (is_busy r) k where
   by_test true k = read_open x.reading r k.read
   by_test false k = absurd k
 
+kept_busy : (x : KeptLink) (o : LinkRecord) → IsKept (Some x) (busy_link (Some o)) → any x ≡ is_busy o
+kept_busy x r k = by_test (is_busy r) refl k where
+  by_test : (b : Bool) → is_busy r ≡ b → IsKept (Some x) (if b then Some r else None) → true ≡ is_busy r
+  by_test true e k = sym e
+  by_test false e k = absurd k
+
+-- a link that isn't kept isn't busy
+away_idle : (o : Option LinkRecord) → IsKept None (busy_link o) → holds_of is_busy o ≡ false
+away_idle None k = refl
+away_idle (Some r) k = by_test (is_busy r) refl k where
+  by_test : (b : Bool) → is_busy r ≡ b → IsKept None (if b then Some r else None) → is_busy r ≡ false
+  by_test true e k = absurd k
+  by_test false e k = e
+
+-- a test of what is kept tells a test of the links
+record Tells (test : KeptLink → Bool) (of_link : LinkRecord → Bool) : Type 0 where
+  pub here : (x : KeptLink) (o : LinkRecord) → IsKept (Some x) (busy_link (Some o)) → test x ≡ of_link o
+  pub away : (o : Option LinkRecord) → IsKept None (busy_link o) → holds_of of_link o ≡ false
+
 -- the links from a number on, and the entries whose keys rise from there
-listed : (n : ℕ) (book : List LinkRecord) (es : List (ℕ × KeptLink)) → Rises n es
-    → ((place : ℕ) → IsKept (value_at (n + place) es) (busy_link (slice_get book place))) → ids es ≡ open_from n book
-listed n [] [] rises kept = refl
-listed n [] (e ∷ es) rises kept =
+listed : (test : KeptLink → Bool) (of_link : LinkRecord → Bool) → Tells test of_link → (n : ℕ) (book : List LinkRecord)
+    (es : List (ℕ × KeptLink)) → Rises n es
+    → ((place : ℕ) → IsKept (value_at (n + place) es) (busy_link (slice_get book place)))
+    → picked test es ≡ links_from of_link n book
+listed test of_link tells n [] [] rises kept = refl
+listed test of_link tells n [] (e ∷ es) rises kept =
     let from = rises.0 in
     absurd (rw (found_here (n + (e.0 - n)) e es (omega arith)) at (kept (e.0 - n)))
-listed n (r ∷ book) [] rises kept =
-    rw (away_over (Some r) (kept 0)) (listed (n + 1) book [] tt (λ place. kept (suc place)))
-listed n (r ∷ book) (e ∷ es) rises kept =
-    by_test (e.0 == n) refl (listed (n + 1) book es) (listed (n + 1) book (e ∷ es)) where
+listed test of_link tells n (r ∷ book) [] rises kept =
+    rw (tells.away (Some r) (kept 0)) (listed test of_link tells (n + 1) book [] tt (λ place. kept (suc place)))
+listed test of_link tells n (r ∷ book) (e ∷ es) rises kept =
+    by_test (e.0 == n) refl (listed test of_link tells (n + 1) book es) (listed test of_link tells (n + 1) book (e ∷ es)) where
       moved : (place : ℕ) → n + suc place ≡ n + 1 + place
       moved place = omega arith
 
-      here : e.0 ≡ n → (Rises (n + 1) es → ((place : ℕ) → IsKept (value_at (n + 1 + place) es) (busy_link (slice_get book place))) → ids es ≡ open_from (n + 1) book)
-          → ids (e ∷ es) ≡ open_from n (r ∷ book)
+      here : e.0 ≡ n
+          → (Rises (n + 1) es → ((place : ℕ) → IsKept (value_at (n + 1 + place) es) (busy_link (slice_get book place)))
+          → picked test es ≡ links_from of_link (n + 1) book)
+          → picked test (e ∷ es) ≡ links_from of_link n (r ∷ book)
       here is rest =
-          let opens : is_some e.1.reading ≡ is_open r = kept_open e.1 r (rw (found_here (n + 0) e es (omega arith)) at (kept 0)) in
-          let same : ids es ≡ open_from (n + 1) book
+          let passes : test e.1 ≡ of_link r = tells.here e.1 r (rw (found_here (n + 0) e es (omega arith)) at (kept 0)) in
+          let same : picked test es ≡ links_from of_link (n + 1) book
           = rest (subst (λ k. Rises (k + 1) es) is rises.1)
           (λ place. subst (λ q. IsKept (value_at q es) (busy_link (slice_get book place))) (moved place)
           (rw (found_behind (n + suc place) e es (λ same. omega arith)) at (kept (suc place)))) in
-          rw (opens, is, same) refl
+          rw (passes, is, same) refl
 
       above : (e.0 ≡ n → ⊥)
-          → (Rises (n + 1) (e ∷ es) → ((place : ℕ) → IsKept (value_at (n + 1 + place) (e ∷ es)) (busy_link (slice_get book place))) → ids (e ∷ es) ≡ open_from (n + 1) book)
-          → ids (e ∷ es) ≡ open_from n (r ∷ book)
+          → (Rises (n + 1) (e ∷ es) → ((place : ℕ) → IsKept (value_at (n + 1 + place) (e ∷ es)) (busy_link (slice_get book place)))
+          → picked test (e ∷ es) ≡ links_from of_link (n + 1) book)
+          → picked test (e ∷ es) ≡ links_from of_link n (r ∷ book)
       above apart rest =
           let from = rises.0 in
           let rises_on : Rises (n + 1) (e ∷ es) = (omega arith, rises.1) in
           let none : value_at (n + 0) (e ∷ es) ≡ None = below_none (n + 0) (n + 1) (e ∷ es) rises_on (omega arith) in
-          rw (away_over (Some r) (rw none at (kept 0)))
+          rw (tells.away (Some r) (rw none at (kept 0)))
           (rest rises_on (λ place. subst (λ q. IsKept (value_at q (e ∷ es)) (busy_link (slice_get book place))) (moved place) (kept (suc place))))
 
       by_test : (b : Bool) → (e.0 == n) ≡ b
-          → (Rises (n + 1) es → ((place : ℕ) → IsKept (value_at (n + 1 + place) es) (busy_link (slice_get book place))) → ids es ≡ open_from (n + 1) book)
-          → (Rises (n + 1) (e ∷ es) → ((place : ℕ) → IsKept (value_at (n + 1 + place) (e ∷ es)) (busy_link (slice_get book place))) → ids (e ∷ es) ≡ open_from (n + 1) book)
-          → ids (e ∷ es) ≡ open_from n (r ∷ book)
+          → (Rises (n + 1) es → ((place : ℕ) → IsKept (value_at (n + 1 + place) es) (busy_link (slice_get book place)))
+          → picked test es ≡ links_from of_link (n + 1) book)
+          → (Rises (n + 1) (e ∷ es) → ((place : ℕ) → IsKept (value_at (n + 1 + place) (e ∷ es)) (busy_link (slice_get book place)))
+          → picked test (e ∷ es) ≡ links_from of_link (n + 1) book)
+          → picked test (e ∷ es) ≡ links_from of_link n (r ∷ book)
       by_test true is rest other = here (eqb-true e.0 n is) rest
       by_test false is rest other = above (eqb-false e.0 n is) other
 
@@ -133,16 +175,33 @@ nothing_kept (Some x) k = absurd k
 one_more : (n : ℕ) → suc n ≡ 1 + n
 one_more n = omega arith
 
--- the links that are open are those of the map
-ids_are : (m : BTreeMap ℕ KeptLink) (book : List LinkRecord) → IsOrdered nat_cmp m → StandsIn m book → ids m.entries ≡ open_links book
-ids_are m book ordered kept =
-    listed 1 book m.entries (rises_from_one m.entries ordered (nothing_kept (get nat_cmp m 0) (kept 0)))
+-- the links that pass a test are those of the map
+picked_are : (test : KeptLink → Bool) (of_link : LinkRecord → Bool) → Tells test of_link → (m : BTreeMap ℕ KeptLink)
+    (book : List LinkRecord) → IsOrdered nat_cmp m → StandsIn m book → picked test m.entries ≡ links_from of_link 1 book
+picked_are test of_link tells m book ordered kept =
+    listed test of_link tells 1 book m.entries (rises_from_one m.entries ordered (nothing_kept (get nat_cmp m 0) (kept 0)))
     (λ place. subst (λ (q : ℕ). IsKept (value_at q m.entries) (busy_link (slice_get book place))) (one_more place) (kept (suc place)))
+
+opens_told : Tells reads is_open
+opens_told = record { here = kept_open; away = away_over }
+
+busy_told : Tells any is_busy
+busy_told = record { here = kept_busy; away = away_idle }
 
 -- all of them were listed
 pub all_listed : (x : Links) (book : List LinkRecord) (links : List LinkId) → links ++ [] ≡ ids x.kept.entries → IsOrdered nat_cmp x.kept
     → StandsFor x book → links ≡ open_links book
-all_listed x book links all ordered s = sym (append-nil links) ∙ all ∙ ids_are x.kept book ordered s.kept
+all_listed x book links all ordered s =
+    sym (append-nil links) ∙ all ∙ picked_are reads is_open opens_told x.kept book ordered s.kept
+
+pub all_numbered : (x : Links) (book : List LinkRecord) (links : List LinkId) → links ++ [] ≡ numbers x.kept.entries → IsOrdered nat_cmp x.kept
+    → StandsFor x book → links ≡ busy_links book
+all_numbered x book links all ordered s =
+    sym (append-nil links) ∙ all ∙ picked_are any is_busy busy_told x.kept book ordered s.kept
+
+pub numbers_more : (links : List LinkId) (e : ℕ × KeptLink) (es : List (ℕ × KeptLink))
+    → (links ++ record { 0 = e.0 } ∷ []) ++ numbers es ≡ links ++ numbers (e ∷ es)
+numbers_more links e es = append_assoc links (record { 0 = e.0 } ∷ []) (numbers es)
 
 -- one is listed, or passed over
 pub ids_more : (links : List LinkId) (e : ℕ × KeptLink) (es : List (ℕ × KeptLink)) → is_some e.1.reading ≡ true

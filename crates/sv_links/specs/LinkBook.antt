@@ -1,6 +1,6 @@
 -- Links: accepted connections, each with all its bytes, and what becomes of the requests in them
 -- (RFC 9112, section 9.3: the requests of a connection are answered in the order in which they came).
-use Rattle.std.specs.Prelude.{◌≡◌, ◌<◌, ◌+◌, ◌++◌, ◌∷◌, ◌&&◌, ◌||◌, ◌==◌, ℕ, zero, suc, List, [], Bool, true, false, not, length, nat_le, nat_lt, slice_get, Option, None, Some, is_some, if◌then◌else◌}
+use Rattle.std.specs.Prelude.{◌+◌, ◌++◌, ◌∷◌, ◌&&◌, ◌||◌, ◌==◌, ℕ, zero, suc, List, [], Bool, true, false, not, drop, length, nat_le, nat_lt, slice_get, Option, None, Some, is_some, if◌then◌else◌}
 use Rattle.std.specs.List.{filter}
 use Rattle.sv_base.specs.declared.ids.LinkId.{LinkId}
 use Rattle.sv_http.specs.AsksOf.{asks_of}
@@ -144,6 +144,19 @@ ended link ending book = changed_at link.0 (ends ending) book
 abbrev pub next_ask : LinkRecord → Option Ask
 next_ask r = if is_open r && not r.in_hand then slice_get (asks r) r.begun else None
 
+-- its requests that aren't begun; of a link that is over there are none
+abbrev pub waiting : LinkRecord → List Ask
+waiting r = if is_open r then drop r.begun (asks r) else []
+
+-- how many requests of a link aren't begun, where there is a link
+abbrev pub left_of : Option LinkRecord → ℕ
+left_of None = 0
+left_of (Some r) = length (waiting r)
+
+-- how many requests of the link of a number aren't begun
+abbrev pub left_at : LinkId → List LinkRecord → ℕ
+left_at link book = left_of (link_at link.0 book)
+
 -- one more is begun
 abbrev pub begins : LinkRecord → LinkRecord
 begins r = record r { begun = r.begun + 1; in_hand = true }
@@ -208,28 +221,17 @@ more_is_due link book = holds_of is_due (link_at link.0 book)
 
 -- ---- the links in rising number
 
--- the links from this number on that are open
-abbrev pub open_from : ℕ → List LinkRecord → List LinkId
-open_from number [] = []
-open_from number (r ∷ book) =
-    if is_open r then record { 0 = number } ∷ open_from (number + 1) book
-    else open_from (number + 1) book
+-- the links from this number on that pass a test
+abbrev pub links_from : (LinkRecord → Bool) → ℕ → List LinkRecord → List LinkId
+links_from test number [] = []
+links_from test number (r ∷ book) =
+    if test r then record { 0 = number } ∷ links_from test (number + 1) book
+    else links_from test (number + 1) book
 
 -- the links that are open
 abbrev pub open_links : List LinkRecord → List LinkId
-open_links book = open_from 1 book
+open_links book = links_from is_open 1 book
 
--- this link is open, or a request of it waits for its answer
-abbrev pub is_busy_at : ℕ → List LinkRecord → Bool
-is_busy_at number book = holds_of is_busy (link_at number book)
-
--- no link above this number and below that one is busy
-abbrev pub AreIdle : ℕ → ℕ → List LinkRecord → Type 0
-AreIdle above below book =
-    (number : ℕ) → above < number → number < below → is_busy_at number book ≡ false
-
--- the next busy link above a number
-abbrev pub IsNextAfter : ℕ → List LinkRecord → Option LinkId → Type 0
-IsNextAfter above book None = (number : ℕ) → above < number → is_busy_at number book ≡ false
-IsNextAfter above book (Some link) =
-    (above < link.0) × (is_busy_at link.0 book ≡ true) × AreIdle above link.0 book
+-- the links that are open, or have a request in hand
+abbrev pub busy_links : List LinkRecord → List LinkId
+busy_links book = links_from is_busy 1 book

@@ -1,6 +1,6 @@
 //! What is kept of a link that is open, or has a request in hand.
-ghost use Rattle.std.specs.Prelude.{◌≡◌, OnOk, is_some};
-ghost use Rattle.sv_links.specs.LinkBook.{Ending, LinkRecord, answers, ends, gets_more, hears, is_busy, is_due, is_open, may_feed, new_link, next_ask, sends, takes};
+ghost use Rattle.std.specs.Prelude.{◌≡◌, OnOk, is_some, length};
+ghost use Rattle.sv_links.specs.LinkBook.{Ending, LinkRecord, answers, ends, gets_more, hears, is_busy, is_due, is_open, may_feed, new_link, next_ask, sends, takes, waiting};
 
 use crate::open_link::OpenLink;
 use std::alloc::{AllocError, Global};
@@ -16,7 +16,7 @@ pub struct KeptLink {
 }
 
 impl KeptLink {
-    ghost use Rattle.sv_links.specs.StandsFor.{Keeps};
+    ghost use Rattle.sv_links.specs.StandsFor.{Keeps, may_come};
 
     /// A link that begins, and has got More. It takes no memory.
     pub(crate) fn new(alloc: Global, guard: Guard) -> KeptLink
@@ -45,7 +45,8 @@ impl KeptLink {
 
     /// Whether a piece may come: its last order is More, or it is over.
     pub(crate) fn may_feed(&self) -> bool
-        ensures { (r : LinkRecord) → Keeps self.now r → result ≡ may_feed r }
+        ensures fed { (r : LinkRecord) → Keeps self.now r → result ≡ may_feed r }
+        ensures told { result ≡ may_come self.now.reading }
     {
         match &self.reading {
             None => true,
@@ -88,6 +89,16 @@ impl KeptLink {
                 ask
             }
             _ => None,
+        }
+    }
+
+    /// How many requests aren't begun; none where it is over.
+    pub(crate) fn left(&self) -> usize
+        ensures { (r : LinkRecord) → Keeps self.now r → result ≡ length (waiting r) }
+    {
+        match &self.reading {
+            None => 0,
+            Some(open) => open.left(),
         }
     }
 

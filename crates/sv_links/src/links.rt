@@ -2,13 +2,12 @@
 ghost use Rattle.std.specs.Prelude.{◌≡◌, ◌&&◌, ◌-◌, List, [], IfOk, OnOk, IsTrue, None, false, if◌then◌else◌};
 ghost use Rattle.std.specs.BTreeMap.{Updates};
 ghost use Rattle.std.specs.Ordering.{nat_cmp};
-ghost use Rattle.sv_links.specs.LinkBook.{Ending, IsNextAfter, LinkRecord, answered, ask_at, ended, fed, has_room, is_issued, is_next, is_sent, more_given, more_is_due, open_links, opened, taken, takes_piece};
+ghost use Rattle.sv_links.specs.LinkBook.{Ending, LinkRecord, answered, ask_at, busy_links, ended, fed, has_room, is_issued, is_next, is_sent, left_at, more_given, more_is_due, open_links, opened, taken, takes_piece};
 ghost use Rattle.sv_links.specs.LinkBook.Ending.{Closed, Ended, Failed};
 
 use crate::kept_link::KeptLink;
 use std::alloc::{AllocError, Global};
 use std::collections::BTreeMap;
-use std::ops::Bound;
 use sv_base::ids::LinkId;
 use sv_http::{Ask, Guard};
 
@@ -29,7 +28,7 @@ pub struct Links {
 }
 
 impl Links {
-    ghost use Rattle.sv_links.specs.StandsFor.{StandsFor};
+    ghost use Rattle.sv_links.specs.StandsFor.{StandsFor, follows, has_opened, may_bring};
 
     /// Before any link. It takes no memory.
     pub fn new(alloc: Global) -> Links
@@ -44,23 +43,27 @@ impl Links {
 
     /// Whether this is the number of the next link to be opened.
     pub fn is_next(&self, link: LinkId) -> bool
-        ensures { (book : List LinkRecord) → StandsFor self.now book → result ≡ is_next link book }
+        ensures next { (book : List LinkRecord) → StandsFor self.now book
+            → result ≡ is_next link book }
+        ensures told { result ≡ follows self.now link }
     {
         link.0.checked_sub(1) == Some(self.opened)
     }
 
     /// Whether a link of this number was opened.
     pub fn is_issued(&self, link: LinkId) -> bool
-        ensures { (book : List LinkRecord) → StandsFor self.now book
+        ensures issued { (book : List LinkRecord) → StandsFor self.now book
             → result ≡ is_issued link book }
+        ensures told { result ≡ has_opened self.now link }
     {
         1 <= link.0 && link.0 <= self.opened
     }
 
     /// Whether a piece of this link may come: its last order is More, or it is over.
     pub fn takes_piece(&self, link: LinkId) -> bool
-        ensures { (book : List LinkRecord) → StandsFor self.now book → IsTrue (is_issued link book)
-            → result ≡ takes_piece link book }
+        ensures takes { (book : List LinkRecord) → StandsFor self.now book
+            → IsTrue (is_issued link book) → result ≡ takes_piece link book }
+        ensures told { result ≡ may_bring self.now link }
     {
         match self.kept.get(&link.0) {
             None => true,
@@ -151,18 +154,6 @@ impl Links {
         }
     }
 
-    /// The next link above a number that is open or has a request in hand.
-    pub fn next_after(&self, number: u32) -> Option<LinkId>
-        ensures { (book : List LinkRecord) → StandsFor self.now book
-            → IsNextAfter number book result }
-    {
-        let above = (Bound::Excluded(number), Bound::Unbounded);
-        match self.kept.range(above).next() {
-            None => None,
-            Some((number, _)) => Some(LinkId(*number)),
-        }
-    }
-
     /// The next request of a link, which is then begun; none where the link is over, or a request of it is in hand.
     pub fn take_ask(&mut self, link: LinkId) -> Option<Ask>
         ensures kept { (book : List LinkRecord) → StandsFor self.old book
@@ -206,6 +197,29 @@ impl Links {
         match self.kept.get_mut(&link.0) {
             None => false,
             Some(kept) => kept.give_more(),
+        }
+    }
+
+    /// The links that are open or have a request in hand, in rising number.
+    #[tactic(auto, using(crate::proofs::Listed::all_numbered, crate::proofs::Listed::numbers_more))]
+    pub fn busy_links(&self, alloc: Global) -> Result<Vec<LinkId>, AllocError>
+        ensures { IfOk result (λ links. (book : List LinkRecord) → StandsFor self.now book
+            → links.items ≡ busy_links book) }
+    {
+        let mut links = Vec::new(alloc);
+        for (number, _) in self.kept.iter() {
+            links.push(LinkId(*number))?;
+        }
+        Ok(links)
+    }
+
+    /// How many requests of a link aren't begun; none where it is over.
+    pub fn left(&self, link: LinkId) -> usize
+        ensures { (book : List LinkRecord) → StandsFor self.now book → result ≡ left_at link book }
+    {
+        match self.kept.get(&link.0) {
+            None => 0,
+            Some(kept) => kept.left(),
         }
     }
 

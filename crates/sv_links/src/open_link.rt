@@ -1,5 +1,5 @@
 //! What is kept of a link that is open.
-ghost use Rattle.std.specs.Prelude.{◌≡◌, ◌&&◌, ◌∷◌, [], Bool, List, IfSome, IfNone, IsTrue, OnOk, is_some, not, slice_get};
+ghost use Rattle.std.specs.Prelude.{◌≡◌, ◌&&◌, ◌∷◌, [], Bool, List, IfSome, IfNone, IsTrue, OnOk, drop, is_some, length, not, slice_get};
 ghost use Rattle.sv_links.specs.LinkBook.{LinkRecord, asks, begins, gets_more, is_due, longer, new_link};
 
 use std::alloc::{AllocError, Global};
@@ -56,6 +56,13 @@ impl OpenLink {
         ensures none { IfNone result ((r : LinkRecord) → Reads self.old r → Reads self.new r) }
     {
         self.waiting.pop_front()
+    }
+
+    /// How many requests aren't begun.
+    pub(crate) fn left(&self) -> usize
+        ensures { (r : LinkRecord) → Reads self.now r → result ≡ length (drop r.begun (asks r)) }
+    {
+        self.waiting.len()
     }
 
     /// Whether bytes came since the last More, and no request waits to be begun.

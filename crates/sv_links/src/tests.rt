@@ -13,23 +13,24 @@ use sv_http::{Ask, Guard, Status};
 /// digit one of HTTP/1.0, `!` one for another target; `<` and `>` before these mean its first 20 bytes and the others. `t1`
 /// begins the next request: its body, and `.` where it closes, or the number of a refusal. `r1` answers the request in hand,
 /// `c1` so that the link closes: `s` where this is sent. `m1` gives More: `+` where it does. `e1`, `l1` and `k1` end the link:
-/// its client ended, an order failed, Close is given. `p1` asks whether a piece may come, `i1` whether the link was opened or
-/// is the next, `n0` for the next link above 0 that is open or has a request in hand, `w` for all that are open.
+/// its client ended, an order failed, Close is given. `p1` asks whether a piece may come, `i1` whether the link was opened
+/// or is the next, `q1` how many of its
+/// requests aren't begun; `w` lists the links that are open, and `b` those that are open or have a request in hand.
 const SCRIPTS: &str = "\
 o1:+ o2:+ f1=<a f2=<b t1: t2: m1:+ m2:+ m1:- f2=>b t2:b f1=>a t1:a r2:s m2:+ r1:s m1:+ w:12
-o1:+ f1=abc t1:a t1: m1:- r1:s p1:- t1:b m1:- r1:s m1:- t1:c r1:s t1: p1:- m1:+ m1:- p1:+
-o1:+ f1=aBc t1:a r1:s t1:B. p1:- c1:s t1: m1:- n0:- w: p1:+ f1=d t1: r1:-
-o1:+ f1=5a t1:5. c1:s t1: m1:- n0:-
-o1:+ f1=a!b t1:a r1:s t1:404 c1:s t1: f1=b t1: m1:- n0:-
-g1:+ f1=a t1:401 c1:s n0:-
-o1:+ f1=ab t1:a e1 n0:1 w: t1: m1:- p1:+ f1=c r1:- n0:- t1: c1:-
-o1:+ f1=a t1:a l1 c1:- n0:- o2:+ f2=a t2:a r2:s m2:+
-o1:+ f1=a t1:a r1:s l1 n0:- f1=b t1: m1:-
+o1:+ f1=abc q1:3 t1:a q1:2 t1: m1:- r1:s p1:- t1:b m1:- r1:s m1:- t1:c r1:s t1: p1:- m1:+ m1:- p1:+
+o1:+ f1=aBc t1:a r1:s t1:B. p1:- c1:s t1: m1:- b: w: p1:+ f1=d t1: r1:-
+o1:+ f1=5a t1:5. c1:s t1: m1:- b:
+o1:+ f1=a!b t1:a r1:s t1:404 c1:s t1: f1=b t1: m1:- b:
+g1:+ f1=a t1:401 c1:s b:
+o1:+ f1=ab t1:a e1 b:1 q1:0 w: t1: m1:- p1:+ f1=c r1:- b: t1: c1:-
+o1:+ f1=a t1:a l1 c1:- b: o2:+ f2=a t2:a r2:s m2:+
+o1:+ f1=a t1:a r1:s l1 b: f1=b t1: m1:-
 o1:+ f1=a t1:a p1:+ f1=b t1: m1:- r1:s t1:b r1:s m1:+
 o1:+ m1:- f1=<a m1:+ m1:- t1: p1:+ f1=>a m1:- t1:a
-o1:+ o2:+ o3:+ w:123 n0:1 n1:2 n2:3 n3:- e2 w:13 n1:3 k1 k3 k3 w: n0:-
-o1:+ o2:+ f2=a t2:a e1 e2 n0:2 w: r2:- n0:-
-i0:- i1:n o1:+ i1:i i2:n i3:- t7: r7:- m7:- e7 l7 k7 f7=a t0: n0:1 n9:-
+o1:+ o2:+ o3:+ w:123 b:123 e2 w:13 b:13 k1 k3 k3 w: b:
+o1:+ o2:+ f2=a t2:a e1 e2 b:2 w: r2:- b:
+i0:- i1:n o1:+ i1:i i2:n i3:- t7: r7:- m7:- e7 l7 k7 f7=a t0: q1:0 q7:0 b:1
 ";
 
 #[test]
@@ -58,7 +59,8 @@ fn serves_as_many_as_may_be_open(rt: HostRuntime) {
     open(&rt, alloc, &mut links, 67, false);
     feed(&rt, alloc, &mut links, 66, b"a", true);
     asked(&rt, alloc, &mut links, 66, "a");
-    assert!(rt; links.next_after(64) == Some(LinkId(66)), "66 is served");
+    let busy = links.busy_links(alloc).expect(&rt, "memory");
+    assert!(rt; busy.last() == Some(&LinkId(66)), "66 is served");
     assert!(rt; LINK_LIMIT == 64, "the limit");
 }
 
@@ -69,7 +71,7 @@ fn nothing_of(rt: &impl Abort, links: &mut Links, number: u32) {
     assert!(rt; links.take_ask(link).is_none(), "it asks nothing");
     assert!(rt; !links.answer(link, false), "nothing is sent");
     assert!(rt; !links.give_more(link), "it gets no More");
-    assert!(rt; links.next_after(64).is_none(), "it isn't busy");
+    assert!(rt; links.left(link) == 0, "nothing is left");
 }
 
 /// Plays a script, with its pieces whole or byte by byte.
@@ -90,7 +92,18 @@ fn play(rt: &impl Abort, alloc: Global, links: &mut Links, word: &str, is_whole:
             feed(rt, alloc, links, digit(*number), text, is_whole);
         }
         [b't', number] => asked(rt, alloc, links, digit(*number), wanted),
-        [b'w'] => listed(rt, alloc, links, wanted),
+        [b'w'] => listed(
+            rt,
+            alloc,
+            links.open_links(alloc).expect(rt, "memory"),
+            wanted,
+        ),
+        [b'b'] => listed(
+            rt,
+            alloc,
+            links.busy_links(alloc).expect(rt, "memory"),
+            wanted,
+        ),
         [deed, number] => {
             let told = other(rt, links, *deed, LinkId(digit(*number)));
             assert!(rt; wanted == told, "what comes of {word}");
@@ -108,7 +121,7 @@ fn other(rt: &impl Abort, links: &mut Links, deed: u8, link: LinkId) -> &'static
         b'p' => told(links.takes_piece(link), "+"),
         b'i' if links.is_next(link) => "n",
         b'i' => told(links.is_issued(link), "i"),
-        b'n' => name(links.next_after(link.0)),
+        b'q' => count(links.left(link)),
         _ => over(rt, links, deed, link),
     }
 }
@@ -128,13 +141,22 @@ fn told(holds: bool, word: &'static str) -> &'static str {
     if holds { word } else { "-" }
 }
 
-fn name(link: Option<LinkId>) -> &'static str {
-    match link {
-        None => "-",
-        Some(LinkId(1)) => "1",
-        Some(LinkId(2)) => "2",
-        Some(LinkId(3)) => "3",
-        Some(_) => "more",
+fn name(link: LinkId) -> &'static str {
+    match link.0 {
+        1 => "1",
+        2 => "2",
+        3 => "3",
+        _ => "more",
+    }
+}
+
+fn count(left: usize) -> &'static str {
+    match left {
+        0 => "0",
+        1 => "1",
+        2 => "2",
+        3 => "3",
+        _ => "more",
     }
 }
 
@@ -241,11 +263,11 @@ fn asked(rt: &impl Abort, alloc: Global, links: &mut Links, number: u32, wanted:
     assert!(rt; told.as_str() == wanted, "what link {number} asks");
 }
 
-/// Looks at the links that are open.
-fn listed(rt: &impl Abort, alloc: Global, links: &Links, wanted: &str) {
+/// Looks at a list of links.
+fn listed(rt: &impl Abort, alloc: Global, links: Vec<LinkId>, wanted: &str) {
     let mut told = String::new(alloc);
-    for link in links.open_links(alloc).expect(rt, "memory").as_slice() {
-        told.push_str(name(Some(*link))).expect(rt, "memory");
+    for link in links.as_slice() {
+        told.push_str(name(*link)).expect(rt, "memory");
     }
-    assert!(rt; told.as_str() == wanted, "which links are open");
+    assert!(rt; told.as_str() == wanted, "which links are listed");
 }
