@@ -21,7 +21,7 @@ use Rattle.sv_methods.specs.declared.planned.Aim.TheVariants.{Started, Stopped, 
 use Rattle.sv_methods.specs.declared.planned.Asked.{Asked}
 use Rattle.sv_methods.specs.declared.planned.Request.{Request}
 use Rattle.sv_methods.specs.declared.planned.Request.TheVariants as request
-use Rattle.sv_methods.specs.declared.stand.Stand.{Stand}
+use Rattle.sv_methods.specs.Scenes.{Scene}
 
 -- what is asked for
 abbrev pub aim_of : Act → Aim
@@ -72,62 +72,62 @@ asks act wait name ids =
     (record { wait = wait; array = true; name = name; rows = map (row_for act) ids })
 
 -- of these processes those in fitting states are asked
-abbrev pub asks_fitting : Act → Stand → Bool → Option (List ℕ) → List ChildId → Outcome
-asks_fitting act stand wait name ids =
-    asks act wait name (asked_of act stand.children.now (in_order act ids))
+abbrev pub asks_fitting : Act → Scene → Bool → Option (List ℕ) → List ChildId → Outcome
+asks_fitting act scene wait name ids =
+    asks act wait name (asked_of act scene.children (in_order act ids))
 
 -- one process is asked
-abbrev pub asks_one : Act → Stand → Bool → List ℕ → ChildId → Outcome
-asks_one act stand wait name id =
-    if is_asked act (slice_get stand.children.now id.0)
+abbrev pub asks_one : Act → Scene → Bool → List ℕ → ChildId → Outcome
+asks_one act scene wait name id =
+    if is_asked act (slice_get scene.children id.0)
     then Does (request_for act id ∷ [])
     (record { wait = wait; array = false; name = Some name; rows = row_for act id ∷ [] })
     else refuses (unfit act) (Some name)
 
 -- the processes of a group
-abbrev pub asks_group : Act → Stand → Bool → List ℕ → ℕ → Outcome
-asks_group act stand wait name group =
-    asks_fitting act stand wait (Some name) (members_of_group group stand.roster.now)
+abbrev pub asks_group : Act → Scene → Bool → List ℕ → ℕ → Outcome
+asks_group act scene wait name group =
+    asks_fitting act scene wait (Some name) (members_of_group group scene.roster)
 
 -- what a name finds is asked
-abbrev pub asks_found : Act → Stand → Bool → List ℕ → Found → Outcome
-asks_found act stand wait name (One id) = asks_one act stand wait name id
-asks_found act stand wait name (Group group) = asks_group act stand wait name group
-asks_found act stand wait name Nothing = refuses BadName (Some name)
+abbrev pub asks_found : Act → Scene → Bool → List ℕ → Found → Outcome
+asks_found act scene wait name (One id) = asks_one act scene wait name id
+asks_found act scene wait name (Group group) = asks_group act scene wait name group
+asks_found act scene wait name Nothing = refuses BadName (Some name)
 
 -- a process, or a group
-abbrev pub asks_named : Act → Stand → Bool → List ℕ → Outcome
-asks_named act stand wait name = asks_found act stand wait name (found name stand.roster.now)
+abbrev pub asks_named : Act → Scene → Bool → List ℕ → Outcome
+asks_named act scene wait name = asks_found act scene wait name (found name scene.roster)
 
 -- what was found for the name of a group is asked, if it is a group
-abbrev pub asks_found_group : Act → Stand → Bool → List ℕ → Found → Outcome
-asks_found_group act stand wait name (Group group) = asks_group act stand wait name group
-asks_found_group act stand wait name other = refuses BadName (Some name)
+abbrev pub asks_found_group : Act → Scene → Bool → List ℕ → Found → Outcome
+asks_found_group act scene wait name (Group group) = asks_group act scene wait name group
+asks_found_group act scene wait name other = refuses BadName (Some name)
 
 -- a group by its own name
-abbrev pub asks_group_named : Act → Stand → Bool → List ℕ → Outcome
-asks_group_named act stand wait name =
-    asks_found_group act stand wait name (group_named name stand.roster.now)
+abbrev pub asks_group_named : Act → Scene → Bool → List ℕ → Outcome
+asks_group_named act scene wait name =
+    asks_found_group act scene wait name (group_named name scene.roster)
 
 -- all processes
-abbrev pub asks_all : Act → Stand → Bool → Outcome
-asks_all act stand wait = asks_fitting act stand wait None (start_order stand.roster.now)
+abbrev pub asks_all : Act → Scene → Bool → Outcome
+asks_all act scene wait = asks_fitting act scene wait None (start_order scene.roster)
 
 -- a signal by its text, after the name was looked at
-abbrev pub signals_found : Stand → List ℕ → List ℕ → Option Signal → Found → Outcome
-signals_found stand name content signal Nothing = refuses BadName (Some name)
-signals_found stand name content None found = refuses BadSignal (Some content)
-signals_found stand name content (Some signal) found =
-    asks_found (act.Signal signal) stand false name found
+abbrev pub signals_found : Scene → List ℕ → List ℕ → Option Signal → Found → Outcome
+signals_found scene name content signal Nothing = refuses BadName (Some name)
+signals_found scene name content None found = refuses BadSignal (Some content)
+signals_found scene name content (Some signal) found =
+    asks_found (act.Signal signal) scene false name found
 
 -- the same for a group by its own name
-abbrev pub signals_found_group : Stand → List ℕ → List ℕ → Option Signal → Found → Outcome
-signals_found_group stand name content None (Group group) = refuses BadSignal (Some content)
-signals_found_group stand name content (Some signal) (Group group) =
-    asks_group (act.Signal signal) stand false name group
-signals_found_group stand name content signal other = refuses BadName (Some name)
+abbrev pub signals_found_group : Scene → List ℕ → List ℕ → Option Signal → Found → Outcome
+signals_found_group scene name content None (Group group) = refuses BadSignal (Some content)
+signals_found_group scene name content (Some signal) (Group group) =
+    asks_group (act.Signal signal) scene false name group
+signals_found_group scene name content signal other = refuses BadName (Some name)
 
 -- a signal by its text for all processes
-abbrev pub signals_all : Stand → List ℕ → Option Signal → Outcome
-signals_all stand content None = refuses BadSignal (Some content)
-signals_all stand content (Some signal) = asks_all (act.Signal signal) stand false
+abbrev pub signals_all : Scene → List ℕ → Option Signal → Outcome
+signals_all scene content None = refuses BadSignal (Some content)
+signals_all scene content (Some signal) = asks_all (act.Signal signal) scene false

@@ -5,5 +5,6 @@ pub mod MethodTable
 pub mod Outcomes
 pub mod Params
 pub mod Processes
+pub mod Scenes
 pub mod Spellings
 pub mod Waits

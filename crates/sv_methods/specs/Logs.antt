@@ -21,7 +21,7 @@ use Rattle.sv_methods.specs.declared.planned.Asked.{Asked}
 use Rattle.sv_methods.specs.declared.planned.ReadShape.TheVariants.{Plain, Tail}
 use Rattle.sv_methods.specs.declared.planned.Request.{Request}
 use Rattle.sv_methods.specs.declared.planned.Request.TheVariants.{Clear}
-use Rattle.sv_methods.specs.declared.stand.Stand.{Stand}
+use Rattle.sv_methods.specs.Scenes.{Scene}
 use Rattle.sv_xmlcall.specs.Trees.{integer, truth, text, array, trees_of}
 
 -- a read of this part of a file; without a part the arguments were bad
@@ -30,27 +30,27 @@ reads_part file None = refuses BadArguments None
 reads_part file (Some span) = Reads file span Plain
 
 -- a part of a log from an offset on; `name` is what the call named, if it named something
-abbrev pub reads : Stand → Option (List ℕ) → Option (List ℕ) → ℤ → ℤ → Outcome
-reads stand name None offset length = refuses NoFile name
-reads stand name (Some file) offset length =
-    reads_part file (read_part (size_of file stand.sizes.now) offset length)
+abbrev pub reads : Scene → Option (List ℕ) → Option (List ℕ) → ℤ → ℤ → Outcome
+reads scene name None offset length = refuses NoFile name
+reads scene name (Some file) offset length =
+    reads_part file (read_part (size_of file scene.sizes) offset length)
 
 -- the end of a log
-abbrev pub tails : Stand → Option (List ℕ) → ℤ → ℤ → Outcome
-tails stand None offset length =
+abbrev pub tails : Scene → Option (List ℕ) → ℤ → ℤ → Outcome
+tails scene None offset length =
     Gives (array (trees_of (text [] ∷ integer (pos 0) ∷ truth false ∷ [])))
-tails stand (Some file) offset length =
-    Reads file (tail_part (size_of file stand.sizes.now) offset length)
-    (Tail (size_of file stand.sizes.now) (has_missed (size_of file stand.sizes.now) offset length))
+tails scene (Some file) offset length =
+    Reads file (tail_part (size_of file scene.sizes) offset length)
+    (Tail (size_of file scene.sizes) (has_missed (size_of file scene.sizes) offset length))
 
 -- what a method gives of the logs of a process
-abbrev pub log_of : LogMethod → Stand → List ℕ → Spec → ℤ → ℤ → Outcome
-log_of ReadStderr stand name spec offset length =
-    reads stand (Some name) spec.stderr.file offset length
-log_of ReadStdout stand name spec offset length =
-    reads stand (Some name) spec.stdout.file offset length
-log_of TailStderr stand name spec offset length = tails stand spec.stderr.file offset length
-log_of TailStdout stand name spec offset length = tails stand spec.stdout.file offset length
+abbrev pub log_of : LogMethod → Scene → List ℕ → Spec → ℤ → ℤ → Outcome
+log_of ReadStderr scene name spec offset length =
+    reads scene (Some name) spec.stderr.file offset length
+log_of ReadStdout scene name spec offset length =
+    reads scene (Some name) spec.stdout.file offset length
+log_of TailStderr scene name spec offset length = tails scene spec.stderr.file offset length
+log_of TailStdout scene name spec offset length = tails scene spec.stdout.file offset length
 
 -- the process that a name finds, if it finds one and no group
 abbrev pub spec_found : List GroupSpec → Found → Option (GroupSpec × Spec)
@@ -62,19 +62,19 @@ abbrev pub process_named : List ℕ → List GroupSpec → Option (GroupSpec × 
 process_named name groups = spec_found groups (found name groups)
 
 -- what a method gives of the logs of the process that was found, if one was
-abbrev pub log_of_found : LogMethod → Stand → List ℕ → ℤ → ℤ → Option (GroupSpec × Spec) → Outcome
-log_of_found method stand name offset length None = refuses BadName (Some name)
-log_of_found method stand name offset length (Some process) =
-    log_of method stand name process.1 offset length
+abbrev pub log_of_found : LogMethod → Scene → List ℕ → ℤ → ℤ → Option (GroupSpec × Spec) → Outcome
+log_of_found method scene name offset length None = refuses BadName (Some name)
+log_of_found method scene name offset length (Some process) =
+    log_of method scene name process.1 offset length
 
 -- the logs of a name
-abbrev pub log_row : LogMethod → Stand → List ℕ → ℤ → ℤ → Outcome
-log_row method stand name offset length =
-    log_of_found method stand name offset length (process_named name stand.roster.now)
+abbrev pub log_row : LogMethod → Scene → List ℕ → ℤ → ℤ → Outcome
+log_row method scene name offset length =
+    log_of_found method scene name offset length (process_named name scene.roster)
 
 -- the main log
-abbrev pub reads_main : Stand → ℤ → ℤ → Outcome
-reads_main stand offset length = reads stand None stand.config.now.main.file offset length
+abbrev pub reads_main : Scene → ℤ → ℤ → Outcome
+reads_main scene offset length = reads scene None scene.config.main.file offset length
 
 -- requests that clear logs; nothing is waited for but that they are carried out
 abbrev pub clears : List Request → Bool → Option (List ℕ) → List Asked → Outcome
@@ -115,5 +115,5 @@ clears_found groups name (One id) = clears_process name id (slice_get (pairs_of 
 clears_found groups name found = refuses BadName (Some name)
 
 -- the logs of a name are cleared
-abbrev pub clears_named : Stand → List ℕ → Outcome
-clears_named stand name = clears_found stand.roster.now name (found name stand.roster.now)
+abbrev pub clears_named : Scene → List ℕ → Outcome
+clears_named scene name = clears_found scene.roster name (found name scene.roster)

@@ -41,7 +41,7 @@ use Rattle.sv_methods.specs.declared.method.WaitMethod.TheVariants.{StartAllProc
 use Rattle.sv_methods.specs.declared.planned.Asked.{Asked}
 use Rattle.sv_methods.specs.declared.planned.Request.{Request}
 use Rattle.sv_methods.specs.declared.planned.Request.TheVariants as request
-use Rattle.sv_methods.specs.declared.stand.Stand.{Stand}
+use Rattle.sv_methods.specs.Scenes.{Scene}
 use Rattle.sv_xmlcall.specs.Trees.{CallTree, Tree, Trees, integer, text, structure, array, no_tree, tree, trees_of, members_of}
 
 -- texts as an array
@@ -56,24 +56,24 @@ state_tree mood =
     ∷ (codes "statename", text (mood_name mood)) ∷ []))
 
 -- the logs of all processes are cleared
-abbrev pub clears_all : Stand → Outcome
-clears_all stand =
-    clears (map clear_request (processes stand.roster.now)) true None
-    (map (λ id. cleared (Some id)) (start_order stand.roster.now))
+abbrev pub clears_all : Scene → Outcome
+clears_all scene =
+    clears (map clear_request (processes scene.roster)) true None
+    (map (λ id. cleared (Some id)) (start_order scene.roster))
 
 -- methods that take nothing
-abbrev pub plain_row : PlainMethod → Stand → ℕ → Outcome
-plain_row ClearAllProcessLogs stand now = clears_all stand
-plain_row ClearLog stand now = clears_main stand.config.now.main.file
-plain_row GetApiVersion stand now = Gives (text (codes "3.0"))
-plain_row GetAllProcessInfo stand now =
-    Gives (array (trees_of (infos stand.roster.now stand.children.now now)))
-plain_row GetIdentification stand now = Gives (text stand.config.now.identifier)
-plain_row GetPid stand now = Gives (integer (pos stand.pid))
-plain_row GetState stand now = Gives (state_tree stand.mood)
-plain_row GetSupervisorVersion stand now = Gives (text (codes "4.0.0"))
-plain_row ListMethods stand now = Gives (texts_tree (map spelling all_methods))
-plain_row Shutdown stand now = does (request.Shutdown ∷ []) None
+abbrev pub plain_row : PlainMethod → Scene → ℕ → Outcome
+plain_row ClearAllProcessLogs scene now = clears_all scene
+plain_row ClearLog scene now = clears_main scene.config.main.file
+plain_row GetApiVersion scene now = Gives (text (codes "3.0"))
+plain_row GetAllProcessInfo scene now =
+    Gives (array (trees_of (infos scene.roster scene.children now)))
+plain_row GetIdentification scene now = Gives (text scene.config.identifier)
+plain_row GetPid scene now = Gives (integer (pos scene.pid))
+plain_row GetState scene now = Gives (state_tree scene.mood)
+plain_row GetSupervisorVersion scene now = Gives (text (codes "4.0.0"))
+plain_row ListMethods scene now = Gives (texts_tree (map spelling all_methods))
+plain_row Shutdown scene now = does (request.Shutdown ∷ []) None
 
 -- one process
 abbrev pub info_row_of : List ℕ → List Tree → Outcome
@@ -81,15 +81,15 @@ info_row_of name [] = refuses BadName (Some name)
 info_row_of name (said ∷ more) = Gives said
 
 -- what was found for a name: one process has a struct, a group and nothing have none
-abbrev pub info_row_found : Stand → List ℕ → ℕ → Found → Outcome
-info_row_found stand name now (One id) =
+abbrev pub info_row_found : Scene → List ℕ → ℕ → Found → Outcome
+info_row_found scene name now (One id) =
     info_row_of name
-    (info_of (slice_get (pairs_of stand.roster.now) id.0) (slice_get stand.children.now id.0) now)
-info_row_found stand name now found = refuses BadName (Some name)
+    (info_of (slice_get (pairs_of scene.roster) id.0) (slice_get scene.children id.0) now)
+info_row_found scene name now found = refuses BadName (Some name)
 
 -- the same by the name
-abbrev pub info_row : Stand → List ℕ → ℕ → Outcome
-info_row stand name now = info_row_found stand name now (found name stand.roster.now)
+abbrev pub info_row : Scene → List ℕ → ℕ → Outcome
+info_row scene name now = info_row_found scene name now (found name scene.roster)
 
 -- the signature of a method, where it is one
 abbrev pub signature_row : Option Method → Outcome
@@ -101,23 +101,23 @@ abbrev pub signal_of : List ℕ → Option Signal
 signal_of content = find (is_signal_word (str_to_ascii_lowercase content)) all_signals
 
 -- methods that take a text
-abbrev pub text_row : TextMethod → Stand → List ℕ → ℕ → Outcome
-text_row ClearProcessLogs stand name now = clears_named stand name
-text_row GetProcessInfo stand name now = info_row stand name now
-text_row MethodSignature stand name now = signature_row (method_named name)
-text_row SignalAllProcesses stand name now = signals_all stand name (signal_of name)
+abbrev pub text_row : TextMethod → Scene → List ℕ → ℕ → Outcome
+text_row ClearProcessLogs scene name now = clears_named scene name
+text_row GetProcessInfo scene name now = info_row scene name now
+text_row MethodSignature scene name now = signature_row (method_named name)
+text_row SignalAllProcesses scene name now = signals_all scene name (signal_of name)
 
 -- methods that take whether to wait
-abbrev pub wait_row : WaitMethod → Stand → Bool → Outcome
-wait_row StartAllProcesses stand wait = asks_all act.Start stand wait
-wait_row StopAllProcesses stand wait = asks_all act.Stop stand wait
+abbrev pub wait_row : WaitMethod → Scene → Bool → Outcome
+wait_row StartAllProcesses scene wait = asks_all act.Start scene wait
+wait_row StopAllProcesses scene wait = asks_all act.Stop scene wait
 
 -- methods that take a text and whether to wait
-abbrev pub text_wait_row : TextWaitMethod → Stand → List ℕ → Bool → Outcome
-text_wait_row StartProcess stand name wait = asks_named act.Start stand wait name
-text_wait_row StartProcessGroup stand name wait = asks_group_named act.Start stand wait name
-text_wait_row StopProcess stand name wait = asks_named act.Stop stand wait name
-text_wait_row StopProcessGroup stand name wait = asks_group_named act.Stop stand wait name
+abbrev pub text_wait_row : TextWaitMethod → Scene → List ℕ → Bool → Outcome
+text_wait_row StartProcess scene name wait = asks_named act.Start scene wait name
+text_wait_row StartProcessGroup scene name wait = asks_group_named act.Start scene wait name
+text_wait_row StopProcess scene name wait = asks_named act.Stop scene wait name
+text_wait_row StopProcessGroup scene name wait = asks_group_named act.Stop scene wait name
 
 -- the stdin of a process
 abbrev pub is_heard : Option Child → Bool
@@ -130,23 +130,23 @@ is_closed None = false
 is_closed (Some closed) = closed
 
 -- a text for the stdin of what was found for a name
-abbrev pub stdin_found : Stand → List ℕ → List ℕ → Found → Outcome
-stdin_found stand name content (One id) =
-    if is_heard (slice_get stand.children.now id.0)
-    then (if is_closed (slice_get stand.closed.now id.0) then refuses NoFile (Some name)
+abbrev pub stdin_found : Scene → List ℕ → List ℕ → Found → Outcome
+stdin_found scene name content (One id) =
+    if is_heard (slice_get scene.children id.0)
+    then (if is_closed (slice_get scene.closed id.0) then refuses NoFile (Some name)
     else does (request.Stdin id content ∷ []) (Some name))
     else refuses NotRunning (Some name)
-stdin_found stand name content found = refuses BadName (Some name)
+stdin_found scene name content found = refuses BadName (Some name)
 
 -- methods that take two texts
-abbrev pub texts_row : TextsMethod → Stand → List ℕ → List ℕ → Outcome
-texts_row SendProcessStdin stand name content =
-    stdin_found stand name content (found name stand.roster.now)
-texts_row SendRemoteCommEvent stand sort content = does (request.Remote sort content ∷ []) None
-texts_row SignalProcess stand name content =
-    signals_found stand name content (signal_of content) (found name stand.roster.now)
-texts_row SignalProcessGroup stand name content =
-    signals_found_group stand name content (signal_of content) (group_named name stand.roster.now)
+abbrev pub texts_row : TextsMethod → Scene → List ℕ → List ℕ → Outcome
+texts_row SendProcessStdin scene name content =
+    stdin_found scene name content (found name scene.roster)
+texts_row SendRemoteCommEvent scene sort content = does (request.Remote sort content ∷ []) None
+texts_row SignalProcess scene name content =
+    signals_found scene name content (signal_of content) (found name scene.roster)
+texts_row SignalProcessGroup scene name content =
+    signals_found_group scene name content (signal_of content) (group_named name scene.roster)
 
 -- in another mood than RUNNING most methods are refused
 abbrev pub is_shut : Method → Mood → Bool
@@ -154,50 +154,50 @@ is_shut method mood_is.Running = false
 is_shut method mood = not (is_always_open method)
 
 -- the row of a method, after what it takes was looked at, and then the mood
-abbrev pub after_params : {A : Type 0} → Method → Stand → Option A → (A → Outcome) → Outcome
-after_params method stand None row = refuses IncorrectParameters None
-after_params method stand (Some given) row =
-    if is_shut method stand.mood then refuses ShutdownState None else row given
+abbrev pub after_params : {A : Type 0} → Method → Scene → Option A → (A → Outcome) → Outcome
+after_params method scene None row = refuses IncorrectParameters None
+after_params method scene (Some given) row =
+    if is_shut method scene.mood then refuses ShutdownState None else row given
 
 -- nothing
 abbrev pub nothing_in : Trees → Option (Unit {0})
 nothing_in params = ended tt params
 
 -- what comes of a call of a method; several calls in one aren't planned here
-abbrev pub row : Method → Stand → Trees → ℕ → Outcome
-row (takes.Plain method) stand params now =
-    after_params (takes.Plain method) stand (nothing_in params)
-    (λ given. plain_row method stand now)
-row (takes.OfText method) stand params now =
-    after_params (takes.OfText method) stand (text_in params)
-    (λ given. text_row method stand given now)
-row (takes.OfWait method) stand params now =
-    after_params (takes.OfWait method) stand (wait_in params) (λ given. wait_row method stand given)
-row (takes.OfTextAndWait method) stand params now =
-    after_params (takes.OfTextAndWait method) stand (text_and_wait_in params)
-    (λ given. text_wait_row method stand given.0 given.1)
-row (takes.OfTexts method) stand params now =
-    after_params (takes.OfTexts method) stand (texts_in params)
-    (λ given. texts_row method stand given.0 given.1)
-row takes.ReadLog stand params now =
-    after_params takes.ReadLog stand (numbers_in params)
-    (λ given. reads_main stand given.0 given.1)
-row (takes.OfLog method) stand params now =
-    after_params (takes.OfLog method) stand (log_in params)
-    (λ given. log_row method stand given.0 given.1 given.2)
-row takes.Multicall stand params now = refuses IncorrectParameters None
+abbrev pub row : Method → Scene → Trees → ℕ → Outcome
+row (takes.Plain method) scene params now =
+    after_params (takes.Plain method) scene (nothing_in params)
+    (λ given. plain_row method scene now)
+row (takes.OfText method) scene params now =
+    after_params (takes.OfText method) scene (text_in params)
+    (λ given. text_row method scene given now)
+row (takes.OfWait method) scene params now =
+    after_params (takes.OfWait method) scene (wait_in params) (λ given. wait_row method scene given)
+row (takes.OfTextAndWait method) scene params now =
+    after_params (takes.OfTextAndWait method) scene (text_and_wait_in params)
+    (λ given. text_wait_row method scene given.0 given.1)
+row (takes.OfTexts method) scene params now =
+    after_params (takes.OfTexts method) scene (texts_in params)
+    (λ given. texts_row method scene given.0 given.1)
+row takes.ReadLog scene params now =
+    after_params takes.ReadLog scene (numbers_in params)
+    (λ given. reads_main scene given.0 given.1)
+row (takes.OfLog method) scene params now =
+    after_params (takes.OfLog method) scene (log_in params)
+    (λ given. log_row method scene given.0 given.1 given.2)
+row takes.Multicall scene params now = refuses IncorrectParameters None
 
 -- without an rpcinterface section only the methods that begin with `system.` are here
 abbrev pub is_here : Config → Method → Bool
 is_here config method = config.rpc || not (is_ours method)
 
 -- the row of a method that is here
-abbrev pub row_if_here : Option Method → Stand → Trees → ℕ → Outcome
-row_if_here None stand params now = refuses UnknownMethod None
-row_if_here (Some method) stand params now =
-    if is_here stand.config.now method then row method stand params now
+abbrev pub row_if_here : Option Method → Scene → Trees → ℕ → Outcome
+row_if_here None scene params now = refuses UnknownMethod None
+row_if_here (Some method) scene params now =
+    if is_here scene.config method then row method scene params now
     else refuses UnknownMethod None
 
 -- what comes of a call
-abbrev pub planned : Stand → CallTree → ℕ → Outcome
-planned stand call now = row_if_here (method_named call.method) stand call.params now
+abbrev pub planned : Scene → CallTree → ℕ → Outcome
+planned scene call now = row_if_here (method_named call.method) scene call.params now

@@ -18,7 +18,7 @@ use Rattle.sv_methods.specs.declared.planned.Aim.{Aim}
 use Rattle.sv_methods.specs.declared.planned.Aim.TheVariants.{Started, Stopped, Signalled, Cleared}
 use Rattle.sv_methods.specs.declared.planned.Asked.{Asked}
 use Rattle.sv_methods.specs.declared.planned.Waiting.{Waiting}
-use Rattle.sv_methods.specs.declared.stand.Stand.{Stand}
+use Rattle.sv_methods.specs.Scenes.{Scene}
 use Rattle.sv_xmlcall.specs.Trees.{Tree, truth, array, trees_of, Reply, Returns, Faults}
 
 -- a process that was started is waited for while it is STARTING, one that was stopped until it is at rest
@@ -115,7 +115,7 @@ answer groups children waiting =
     else single waiting.name (first_fault children waiting.wait waiting.rows)
 
 -- the answer of a wait; none while it goes on
-abbrev pub checked : Stand → Waiting → Option Reply
-checked stand waiting =
-    if waits stand.children.now waiting then None
-    else Some (answer stand.roster.now stand.children.now waiting)
+abbrev pub checked : Scene → Waiting → Option Reply
+checked scene waiting =
+    if waits scene.children waiting then None
+    else Some (answer scene.roster scene.children waiting)

@@ -5,6 +5,7 @@ ghost use Rattle.sv_groups.specs.declared.lookup.Found.TheVariants.{Group};
 ghost use Rattle.sv_methods.specs.Acts.{aim_of, asked_of, asks, asks_all, asks_fitting, asks_found, asks_found_group, asks_group, asks_group_named, asks_in, asks_named, asks_one, in_order, is_asked, request_for, row_for, unfit};
 ghost use Rattle.sv_methods.specs.Outcomes.{outcome, refuses};
 ghost use Rattle.sv_methods.specs.Processes.{group_named, is_running_state, is_signalled_state, members_of_group};
+ghost use Rattle.sv_methods.specs.Scenes.{scene};
 ghost use Rattle.sv_methods.specs.declared.act.Act.TheVariants as act_is;
 
 use crate::planned::{Aim, Asked, Planned, Request, Waiting, refused_for};
@@ -173,7 +174,7 @@ fn asks_fitting(
     ids: Vec<ChildId>,
 ) -> Result<Planned, AllocError>
     ensures { IfOk result (λ planned. outcome planned
-        ≡ asks_fitting act stand.now wait name ids.items) }
+        ≡ asks_fitting act (scene stand.now) wait name ids.items) }
 {
     let mut ids = ids;
     put_in_order(act, &mut ids);
@@ -190,7 +191,8 @@ fn asks_one(
     name: &Text,
     id: ChildId,
 ) -> Result<Planned, AllocError>
-    ensures { IfOk result (λ planned. outcome planned ≡ asks_one act stand.now wait name.now id) }
+    ensures { IfOk result (λ planned. outcome planned
+        ≡ asks_one act (scene stand.now) wait name.now id) }
 {
     if !is_asked(act, stand.children, id) {
         return refused_for(alloc, act.unfit(), name.as_str());
@@ -234,7 +236,7 @@ pub(crate) fn asks_group(
 ) -> Result<Planned, AllocError>
     requires { group < length stand.now.roster.now }
     ensures { IfOk result (λ planned. outcome planned
-        ≡ asks_group act stand.now wait name.now group) }
+        ≡ asks_group act (scene stand.now) wait name.now group) }
 {
     let ids = members_of_group(alloc, stand.roster, group)?;
     let name = Some(name.clone()?);
@@ -272,7 +274,7 @@ pub(crate) fn asks_found(
 ) -> Result<Planned, AllocError>
     requires { (group : ℕ) → found ≡ Group group → group < length stand.now.roster.now }
     ensures { IfOk result (λ planned. outcome planned
-        ≡ asks_found act stand.now wait name.now found) }
+        ≡ asks_found act (scene stand.now) wait name.now found) }
 {
     match found {
         Found::One(id) => asks_one(alloc, act, stand, wait, name, id),
@@ -289,7 +291,8 @@ pub(crate) fn asks_named(
     wait: bool,
     name: &Text,
 ) -> Result<Planned, AllocError>
-    ensures { IfOk result (λ planned. outcome planned ≡ asks_named act stand.now wait name.now) }
+    ensures { IfOk result (λ planned. outcome planned
+        ≡ asks_named act (scene stand.now) wait name.now) }
 {
     let found = find(stand.roster, name.as_str());
     asks_found(alloc, act, stand, wait, name, found)
@@ -304,7 +307,7 @@ pub(crate) fn asks_group_named(
     name: &Text,
 ) -> Result<Planned, AllocError>
     ensures { IfOk result (λ planned. outcome planned
-        ≡ asks_group_named act stand.now wait name.now) }
+        ≡ asks_group_named act (scene stand.now) wait name.now) }
 {
     match find_group(alloc, stand.roster, name.as_str())? {
         Found::Group(group) => asks_group(alloc, act, stand, wait, name, group),
@@ -319,7 +322,7 @@ pub(crate) fn asks_all(
     stand: &Stand,
     wait: bool,
 ) -> Result<Planned, AllocError>
-    ensures { IfOk result (λ planned. outcome planned ≡ asks_all act stand.now wait) }
+    ensures { IfOk result (λ planned. outcome planned ≡ asks_all act (scene stand.now) wait) }
 {
     let ids = stand.roster.start_order(alloc)?;
     asks_fitting(alloc, act, stand, wait, None, ids)

@@ -6,6 +6,7 @@ ghost use Rattle.sv_methods.specs.Logs.{clear_request, cleared, clears, clears_m
 ghost use Rattle.sv_methods.specs.MethodTable.{clears_all};
 ghost use Rattle.sv_methods.specs.Outcomes.{outcome};
 ghost use Rattle.sv_methods.specs.Processes.{size_of};
+ghost use Rattle.sv_methods.specs.Scenes.{scene};
 
 use crate::method::LogMethod;
 use crate::planned::{Aim, Asked, Planned, ReadShape, Request, Waiting, refused, refused_for};
@@ -65,7 +66,8 @@ fn reads(stand: &Stand, file: &Text, offset: i64, length: i64) -> Result<Planned
 
 /// A part of the main log from an offset on.
 pub(crate) fn reads_main(stand: &Stand, offset: i64, length: i64) -> Result<Planned, AllocError>
-    ensures { IfOk result (λ planned. outcome planned ≡ reads_main stand.now offset length) }
+    ensures { IfOk result (λ planned. outcome planned
+        ≡ reads_main (scene stand.now) offset length) }
 {
     match &stand.config.main.file {
         Some(file) => reads(stand, file, offset, length),
@@ -83,7 +85,7 @@ fn reads_log(
     length: i64,
 ) -> Result<Planned, AllocError>
     ensures { IfOk result (λ planned. outcome planned
-        ≡ reads stand.now (Some name.now) log.now offset length) }
+        ≡ reads (scene stand.now) (Some name.now) log.now offset length) }
 {
     match log {
         Some(file) => reads(stand, file, offset, length),
@@ -99,7 +101,8 @@ fn tails(
     offset: i64,
     length: i64,
 ) -> Result<Planned, AllocError>
-    ensures { IfOk result (λ planned. outcome planned ≡ tails stand.now log.now offset length) }
+    ensures { IfOk result (λ planned. outcome planned
+        ≡ tails (scene stand.now) log.now offset length) }
 {
     match log {
         Some(file) => tails_file(stand, file, offset, length),
@@ -113,7 +116,7 @@ fn tails(
 
 fn tails_file(stand: &Stand, file: &Text, offset: i64, length: i64) -> Result<Planned, AllocError>
     ensures { IfOk result (λ planned. outcome planned
-        ≡ tails stand.now (Some file.now) offset length) }
+        ≡ tails (scene stand.now) (Some file.now) offset length) }
 {
     let (span, end, missed) = tail_span(size_of(file.as_str(), stand.sizes), offset, length);
     Ok(Planned::Read(file.clone()?, span, ReadShape::Tail(end, missed)))
@@ -130,7 +133,7 @@ fn log_of(
     length: i64,
 ) -> Result<Planned, AllocError>
     ensures { IfOk result (λ planned. outcome planned
-        ≡ log_of method stand.now name.now spec.now offset length) }
+        ≡ log_of method (scene stand.now) name.now spec.now offset length) }
 {
     match method {
         LogMethod::ReadStderr => reads_log(alloc, stand, name, &spec.stderr.file, offset, length),
@@ -161,7 +164,7 @@ pub(crate) fn log_row(
     length: i64,
 ) -> Result<Planned, AllocError>
     ensures { IfOk result (λ planned. outcome planned
-        ≡ log_row method stand.now name.now offset length) }
+        ≡ log_row method (scene stand.now) name.now offset length) }
 {
     match process_named(stand.roster, name.as_str()) {
         Some((_, spec)) => log_of(alloc, method, stand, name, spec, offset, length),
@@ -241,7 +244,7 @@ fn clears_process(
 
 /// The logs of a name are cleared.
 pub(crate) fn clears_named(alloc: Global, stand: &Stand, name: &Text) -> Result<Planned, AllocError>
-    ensures { IfOk result (λ planned. outcome planned ≡ clears_named stand.now name.now) }
+    ensures { IfOk result (λ planned. outcome planned ≡ clears_named (scene stand.now) name.now) }
 {
     let Found::One(id) = stand.roster.find(name.as_str()) else {
         return refused_for(alloc, Fault::BadName, name.as_str());
@@ -279,7 +282,7 @@ fn cleared_rows(alloc: Global, ids: &[ChildId]) -> Result<Vec<Asked>, AllocError
 
 /// The logs of all processes are cleared.
 pub(crate) fn clears_all(alloc: Global, stand: &Stand) -> Result<Planned, AllocError>
-    ensures { IfOk result (λ planned. outcome planned ≡ clears_all stand.now) }
+    ensures { IfOk result (λ planned. outcome planned ≡ clears_all (scene stand.now)) }
 {
     let requests = clear_requests(alloc, stand.roster.groups())?;
     let ids = stand.roster.start_order(alloc)?;

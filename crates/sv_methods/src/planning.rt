@@ -4,6 +4,7 @@ ghost use Rattle.sv_methods.specs.Logs.{log_row, reads_main};
 ghost use Rattle.sv_methods.specs.MethodTable.{after_params, is_here, is_shut, planned, row, row_if_here, text_wait_row, texts_row, wait_row};
 ghost use Rattle.sv_methods.specs.Outcomes.{outcome};
 ghost use Rattle.sv_methods.specs.Params.{log_in, numbers_in, text_and_wait_in, texts_in, wait_in};
+ghost use Rattle.sv_methods.specs.Scenes.{scene};
 ghost use Rattle.sv_xmlcall.specs.Trees.{call_view, no_tree, trees_view};
 
 use crate::logs::{log_row, reads_main};
@@ -26,7 +27,8 @@ use sv_xmlcall::value::Value;
 /// looks and decides, and changes nothing. `system.multicall` has no plan of its own: it is refused as a call with wrong
 /// parameters.
 pub fn plan(alloc: Global, stand: &Stand, call: &Call, now: Moment) -> Result<Planned, AllocError>
-    ensures { IfOk result (λ plan. outcome plan ≡ planned stand.now (call_view call.now) now) }
+    ensures { IfOk result (λ plan. outcome plan
+        ≡ planned (scene stand.now) (call_view call.now) now) }
 {
     let method = Method::named(call.method.as_str());
     let planned = row_if_here(alloc, method, stand, call.params.as_slice(), now)?;
@@ -42,7 +44,7 @@ fn row_if_here(
     now: Moment,
 ) -> Result<Planned, AllocError>
     ensures { IfOk result (λ plan. outcome plan
-        ≡ row_if_here method stand.now (trees_view params.now) now) }
+        ≡ row_if_here method (scene stand.now) (trees_view params.now) now) }
 {
     match method {
         Some(method) if is_here(stand.config, method) => row(alloc, method, stand, params, now),
@@ -75,7 +77,7 @@ fn row(
     now: Moment,
 ) -> Result<Planned, AllocError>
     ensures { IfOk result (λ plan. outcome plan
-        ≡ row method stand.now (trees_view params.now) now) }
+        ≡ row method (scene stand.now) (trees_view params.now) now) }
 {
     match method {
         Method::Plain(method) => plain(alloc, method, stand, params, now),
@@ -98,7 +100,7 @@ fn plain(
     now: Moment,
 ) -> Result<Planned, AllocError>
     ensures { IfOk result (λ plan. outcome plan
-        ≡ row (Method.Plain method) stand.now (trees_view params.now) now) }
+        ≡ row (Method.Plain method) (scene stand.now) (trees_view params.now) now) }
 {
     match params {
         [] => plain_alone(alloc, method, stand, now),
@@ -112,7 +114,8 @@ fn plain_alone(
     stand: &Stand,
     now: Moment,
 ) -> Result<Planned, AllocError>
-    ensures { IfOk result (λ plan. outcome plan ≡ row (Method.Plain method) stand.now no_tree now) }
+    ensures { IfOk result (λ plan. outcome plan
+        ≡ row (Method.Plain method) (scene stand.now) no_tree now) }
 {
     if is_shut(Method::Plain(method), stand.mood) {
         return Ok(refused(Fault::ShutdownState));
@@ -128,7 +131,7 @@ fn of_text(
     now: Moment,
 ) -> Result<Planned, AllocError>
     ensures { IfOk result (λ plan. outcome plan
-        ≡ row (Method.OfText method) stand.now (trees_view params.now) now) }
+        ≡ row (Method.OfText method) (scene stand.now) (trees_view params.now) now) }
 {
     match text_in(params) {
         None => Ok(refused(Fault::IncorrectParameters)),
@@ -144,8 +147,8 @@ fn of_wait(
     params: &[Value],
 ) -> Result<Planned, AllocError>
     ensures { IfOk result (λ plan. outcome plan
-        ≡ after_params (Method.OfWait method) stand.now (wait_in (trees_view params.now))
-        (λ given. wait_row method stand.now given)) }
+        ≡ after_params (Method.OfWait method) (scene stand.now) (wait_in (trees_view params.now))
+        (λ given. wait_row method (scene stand.now) given)) }
 {
     match wait_in(params) {
         None => Ok(refused(Fault::IncorrectParameters)),
@@ -161,9 +164,9 @@ fn of_text_and_wait(
     params: &[Value],
 ) -> Result<Planned, AllocError>
     ensures { IfOk result (λ plan. outcome plan
-        ≡ after_params (Method.OfTextAndWait method) stand.now
+        ≡ after_params (Method.OfTextAndWait method) (scene stand.now)
         (text_and_wait_in (trees_view params.now))
-        (λ given. text_wait_row method stand.now given.0 given.1)) }
+        (λ given. text_wait_row method (scene stand.now) given.0 given.1)) }
 {
     let Some((name, wait)) = text_and_wait_in(params) else {
         return Ok(refused(Fault::IncorrectParameters));
@@ -181,8 +184,8 @@ fn of_texts(
     params: &[Value],
 ) -> Result<Planned, AllocError>
     ensures { IfOk result (λ plan. outcome plan
-        ≡ after_params (Method.OfTexts method) stand.now (texts_in (trees_view params.now))
-        (λ given. texts_row method stand.now given.0 given.1)) }
+        ≡ after_params (Method.OfTexts method) (scene stand.now) (texts_in (trees_view params.now))
+        (λ given. texts_row method (scene stand.now) given.0 given.1)) }
 {
     let Some((first, second)) = texts_in(params) else {
         return Ok(refused(Fault::IncorrectParameters));
@@ -195,8 +198,8 @@ fn of_texts(
 
 fn read_log(stand: &Stand, params: &[Value]) -> Result<Planned, AllocError>
     ensures { IfOk result (λ plan. outcome plan
-        ≡ after_params Method.ReadLog stand.now (numbers_in (trees_view params.now))
-        (λ given. reads_main stand.now given.0 given.1)) }
+        ≡ after_params Method.ReadLog (scene stand.now) (numbers_in (trees_view params.now))
+        (λ given. reads_main (scene stand.now) given.0 given.1)) }
 {
     let Some((offset, length)) = numbers_in(params) else {
         return Ok(refused(Fault::IncorrectParameters));
@@ -214,8 +217,8 @@ fn of_log(
     params: &[Value],
 ) -> Result<Planned, AllocError>
     ensures { IfOk result (λ plan. outcome plan
-        ≡ after_params (Method.OfLog method) stand.now (log_in (trees_view params.now))
-        (λ given. log_row method stand.now given.0 given.1 given.2)) }
+        ≡ after_params (Method.OfLog method) (scene stand.now) (log_in (trees_view params.now))
+        (λ given. log_row method (scene stand.now) given.0 given.1 given.2)) }
 {
     let Some((name, offset, length)) = log_in(params) else {
         return Ok(refused(Fault::IncorrectParameters));

@@ -5,6 +5,7 @@ ghost use Rattle.sv_methods.specs.MethodNames.{all_methods, method_named, signat
 ghost use Rattle.sv_methods.specs.MethodTable.{info_row, is_closed, is_heard, plain_row, signature_row, state_tree, stdin_found, text_row, text_wait_row, texts_row, texts_tree, wait_row};
 ghost use Rattle.sv_methods.specs.Outcomes.{does, outcome};
 ghost use Rattle.sv_methods.specs.Processes.{info_of, infos, is_heard_state};
+ghost use Rattle.sv_methods.specs.Scenes.{scene};
 ghost use Rattle.sv_methods.specs.Spellings.{spelling_tree};
 ghost use Rattle.sv_xmlcall.specs.Trees.{text, view};
 
@@ -35,7 +36,7 @@ pub(crate) fn plain_row(
     stand: &Stand,
     now: Moment,
 ) -> Result<Planned, AllocError>
-    ensures { IfOk result (λ planned. outcome planned ≡ plain_row method stand.now now) }
+    ensures { IfOk result (λ planned. outcome planned ≡ plain_row method (scene stand.now) now) }
 {
     match method {
         PlainMethod::ClearAllProcessLogs => clears_all(alloc, stand),
@@ -91,7 +92,7 @@ fn spellings_of(alloc: Global, methods: &[Method]) -> Result<Vec<Value>, AllocEr
 
 fn all_infos(alloc: Global, stand: &Stand, now: Moment) -> Result<Planned, AllocError>
     ensures { IfOk result (λ planned. outcome planned
-        ≡ plain_row PlainMethod.GetAllProcessInfo stand.now now) }
+        ≡ plain_row PlainMethod.GetAllProcessInfo (scene stand.now) now) }
 {
     Ok(Planned::Now(Value::Array(infos(alloc, stand.roster, stand.children, now)?)))
 }
@@ -133,7 +134,7 @@ fn push_info(
 
 /// One process.
 fn info_row(alloc: Global, stand: &Stand, name: &Text, now: Moment) -> Result<Planned, AllocError>
-    ensures { IfOk result (λ planned. outcome planned ≡ info_row stand.now name.now now) }
+    ensures { IfOk result (λ planned. outcome planned ≡ info_row (scene stand.now) name.now now) }
 {
     let Found::One(id) = stand.roster.find(name.as_str()) else {
         return refused_for(alloc, Fault::BadName, name.as_str());
@@ -205,7 +206,8 @@ pub(crate) fn text_row(
     name: &Text,
     now: Moment,
 ) -> Result<Planned, AllocError>
-    ensures { IfOk result (λ planned. outcome planned ≡ text_row method stand.now name.now now) }
+    ensures { IfOk result (λ planned. outcome planned
+        ≡ text_row method (scene stand.now) name.now now) }
 {
     match method {
         TextMethod::ClearProcessLogs => clears_named(alloc, stand, name),
@@ -222,7 +224,7 @@ pub(crate) fn wait_row(
     stand: &Stand,
     wait: bool,
 ) -> Result<Planned, AllocError>
-    ensures { IfOk result (λ planned. outcome planned ≡ wait_row method stand.now wait) }
+    ensures { IfOk result (λ planned. outcome planned ≡ wait_row method (scene stand.now) wait) }
 {
     match method {
         WaitMethod::StartAllProcesses => asks_all(alloc, Act::Start, stand, wait),
@@ -239,7 +241,7 @@ pub(crate) fn text_wait_row(
     wait: bool,
 ) -> Result<Planned, AllocError>
     ensures { IfOk result (λ planned. outcome planned
-        ≡ text_wait_row method stand.now name.now wait) }
+        ≡ text_wait_row method (scene stand.now) name.now wait) }
 {
     match method {
         TextWaitMethod::StartProcess => asks_named(alloc, Act::Start, stand, wait, name),
@@ -283,7 +285,7 @@ fn stdin_found(
     found: Found,
 ) -> Result<Planned, AllocError>
     ensures { IfOk result (λ planned. outcome planned
-        ≡ stdin_found stand.now name.now content.now found) }
+        ≡ stdin_found (scene stand.now) name.now content.now found) }
 {
     let Found::One(id) = found else {
         return refused_for(alloc, Fault::BadName, name.as_str());
@@ -307,7 +309,7 @@ pub(crate) fn texts_row(
     second: &Text,
 ) -> Result<Planned, AllocError>
     ensures { IfOk result (λ planned. outcome planned
-        ≡ texts_row method stand.now first.now second.now) }
+        ≡ texts_row method (scene stand.now) first.now second.now) }
 {
     match method {
         TextsMethod::SendProcessStdin => {

@@ -4,6 +4,7 @@ ghost use Rattle.sv_groups.specs.declared.lookup.Found.TheVariants.{Group};
 ghost use Rattle.sv_methods.specs.Acts.{signals_all, signals_found, signals_found_group};
 ghost use Rattle.sv_methods.specs.MethodTable.{signal_of};
 ghost use Rattle.sv_methods.specs.Outcomes.{outcome};
+ghost use Rattle.sv_methods.specs.Scenes.{scene};
 
 use crate::act::{Act, asks_all, asks_found, asks_group};
 use crate::planned::{Planned, refused_for};
@@ -33,7 +34,7 @@ pub(crate) fn signals_found(
 ) -> Result<Planned, AllocError>
     requires { (group : ℕ) → found ≡ Group group → group < length stand.now.roster.now }
     ensures { IfOk result (λ planned. outcome planned
-        ≡ signals_found stand.now name.now content.now signal found) }
+        ≡ signals_found (scene stand.now) name.now content.now signal found) }
 {
     if found == Found::Nothing {
         return refused_for(alloc, Fault::BadName, name.as_str());
@@ -55,7 +56,7 @@ pub(crate) fn signals_found_group(
 ) -> Result<Planned, AllocError>
     requires { (group : ℕ) → found ≡ Group group → group < length stand.now.roster.now }
     ensures { IfOk result (λ planned. outcome planned
-        ≡ signals_found_group stand.now name.now content.now signal found) }
+        ≡ signals_found_group (scene stand.now) name.now content.now signal found) }
 {
     let Found::Group(group) = found else {
         return refused_for(alloc, Fault::BadName, name.as_str());
@@ -73,7 +74,8 @@ pub(crate) fn signals_all(
     content: &Text,
     signal: Option<Signal>,
 ) -> Result<Planned, AllocError>
-    ensures { IfOk result (λ planned. outcome planned ≡ signals_all stand.now content.now signal) }
+    ensures { IfOk result (λ planned. outcome planned
+        ≡ signals_all (scene stand.now) content.now signal) }
 {
     match signal {
         Some(signal) => asks_all(alloc, Act::Signal(signal), stand, false),

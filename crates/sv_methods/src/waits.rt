@@ -2,6 +2,7 @@
 ghost use Rattle.std.specs.Prelude.{◌≡◌, ◌++◌, IfOk, OnOk, map};
 ghost use Rattle.std.specs.List.{list_any};
 ghost use Rattle.std.specs.Option.{option_map, option_copied};
+ghost use Rattle.sv_methods.specs.Scenes.{scene};
 ghost use Rattle.sv_methods.specs.Waits.{answer, checked, child_of, first_fault, is_due, is_waited_for, judged, judged_by, process_of, single, started, status_of, statuses, waits};
 ghost use Rattle.sv_xmlcall.specs.Trees.{reply_view, view};
 
@@ -25,7 +26,7 @@ pub fn check(
     waiting: &Waiting,
 ) -> Result<Option<Answered>, AllocError>
     ensures { IfOk result (λ answered. option_map reply_view answered
-        ≡ checked stand.now waiting.now) }
+        ≡ checked (scene stand.now) waiting.now) }
 {
     if waits(stand.children, waiting) {
         return Ok(None);
