@@ -336,6 +336,11 @@ deals_steps = record {
   ordered = λ spawning w. record { server = refl; all = []; pools = refl; more = order.Spawn spawning ∷ []; added = refl; told = refl };
   steered = λ course w. record { server = refl; all = []; pools = refl; more = []; added = sym (append-nil w.given); told = refl };
   ended = λ w. record { server = refl; all = []; pools = refl; more = order.Halt ∷ []; added = refl; told = refl };
+  linked = λ links w. record { server = refl; all = []; pools = refl; more = []; added = sym (append-nil w.given); told = refl };
+  replied = λ link bytes w. record { server = refl; all = []; pools = refl; more = order.Send link bytes ∷ []; added = refl; told = refl };
+  wanted = λ link w. record { server = refl; all = []; pools = refl; more = order.More link ∷ []; added = refl; told = refl };
+  closed = λ link w. record { server = refl; all = []; pools = refl; more = order.Close link ∷ []; added = refl; told = refl };
+  read = λ file start length w. record { server = refl; all = []; pools = refl; more = order.ReadFile file start length ∷ []; added = refl; told = refl };
   offered = offered;
   clocked = λ clock w. record { server = refl; all = []; pools = refl; more = []; added = sym (append-nil w.given); told = refl };
   booked = λ runs w. record { server = refl; all = []; pools = refl; more = []; added = sym (append-nil w.given); told = refl };

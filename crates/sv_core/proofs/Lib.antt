@@ -1,11 +1,13 @@
 mod Account
 mod Accounts
+mod LinkTests
 mod LogHistory
 mod Logged
 mod Moved
 mod Named
 mod NumbersBegin
 mod Reported
+mod Served
 mod Shown
 mod Standing
 mod Steps

@@ -246,6 +246,11 @@ keeps_steps = record {
   ordered = λ spawning w. record { all = []; sizes = refl; more = order.Spawn spawning ∷ []; added = refl; told = refl };
   steered = λ course w. record { all = []; sizes = refl; more = []; added = sym (append-nil w.given); told = refl };
   ended = λ w. record { all = []; sizes = refl; more = order.Halt ∷ []; added = refl; told = refl };
+  linked = λ links w. record { all = []; sizes = refl; more = []; added = sym (append-nil w.given); told = refl };
+  replied = λ link bytes w. record { all = []; sizes = refl; more = order.Send link bytes ∷ []; added = refl; told = refl };
+  wanted = λ link w. record { all = []; sizes = refl; more = order.More link ∷ []; added = refl; told = refl };
+  closed = λ link w. record { all = []; sizes = refl; more = order.Close link ∷ []; added = refl; told = refl };
+  read = λ file start length w. record { all = []; sizes = refl; more = order.ReadFile file start length ∷ []; added = refl; told = refl };
   offered = offered;
   clocked = λ clock w. record { all = []; sizes = refl; more = []; added = sym (append-nil w.given); told = refl };
   booked = λ runs w. record { all = []; sizes = refl; more = []; added = sym (append-nil w.given); told = refl };

@@ -246,6 +246,11 @@ goes_steps = record {
   };
   steered = λ course w. record { kept = refl; more = []; added = sym (append-nil w.given); walk = λ place p roster is. refl };
   ended = λ w. record { kept = refl; more = order.Halt ∷ []; added = refl; walk = λ place p roster is. refl };
+  linked = λ links w. record { kept = refl; more = []; added = sym (append-nil w.given); walk = λ place p roster is. refl };
+  replied = λ link bytes w. record { kept = refl; more = order.Send link bytes ∷ []; added = refl; walk = λ place p roster is. refl };
+  wanted = λ link w. record { kept = refl; more = order.More link ∷ []; added = refl; walk = λ place p roster is. refl };
+  closed = λ link w. record { kept = refl; more = order.Close link ∷ []; added = refl; walk = λ place p roster is. refl };
+  read = λ file start length w. record { kept = refl; more = order.ReadFile file start length ∷ []; added = refl; walk = λ place p roster is. refl };
   offered = λ kind fact w. adds_goes w (offers kind fact w) (offered kind fact w);
   clocked = λ clock w. adds_goes w (record w { clock = clock }) (adds_nothing w (record w { clock = clock }) refl refl);
   booked = λ runs w. adds_goes w (record w { runs = runs }) (adds_nothing w (record w { runs = runs }) refl refl);

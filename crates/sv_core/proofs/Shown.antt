@@ -20,6 +20,7 @@ use Rattle.sv_core.specs.Listening.{gives_back, hears, id_of, loses_of, tells, t
 use Rattle.sv_core.specs.Logging.{notes_if}
 use Rattle.sv_core.specs.Output.{takes_all, takes_part, takes_parts}
 use Rattle.sv_core.specs.Moves.{changed, comes, goes_edge, goes_edge_if, goes_edges, reported, says}
+use Rattle.sv_core.specs.Serving.{gives}
 use Rattle.sv_core.specs.StandsFor.{At, Shows, shown, stopped}
 use Rattle.sv_core.specs.Sweeps.{Turn}
 use Rattle.sv_core.specs.World.{World}
@@ -28,12 +29,16 @@ use Rattle.sv_events.specs.declared.fact.Fact.{Fact}
 use Rattle.sv_facts.specs.EdgeFacts.{fact_at, kind_of, pid_at}
 use Rattle.sv_lines.specs.EdgeLines.{line_at}
 use Rattle.sv_lines.specs.declared.line.Line.{Line}
+use Rattle.sv_links.specs.LinkBook.{LinkRecord}
+use Rattle.sv_links.specs.StandsFor as kept_links
+use Rattle.sv_links.specs.declared.links.Links.{Links}
 use Rattle.sv_out.specs.declared.order.Order.{Order}
 use Rattle.sv_pipes.specs.declared.parts.Part.{Part}
 use Rattle.sv_pipes.specs.declared.tokens.Token.{Token}
 use Rattle.sv_pools.specs.EventPools.{EventPools}
 use Rattle.sv_pools.specs.StandsFor as kept_pools
 use Rattle.sv_pools.specs.Listeners.{holds}
+use Rattle.sv_pools.specs.declared.pools.Pools.{Pools}
 use Rattle.sv_runs.specs.RunBook.{RunBook, heard, lost, new_tokens, teller}
 use Rattle.sv_runs.specs.StandsFor as kept_runs
 use Rattle.sv_runs.specs.declared.runs.Runs.{Runs}
@@ -44,19 +49,20 @@ use Rattle.sv_streams.specs.declared.streams.Streams.{Streams}
 
 -- what is made of each world that is written out from the fields is made of each that is shown
 pub made : (f : World → World) (x y : Machine)
-    → ((older : List Order) (pools : EventPools) (runs : RunBook) (streams : List StreamRecord) → kept_pools.StandsFor x.pools pools
-    → kept_runs.StandsFor x.runs runs → kept_streams.StandsFor x.streams streams → Shows y older (f (shown x older pools runs streams)))
+    → ((older : List Order) (pools : EventPools) (runs : RunBook) (streams : List StreamRecord) (links : List LinkRecord)
+    → kept_pools.StandsFor x.pools pools → kept_runs.StandsFor x.runs runs → kept_streams.StandsFor x.streams streams
+    → kept_links.StandsFor x.links links → Shows y older (f (shown x older pools runs streams links)))
     → Makes f x y
-made f x y goes older w s = subst (λ (u : World). Shows y older (f u)) (sym s.is) (goes older s.pools s.runs s.streams s.pools_kept s.runs_kept s.streams_kept)
+made f x y goes older w s = subst (λ (u : World). Shows y older (f u)) (sym s.is) (goes older s.pools s.runs s.streams s.links s.pools_kept s.runs_kept s.streams_kept s.links_kept)
 
 -- the same of a step that may ask
 pub stops : (step : World → (World → Turn) → Turn) (left : (World → Turn) → World → Turn) (x y : Machine)
-    → ((older : List Order) (pools : EventPools) (runs : RunBook) (streams : List StreamRecord) (k : World → Turn)
+    → ((older : List Order) (pools : EventPools) (runs : RunBook) (streams : List StreamRecord) (links : List LinkRecord) (k : World → Turn)
     → kept_pools.StandsFor x.pools pools → kept_runs.StandsFor x.runs runs → kept_streams.StandsFor x.streams streams
-    → At y older (step (shown x older pools runs streams) k) (left k))
+    → kept_links.StandsFor x.links links → At y older (step (shown x older pools runs streams links) k) (left k))
     → Stops step left x y
 stops step left x y goes older w k s =
-    subst (λ (u : World). At y older (step u k) (left k)) (sym s.is) (goes older s.pools s.runs s.streams k s.pools_kept s.runs_kept s.streams_kept)
+    subst (λ (u : World). At y older (step u k) (left k)) (sym s.is) (goes older s.pools s.runs s.streams s.links k s.pools_kept s.runs_kept s.streams_kept s.links_kept)
 
 -- a turn that is the same goes on in the same way
 pub at_same : (y : Machine) (older : List Order) (t u : Turn) (f : World → Turn) → t ≡ u → At y older u f → At y older t f
@@ -125,6 +131,8 @@ runs_there y older w change s runs step = record {
   runs_kept = step s.runs s.runs_kept;
   streams = s.streams;
   streams_kept = s.streams_kept;
+  links = s.links;
+  links_kept = s.links_kept;
 }
 
 -- one more token
@@ -214,6 +222,8 @@ streams_there y older w change s streams step = record {
   runs_kept = s.runs_kept;
   streams = change s.streams;
   streams_kept = step s.streams s.streams_kept;
+  links = s.links;
+  links_kept = s.links_kept;
 }
 
 -- one more part
@@ -236,3 +246,39 @@ all_taken z older owner owner' channel channel' parts parts' w is_owner is_chann
     subst (λ (o : Option Owner). Shows z older (takes_all o channel' parts' w)) is_owner
     (subst (λ (ch : Option Stream). Shows z older (takes_all owner ch parts' w)) is_channel
     (subst (λ (ps : List Part). Shows z older (takes_all owner channel ps w)) is_parts shows))
+
+-- the links are others
+pub links_there : (y : Machine) (older : List Order) (w : World) (change : List LinkRecord → List LinkRecord)
+    → Shows y older w → (links : Links)
+    → ((book : List LinkRecord) → kept_links.StandsFor y.links book → kept_links.StandsFor links (change book))
+    → Shows (record y { links = links }) older (record w { links = change w.links })
+links_there y older w change s links step = record {
+  pools = s.pools;
+  runs = s.runs;
+  is = ap (λ (v : World). record v { links = change v.links }) s.is;
+  pools_kept = s.pools_kept;
+  runs_kept = s.runs_kept;
+  streams = s.streams;
+  streams_kept = s.streams_kept;
+  links = change s.links;
+  links_kept = step s.links s.links_kept;
+}
+
+-- one more order is given
+pub order_there : (y z : Machine) (older : List Order) (w : World) (more : Order) → Shows y older w
+    → z ≡ record y { hand = record y.hand { given = z.hand.given } } → z.hand.given.items ≡ y.hand.given.items ++ more ∷ []
+    → Shows z older (gives more w)
+order_there y z older w more s same added = record {
+  pools = s.pools;
+  runs = s.runs;
+  is = ap (gives more) s.is
+      ∙ ap (λ (all : List Order). record (shown y older s.pools s.runs s.streams s.links) { given = all })
+      (append_assoc older y.hand.given.items (more ∷ []) ∙ ap (λ (orders : List Order). older ++ orders) (sym added))
+      ∙ ap (λ (m : Machine). shown m older s.pools s.runs s.streams s.links) (sym same);
+  pools_kept = subst (λ (pools : Pools). kept_pools.StandsFor pools s.pools) (sym (ap (λ (m : Machine). m.pools) same)) s.pools_kept;
+  runs_kept = subst (λ (runs : Runs). kept_runs.StandsFor runs s.runs) (sym (ap (λ (m : Machine). m.runs) same)) s.runs_kept;
+  streams = s.streams;
+  streams_kept = subst (λ (streams : Streams). kept_streams.StandsFor streams s.streams) (sym (ap (λ (m : Machine). m.streams) same)) s.streams_kept;
+  links = s.links;
+  links_kept = subst (λ (links : Links). kept_links.StandsFor links s.links) (sym (ap (λ (m : Machine). m.links) same)) s.links_kept;
+}

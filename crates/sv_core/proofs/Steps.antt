@@ -2,6 +2,12 @@
 use Rattle.std.proofs.Common.{ℕ, zero, suc, ◌+◌, ◌++◌, List, [], ◌∷◌, Bool, true, false, ◌&&◌, ◌||◌, Option, Some, None, subst, sym, if◌then◌else◌}
 use Rattle.std.specs.Prelude.{◌-◌, length, nat_le, codes, slice_get}
 use Rattle.std.specs.Str.{bytes_eq}
+use Rattle.sv_answers.specs.Served.{reads_back, serves}
+use Rattle.sv_answers.specs.declared.served.Reading.{Reading}
+use Rattle.sv_answers.specs.declared.served.Sent.{Sent}
+use Rattle.sv_answers.specs.declared.served.Served.{Served}
+use Rattle.sv_answers.specs.declared.served.Served.TheVariants.{Replies, Reads}
+use Rattle.sv_base.specs.declared.ids.LinkId.{LinkId}
 use Rattle.sv_base.specs.declared.ids.Run.{Run}
 use Rattle.sv_base.specs.declared.kind.Kind.{Kind}
 use Rattle.sv_base.specs.declared.kind.Kind.TheVariants as kind
@@ -33,15 +39,16 @@ use Rattle.sv_core.specs.Failure.{failed, failures_told, refusal}
 use Rattle.sv_core.specs.MachineState.{Model, hand, failure_named, now, next, next_part, turn_of, accepts}
 use Rattle.sv_core.specs.Moves.{answered, begins_as, begins_output, begins_output_of, comes, fails, is_listener_of, kills, moves, orders_spawn, says, started_as, told_of}
 use Rattle.sv_core.specs.Parts.{part_of}
+use Rattle.sv_core.specs.Serving.{asks_for, awaits_read, closes_all, closes_behind, closes_links, comes_to, file_reply, gives, gives_more, guard_at, opens, opens_for, replies, scene_of, sends_reply, serves_all, serves_ask, serves_asks, serves_link, serves_next, welcome}
 use Rattle.sv_core.specs.Shutdown.{drops_group, follows_plan, halts, halts_after, has_come_to_rest, heeds, in_mood, is_ending, moves_on, tells_group}
 use Rattle.sv_core.specs.Stops.{signals, stops, stops_from, stops_all}
 use Rattle.sv_core.specs.Sweeps.{Turn, asks, carries_out, does, does_noted, meets, spawns, spawns_as, sweeps, sweeps_all, sweeps_over}
 use Rattle.sv_core.specs.Sweeps.Turn.{Done, Ask}
-use Rattle.sv_core.specs.Turn.{after_pass, after_stimulus, applies, came, come, failed_at, rewinds, turn, world_of}
+use Rattle.sv_core.specs.Turn.{after_links, after_pass, after_stimulus, applies, came, come, failed_at, rewinds, turn, world_of}
 use Rattle.sv_core.specs.World.{World}
 use Rattle.sv_core.specs.declared.course.Course.{Course}
 use Rattle.sv_core.specs.declared.failure.Failure.{Failure}
-use Rattle.sv_core.specs.declared.failure.Failure.TheVariants.{NeverFails, ChangesNothing, LosesStdin, RefusesQuestion}
+use Rattle.sv_core.specs.declared.failure.Failure.TheVariants.{NeverFails, ChangesNothing, LosesStdin, LosesLink, RefusesQuestion}
 use Rattle.sv_core.specs.declared.part.Cause.{Cause}
 use Rattle.sv_core.specs.declared.part.Cause.TheVariants as cause_is
 use Rattle.sv_core.specs.declared.part.Followed.{Followed}
@@ -56,6 +63,11 @@ use Rattle.sv_events.specs.declared.fact.Fact.{Fact}
 use Rattle.sv_events.specs.declared.fact.Fact.TheVariants as fact
 use Rattle.sv_groups.specs.StartOrder.{span_of}
 use Rattle.sv_groups.specs.declared.order.Span.{Span}
+use Rattle.sv_http.specs.declared.ask.Ask.{Ask as Request}
+use Rattle.sv_http.specs.declared.guard.Guard.{Guard}
+use Rattle.sv_links.specs.LinkBook as link_book
+use Rattle.sv_links.specs.LinkBook.{LinkRecord}
+use Rattle.sv_links.specs.LinkBook.Ending.{Closed, Ended, Failed as Lost}
 use Rattle.sv_out.specs.declared.input.Input.{Input}
 use Rattle.sv_out.specs.declared.order.Order.TheVariants as order
 use Rattle.sv_out.specs.declared.order.SpawnOrder.{SpawnOrder}
@@ -99,6 +111,11 @@ pub record Steps (R : World → World → Type 0) : Type 0 where
   pub sent : (run : Run) (c : ℕ) (w : World) → R w (sends run c w)
   pub logged : (log : LogSpec) (piece : List ℕ) (w : World) → R w (logs log piece w)
   pub written : (streams : List StreamRecord) (w : World) → R w (record w { streams = streams })
+  pub linked : (links : List LinkRecord) (w : World) → R w (record w { links = links })
+  pub replied : (link : LinkId) (bytes : List ℕ) (w : World) → R w (gives (order.Send link bytes) w)
+  pub wanted : (link : LinkId) (w : World) → R w (gives (order.More link) w)
+  pub closed : (link : LinkId) (w : World) → R w (gives (order.Close link) w)
+  pub read : (file : List ℕ) (start length : ℕ) (w : World) → R w (gives (order.ReadFile file start length) w)
 
 module _ (R : World → World → Type 0) (s : Steps R) where
   pub leads : (w v : World) (t : Turn) → R w v → From R v t → From R w t
@@ -362,12 +379,98 @@ module _ (R : World → World → Type 0) (s : Steps R) where
   kept_follows_plan : (w : World) → R w (follows_plan w)
   kept_follows_plan w = by_test (is_running w.course.mood) w w (moves_on w.course.left w) (s.same w) (kept_moves_on w.course.left w)
 
+  -- ---- links
+
+  kept_closes_all : (links : List LinkId) (w : World) → R w (closes_all links w)
+  kept_closes_all [] w = s.same w
+  kept_closes_all (link ∷ links) w =
+      let u = gives (order.Close link) w in
+      let v = record u { links = link_book.ended link Closed w.links } in
+      s.follow w u (closes_all links v) (s.closed link w) (s.follow u v (closes_all links v) (s.linked v.links u) (kept_closes_all links v))
+
+  kept_welcome : (link : LinkId) (b : Bool) (w : World) → R w (gives (welcome link b) w)
+  kept_welcome link true w = s.wanted link w
+  kept_welcome link false w = s.closed link w
+
+  kept_opens : (link : LinkId) (guard : Option Guard) (w : World) → R w (opens_for link guard w)
+  kept_opens link None w = s.same w
+  kept_opens link (Some guard) w =
+      let u = record w { links = link_book.opened guard w.links } in
+      s.follow w u (opens_for link (Some guard) w) (s.linked u.links w) (kept_welcome link (link_book.has_room w.links) u)
+
+  kept_behind : (closes : Bool) (link : LinkId) (w : World) → R w (closes_behind closes link w)
+  kept_behind true link w = s.closed link w
+  kept_behind false link w = s.same w
+
+  kept_replies : (link : LinkId) (sent : Sent) (w : World) → R w (replies link sent w)
+  kept_replies link sent w =
+      let u = record w { links = link_book.answered link sent.closes w.links } in
+      let v = gives (order.Send link sent.text) u in
+      by_test (link_book.is_sent link w.links) w (sends_reply link sent u) u
+      (s.follow w u (sends_reply link sent u) (s.linked u.links w)
+      (s.follow u v (sends_reply link sent u) (s.replied link sent.text u) (kept_behind sent.closes link v)))
+      (s.linked u.links w)
+
+  kept_more : (link : LinkId) (w : World) → R w (gives_more link w)
+  kept_more link w =
+      let u = record w { links = link_book.more_given link w.links } in
+      by_test (link_book.more_is_due link w.links) w (gives (order.More link) u) u
+      (s.follow w u (gives (order.More link) u) (s.linked u.links w) (s.wanted link u)) (s.linked u.links w)
+
+  kept_awaits : (link : LinkId) (reading : Reading) (w : World) (k : World → Turn) → ((v : World) → From R v (k v))
+      → From R w (awaits_read link reading w k)
+  unfolding awaits_read
+  kept_awaits link reading w k goes = (
+    s.same w,
+    λ v reply.
+        let u = replies link (reads_back reading (file_reply reply)) v in
+        leads v u (k u) (kept_replies link (reads_back reading (file_reply reply)) v) (goes u),
+  )
+
+  kept_comes_to : (link : LinkId) (served : Served) (w : World) (k : World → Turn) → ((v : World) → From R v (k v))
+      → From R w (comes_to link served w k)
+  kept_comes_to link (Replies sent) w k goes =
+      leads w (replies link sent w) (k (replies link sent w)) (kept_replies link sent w) (goes (replies link sent w))
+  kept_comes_to link (Reads reading) w k goes =
+      let u = asks_for reading w in
+      leads w u (awaits_read link reading u k) (s.read reading.file reading.span.start reading.span.length w)
+      (kept_awaits link reading u k goes)
+
+  kept_serves_ask : (link : LinkId) (ask : Option Request) (w : World) (k : World → Turn) → ((v : World) → From R v (k v))
+      → From R w (serves_ask link ask w k)
+  kept_serves_ask link None w k goes = goes w
+  kept_serves_ask link (Some ask) w k goes = kept_comes_to link (serves (scene_of w) w.moment ask) w k goes
+
+  kept_serves_next : (link : LinkId) (w : World) (k : World → Turn) → ((v : World) → From R v (k v)) → From R w (serves_next link w k)
+  kept_serves_next link w k goes =
+      let u = record w { links = link_book.taken link w.links } in
+      let ask = link_book.ask_at link w.links in
+      leads w u (serves_ask link ask u k) (s.linked u.links w) (kept_serves_ask link ask u k goes)
+
+  kept_serves_asks : (left : ℕ) (link : LinkId) (w : World) (k : World → Turn) → ((v : World) → From R v (k v))
+      → From R w (serves_asks left link w k)
+  kept_serves_asks zero link w k goes = goes w
+  kept_serves_asks (suc left) link w k goes =
+      kept_serves_next link w (λ v. serves_asks left link v k) (λ v. kept_serves_asks left link v k goes)
+
+  kept_serves_link : (link : LinkId) (w : World) (k : World → Turn) → ((v : World) → From R v (k v)) → From R w (serves_link link w k)
+  kept_serves_link link w k goes =
+      kept_serves_asks (link_book.left_at link w.links) link w (λ v. k (gives_more link v))
+      (λ v. leads v (gives_more link v) (k (gives_more link v)) (kept_more link v) (goes (gives_more link v)))
+
+  kept_serves_all : (links : List LinkId) (w : World) (k : World → Turn) → ((v : World) → From R v (k v)) → From R w (serves_all links w k)
+  kept_serves_all [] w k goes = goes w
+  kept_serves_all (link ∷ links) w k goes =
+      kept_serves_link link w (λ v. serves_all links v k) (λ v. kept_serves_all links v k goes)
+
   kept_halts : (w : World) → R w (halts w)
   kept_halts w = by_test (is_running w.course.mood) w w (halts_after w.course.left w) (s.same w) (kept_after_plan w.course.left w) where
     kept_after_plan : (left : ℕ) (v : World) → R v (halts_after left v)
     kept_after_plan zero v =
-        let ended = record v { given = v.given ++ order.Halt ∷ [] } in
-        s.follow v ended (halts_after zero v) (s.ended v) (s.steered (record v.course { halted = true }) ended)
+        let closed = closes_links v in
+        let ended = record closed { given = closed.given ++ order.Halt ∷ [] } in
+        s.follow v closed (halts_after zero v) (kept_closes_all (link_book.open_links v.links) v)
+        (s.follow closed ended (halts_after zero v) (s.ended closed) (s.steered (record closed.course { halted = true }) ended))
     kept_after_plan (suc left) v = s.same v
 
   kept_heeds : (signal : Signal) (w : World) → R w (heeds signal w)
@@ -377,13 +480,16 @@ module _ (R : World → World → Type 0) (s : Steps R) where
       (s.follow w ending (offers_change kind.SupervisorStateChangeStopping ending) (s.steered (record w.course { mood = mood_is.Shutdown }) w)
       (kept_change kind.SupervisorStateChangeStopping ending)) (s.same w)
 
-  kept_after_pass : (w : World) → From R w (after_pass w)
-  kept_after_pass w =
+  kept_after_links : (w : World) → From R w (after_links w)
+  kept_after_links w =
       let v = follows_plan w in (
         s.follow w v (halts (hands_out v)) (kept_follows_plan w)
             (s.follow v (hands_out v) (halts (hands_out v)) (kept_hands_out v) (kept_halts (hands_out v))),
         tt,
       )
+
+  kept_after_pass : (w : World) → From R w (after_pass w)
+  kept_after_pass w = kept_serves_all (link_book.busy_links w.links) w after_links kept_after_links
 
   kept_after_stimulus : (w : World) → From R w (after_stimulus w)
   kept_after_stimulus w =
@@ -403,7 +509,15 @@ module _ (R : World → World → Type 0) (s : Steps R) where
       let v = hears_on stream run bytes w in leads w v (after_stimulus v) (kept_hears_on stream run bytes w) (kept_after_stimulus v)
   kept_applies (cause_is.PipeEnd run stream) w =
       let v = ends_pipe run stream w in leads w v (after_stimulus v) (kept_ends_pipe run stream w) (kept_after_stimulus v)
-  kept_applies cause_is.Link w = kept_after_stimulus w
+  kept_applies (cause_is.Opened link side) w =
+      let v = opens link side w in
+      leads w v (after_stimulus v) (kept_opens link (guard_at side w.config.servers) w) (kept_after_stimulus v)
+  kept_applies (cause_is.Brought link bytes) w =
+      let v = record w { links = link_book.fed link bytes w.links } in
+      leads w v (after_stimulus v) (s.linked v.links w) (kept_after_stimulus v)
+  kept_applies (cause_is.LinkEnd link) w =
+      let v = record w { links = link_book.ended link Ended w.links } in
+      leads w v (after_stimulus v) (s.linked v.links w) (kept_after_stimulus v)
   kept_applies (cause_is.Start name) w = kept_start (is_running w.course.mood) (span_meant name w.children.roster) w
   kept_applies (cause_is.Stop name) w =
       let v = stops_all (span_meant name w.children.roster) w in
@@ -419,6 +533,7 @@ module _ (R : World → World → Type 0) (s : Steps R) where
 
   pub kept_failure : (failure : Failure) (w : World) → R w (failed failure w)
   kept_failure (LosesStdin run) w = kept_loses run w
+  kept_failure (LosesLink link) w = s.linked (link_book.ended link Lost w.links) w
   kept_failure RefusesQuestion w = s.same w
   kept_failure ChangesNothing w = s.same w
   kept_failure NeverFails w = s.same w
@@ -428,6 +543,7 @@ module _ (R : World → World → Type 0) (s : Steps R) where
   kept_failed RefusesQuestion w q k goes = goes w (refusal q)
   kept_failed ChangesNothing w q k goes = (s.same w, goes)
   kept_failed (LosesStdin run) w q k goes = (kept_loses run w, goes)
+  kept_failed (LosesLink link) w q k goes = (s.linked (link_book.ended link Lost w.links) w, goes)
   kept_failed NeverFails w q k goes = (s.same w, goes)
 
   pub kept_come : (t : Turn) (f : Followed) → Onward R t → From R (world_of t) (come t f)

@@ -51,6 +51,19 @@ ChangesCourse old new = new ≡ record old {
   hand = record old.hand { given = new.hand.given };
 }
 
+-- the links are served
+abbrev pub ServesLinks : Machine → Machine → Type 0
+ServesLinks old new =
+    new ≡ record old { links = new.links; hand = record old.hand { given = new.hand.given } }
+
+-- the links are closed, and the daemon's course ends
+abbrev pub EndsCourse : Machine → Machine → Type 0
+EndsCourse old new = new ≡ record old {
+  course = new.course;
+  links = new.links;
+  hand = record old.hand { given = new.hand.given };
+}
+
 -- children move, and the daemon's course changes
 abbrev pub MovesPlan : Machine → Machine → Type 0
 MovesPlan old new = new ≡ record old {
@@ -70,6 +83,7 @@ MovesOn old new = new ≡ record old {
   sizes = new.sizes;
   runs = new.runs;
   streams = new.streams;
+  links = new.links;
   numbers = record old.numbers { next_run = new.numbers.next_run };
   hand = record old.hand { given = new.hand.given };
 }
@@ -84,6 +98,7 @@ GoesOn old new = new ≡ record old {
   sizes = new.sizes;
   runs = new.runs;
   streams = new.streams;
+  links = new.links;
   numbers = record old.numbers { next_run = new.numbers.next_run };
   hand = new.hand;
 }

@@ -7,6 +7,7 @@ pub mod Output
 pub mod HandingOut
 pub mod Stops
 pub mod Sweeps
+pub mod Serving
 pub mod Shutdown
 pub mod Failure
 pub mod Parts

@@ -1,12 +1,16 @@
 -- The machine: its state, which inputs it accepts, and what comes next.
-use Rattle.std.specs.Prelude.{ℕ, List, [], ◌∷◌, ◌++◌, Option, Some, None, Bool, true, false, ◌&&◌, not, nat_lt, is_none, length, drop, map, slice_get, ◌^◌, ◌%◌}
+use Rattle.std.specs.Prelude.{ℕ, List, [], ◌∷◌, ◌++◌, Option, Some, None, Bool, true, false, ◌&&◌, not, nat_lt, is_none, is_some, length, drop, map, slice_get, ◌^◌, ◌%◌}
 use Rattle.std.specs.List.{list_all}
 use Rattle.sv_base.specs.declared.config.Config.{Config}
 use Rattle.sv_base.specs.declared.config.Host.{Host}
+use Rattle.sv_base.specs.declared.config.ServerSpec.{ServerSpec}
+use Rattle.sv_base.specs.declared.ids.LinkId.{LinkId}
+use Rattle.sv_base.specs.declared.ids.Run.{Run}
 use Rattle.sv_base.specs.declared.state.Mood.TheVariants as mood_is
 use Rattle.sv_children.specs.Crew.{new_crew}
 use Rattle.sv_core.specs.Failure.{behind, can_fail, failure_of, failures_told}
 use Rattle.sv_core.specs.Parts.{fits, part_of}
+use Rattle.sv_core.specs.Serving.{server_of}
 use Rattle.sv_core.specs.Sweeps.{Turn}
 use Rattle.sv_core.specs.Sweeps.Turn.{Done}
 use Rattle.sv_core.specs.Turn.{turn, came, world_of, asked_of}
@@ -21,6 +25,7 @@ use Rattle.sv_core.specs.declared.part.Part.TheVariants.{Begins, Answers, Fails}
 use Rattle.sv_core.specs.declared.part.Question.{Question}
 use Rattle.sv_files.specs.Opening.{opening_sizes}
 use Rattle.sv_groups.specs.StartOrder.{processes}
+use Rattle.sv_links.specs.LinkBook.{LinkRecord, is_issued, is_next, takes_piece}
 use Rattle.sv_out.specs.declared.input.Input.{Input}
 use Rattle.sv_out.specs.declared.order.Order.{Order}
 use Rattle.sv_pools.specs.EventPools as all_pools
@@ -78,6 +83,7 @@ opening config sizes host = resting (record {
   pools = all_pools.opening config.groups;
   runs = all_runs.opening (length (processes config.groups));
   streams = [];
+  links = [];
   given = [];
 })
 
@@ -90,26 +96,54 @@ failure_named m number =
 abbrev pub can_be_named : Model → ℕ → Bool
 can_be_named m number = can_fail (failure_named m number) && list_all (λ n. nat_lt n number) m.named
 
--- the run that a cause names was issued; no link is
-abbrev pub is_issued : Cause → ℕ → Bool
-is_issued (cause_is.Exit run how) next_run = nat_lt 0 run.0 && nat_lt run.0 next_run
-is_issued (cause_is.Heard run stream bytes) next_run = nat_lt 0 run.0 && nat_lt run.0 next_run
-is_issued (cause_is.PipeEnd run stream) next_run = nat_lt 0 run.0 && nat_lt run.0 next_run
-is_issued cause_is.Link next_run = false
-is_issued cause next_run = true
+-- what is asked of the number of a link: whether it is the next, whether a link of it was opened, and whether a piece of
+-- that may come
+pub record LinkTests : Type 0 where
+  pub next : LinkId → Bool
+  pub opened : LinkId → Bool
+  pub brings : LinkId → Bool
 
--- a turn begins while no question stands, and a run that it names must have been issued; an answer is accepted where it
--- fits the question that stands; and a failed order where it can be named
-abbrev pub is_accepted : Part → Option Question → ℕ → (ℕ → Bool) → Bool
-is_accepted (Begins at cause) asked next_run named = is_none asked && is_issued cause next_run
-is_accepted (Answers reply) asked next_run named = fits asked reply
-is_accepted (Fails number) asked next_run named = named number
+-- the same of a book of links
+abbrev pub tests_of : List LinkRecord → LinkTests
+tests_of links = record {
+  next = λ link. is_next link links;
+  opened = λ link. is_issued link links;
+  brings = λ link. takes_piece link links;
+}
+
+-- a run of this number was issued
+abbrev pub is_issued_run : Run → ℕ → Bool
+is_issued_run run next_run = nat_lt 0 run.0 && nat_lt run.0 next_run
+
+-- a run that a cause names was issued, and a link opened; a link is opened by the next number and where there is a server, and
+-- a piece of it comes where its last order is More
+abbrev pub may_begin : Cause → ℕ → LinkTests → List ServerSpec → Bool
+may_begin (cause_is.Exit run how) next_run links servers = is_issued_run run next_run
+may_begin (cause_is.Heard run stream bytes) next_run links servers = is_issued_run run next_run
+may_begin (cause_is.PipeEnd run stream) next_run links servers = is_issued_run run next_run
+may_begin (cause_is.Opened link side) next_run links servers =
+    links.next link && is_some (server_of side servers)
+may_begin (cause_is.Brought link bytes) next_run links servers =
+    links.opened link && links.brings link
+may_begin (cause_is.LinkEnd link) next_run links servers = links.opened link
+may_begin cause next_run links servers = true
+
+-- a turn begins while no question stands, and may begin; an answer is accepted where it fits the question that stands; and a
+-- failed order where it can be named
+abbrev pub is_accepted : Part → Option Question → (Cause → Bool) → (ℕ → Bool) → Bool
+is_accepted (Begins at cause) asked may named = is_none asked && may cause
+is_accepted (Answers reply) asked may named = fits asked reply
+is_accepted (Fails number) asked may named = named number
+
+-- a turn may begin so in this world
+abbrev pub may_begin_in : World → Cause → Bool
+may_begin_in w cause = may_begin cause w.next_run (tests_of w.links) w.config.servers
 
 -- after the halt nothing is accepted
 abbrev pub accepts : Model → Input → Bool
 accepts m input =
     not (now m).course.halted
-    && is_accepted (part_of input) (asked_of (hand m)) (now m).next_run (can_be_named m)
+    && is_accepted (part_of input) (asked_of (hand m)) (may_begin_in (now m)) (can_be_named m)
 
 -- a turn begins, is answered, or has an order that failed
 abbrev pub next_part : Model → Part → Model

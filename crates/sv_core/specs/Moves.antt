@@ -17,7 +17,7 @@ use Rattle.sv_core.specs.Events.{offers_if}
 use Rattle.sv_core.specs.Logging.{notes_if}
 use Rattle.sv_core.specs.World.{World}
 use Rattle.sv_core.specs.declared.part.Reply.{Reply}
-use Rattle.sv_core.specs.declared.part.Reply.TheVariants.{Started, NoFile, NotExecutable, Refused, OfFile}
+use Rattle.sv_core.specs.declared.part.Reply.TheVariants.{Started, NoFile, NotExecutable, Refused}
 use Rattle.sv_facts.specs.EdgeFacts.{fact_at, kind_of, pid_at}
 use Rattle.sv_lines.specs.EdgeLines.{line_at, spawned_at}
 use Rattle.sv_out.specs.declared.order.Order.TheVariants as order
@@ -77,7 +77,7 @@ told_of (Started pid) = told.Started pid
 told_of NoFile = told.NotStarted (codes "can't find command")
 told_of NotExecutable = told.NotStarted (codes "command is not executable")
 told_of (Refused text) = told.NotStarted text
-told_of OfFile = told.NotStarted (codes "failed")
+told_of reply = told.NotStarted (codes "failed")
 
 -- the process of a place is a listener
 abbrev pub is_listener_of : Option Member → Bool

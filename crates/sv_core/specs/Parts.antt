@@ -1,6 +1,5 @@
--- What an input is to the machine: it begins a turn, it answers a question, or it says that an order failed. Links aren't
--- served yet, and files aren't asked for.
-use Rattle.std.specs.Prelude.{Bool, true, false, Option, Some, None}
+-- What an input is to the machine: it begins a turn, it answers a question, or it says that an order failed.
+use Rattle.std.specs.Prelude.{Bool, true, false, Option, Some, None, length, nat_le}
 use Rattle.sv_core.specs.declared.part.Cause.TheVariants as cause
 use Rattle.sv_core.specs.declared.part.Part.{Part}
 use Rattle.sv_core.specs.declared.part.Part.TheVariants.{Begins, Answers, Fails}
@@ -17,9 +16,9 @@ part_of (Tick at) = Begins at cause.Tick
 part_of (Exit at run how) = Begins at (cause.Exit run how)
 part_of (Out at run stream bytes) = Begins at (cause.Heard run stream bytes)
 part_of (OutEnd at run stream) = Begins at (cause.PipeEnd run stream)
-part_of (Open at link side) = Begins at cause.Link
-part_of (Piece at link bytes) = Begins at cause.Link
-part_of (LinkEnd at link) = Begins at cause.Link
+part_of (Open at link side) = Begins at (cause.Opened link side)
+part_of (Piece at link bytes) = Begins at (cause.Brought link bytes)
+part_of (LinkEnd at link) = Begins at (cause.LinkEnd link)
 part_of (Start at name) = Begins at (cause.Start name)
 part_of (Stop at name) = Begins at (cause.Stop name)
 part_of (Signal at signal) = Begins at (cause.Signal signal)
@@ -27,16 +26,23 @@ part_of (Pid pid) = Answers (reply.Started pid)
 part_of NoFile = Answers reply.NoFile
 part_of NotExecutable = Answers reply.NotExecutable
 part_of (Refused text) = Answers (reply.Refused text)
-part_of (Read bytes) = Answers reply.OfFile
-part_of Done = Answers reply.OfFile
-part_of Missing = Answers reply.OfFile
+part_of (Read bytes) = Answers (reply.Read bytes)
+part_of Done = Answers reply.Done
+part_of Missing = Answers reply.Missing
 part_of (Failed number) = Fails number
 
--- an answer fits the question that stands: these four fit a spawn
+-- an answer fits the question that stands: these four fit a spawn; and no more bytes than were asked for, or that there is no
+-- such file, a read
 abbrev pub fits : Option Question → Reply → Bool
 fits (Some question.Spawn) (reply.Started pid) = true
 fits (Some question.Spawn) reply.NoFile = true
 fits (Some question.Spawn) reply.NotExecutable = true
 fits (Some question.Spawn) (reply.Refused text) = true
-fits (Some question.Spawn) reply.OfFile = false
-fits None reply = false
+fits (Some (question.Read most)) (reply.Read bytes) = nat_le (length bytes) most
+fits (Some (question.Read most)) reply.Missing = true
+fits asked reply = false
+
+-- an input answers the question that stands, if one stands
+abbrev pub answers : Option Question → Part → Bool
+answers asked (Answers given) = fits asked given
+answers asked part = false

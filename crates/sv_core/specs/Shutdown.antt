@@ -9,6 +9,7 @@ use Rattle.sv_base.specs.declared.state.Mood.TheVariants as mood_is
 use Rattle.sv_child.specs.Moves.{is_running}
 use Rattle.sv_children.specs.Spans.{are_at_rest}
 use Rattle.sv_core.specs.Events.{offers_change}
+use Rattle.sv_core.specs.Serving.{closes_links}
 use Rattle.sv_core.specs.Stops.{stops_all}
 use Rattle.sv_core.specs.World.{World}
 use Rattle.sv_groups.specs.StartOrder.{span_of}
@@ -56,9 +57,11 @@ moves_on (suc left) w =
 abbrev pub follows_plan : World → World
 follows_plan w = if is_running w.course.mood then w else moves_on w.course.left w
 
--- no group is left: the daemon halts
+-- no group is left: the links that are open get Close, and the daemon halts
 abbrev pub halts_after : ℕ → World → World
-halts_after zero w = record w { course = record w.course { halted = true }; given = w.given ++ order.Halt ∷ [] }
+halts_after zero w =
+    let closed = closes_links w in
+    record closed { course = record closed.course { halted = true }; given = closed.given ++ order.Halt ∷ [] }
 halts_after (suc left) w = w
 
 -- step 8: only while the daemon ends

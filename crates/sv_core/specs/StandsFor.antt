@@ -1,13 +1,16 @@
 -- What the machine keeps, and which state of the model it stands for.
 use Rattle.std.specs.Prelude.{◌≡◌, ◌≤◌, ℕ, List, [], ◌++◌, Option, Some, None, Bool, true, false, not, ◌&&◌, if◌then◌else◌, nat_lt, length, drop, map, slice_get, ◌-◌, ◌+◌, ◌^◌, ◌%◌}
 use Rattle.std.specs.List.{list_all}
+use Rattle.sv_answers.specs.declared.served.Reading.{Reading}
+use Rattle.sv_base.specs.declared.ids.LinkId.{LinkId}
 use Rattle.sv_children.specs.declared.news.News.{News}
 use Rattle.sv_core.specs.Failure.{behind, can_fail, failure_of, failures_told}
-use Rattle.sv_core.specs.MachineState.{Model, hand, is_accepted}
+use Rattle.sv_core.specs.MachineState.{LinkTests, Model, hand, is_accepted, may_begin}
 use Rattle.sv_core.specs.Parts.{part_of}
+use Rattle.sv_core.specs.Serving.{awaits_read, gives_more, serves_all, serves_asks}
 use Rattle.sv_core.specs.Sweeps.{Turn, asks, sweeps}
 use Rattle.sv_core.specs.Sweeps.Turn.{Done}
-use Rattle.sv_core.specs.Turn.{turn, come, came, world_of, after_pass, after_stimulus}
+use Rattle.sv_core.specs.Turn.{turn, come, came, world_of, after_links, after_pass, after_stimulus}
 use Rattle.sv_core.specs.World.{World}
 use Rattle.sv_core.specs.declared.failure.Failure.{Failure}
 use Rattle.sv_core.specs.declared.machine.Machine.{Machine}
@@ -17,11 +20,19 @@ use Rattle.sv_core.specs.declared.part.Part.{Part}
 use Rattle.sv_core.specs.declared.part.Part.TheVariants.{Begins, Answers, Fails}
 use Rattle.sv_core.specs.declared.part.Question.{Question}
 use Rattle.sv_core.specs.declared.part.Question.TheVariants as question
+use Rattle.sv_core.specs.declared.part.Cause.{Cause}
+use Rattle.sv_core.specs.declared.part.Cause.TheVariants as cause_is
 use Rattle.sv_core.specs.declared.place.Asked.{Asked}
+use Rattle.sv_core.specs.declared.place.Asking.{Asking}
 use Rattle.sv_core.specs.declared.place.Paused.{Paused}
 use Rattle.sv_core.specs.declared.place.Place.{Place}
-use Rattle.sv_core.specs.declared.place.Place.TheVariants.{Stimulus, Pass}
+use Rattle.sv_core.specs.declared.place.Place.TheVariants.{Stimulus, Pass, Links as InLinks}
+use Rattle.sv_core.specs.declared.place.Serving.{Serving}
 use Rattle.sv_core.specs.declared.place.Stop.{Stop}
+use Rattle.sv_links.specs.LinkBook.{LinkRecord}
+use Rattle.sv_links.specs.StandsFor as kept_links
+use Rattle.sv_links.specs.StandsFor.{follows, has_opened, may_bring}
+use Rattle.sv_links.specs.declared.links.Links.{Links}
 use Rattle.sv_out.specs.declared.input.Input.{Input}
 use Rattle.sv_out.specs.declared.order.Order.{Order}
 use Rattle.sv_pools.specs.EventPools.{EventPools}
@@ -31,9 +42,9 @@ use Rattle.sv_runs.specs.StandsFor as kept_runs
 use Rattle.sv_streams.specs.StandsFor as kept_streams
 use Rattle.sv_streams.specs.StreamBook.{StreamRecord}
 
--- the world that the machine's fields show, after these older orders and with these pools and runs
-abbrev pub shown : Machine → List Order → EventPools → RunBook → List StreamRecord → World
-shown x older pools runs streams = record {
+-- the world that the machine's fields show, after these older orders and with these pools, runs, output and links
+abbrev pub shown : Machine → List Order → EventPools → RunBook → List StreamRecord → List LinkRecord → World
+shown x older pools runs streams links = record {
   config = x.config;
   pid = x.pid;
   children = x.children;
@@ -45,19 +56,23 @@ shown x older pools runs streams = record {
   pools = pools;
   runs = runs;
   streams = streams;
+  links = links;
   given = older ++ x.hand.given.items;
 }
 
 -- the machine shows this world, after these older orders: of its pools it keeps the events that wait or are held, of its
--- runs those that aren't over, and of what these wrote what isn't decided
+-- runs those that aren't over, of what these wrote what isn't decided, and of its links those that are open or have a request
+-- in hand
 pub record Shows (x : Machine) (older : List Order) (w : World) : Type 0 where
   pub pools : EventPools
   pub runs : RunBook
   pub streams : List StreamRecord
-  pub is : w ≡ shown x older pools runs streams
+  pub links : List LinkRecord
+  pub is : w ≡ shown x older pools runs streams links
   pub pools_kept : kept_pools.StandsFor x.pools pools
   pub runs_kept : kept_runs.StandsFor x.runs runs
   pub streams_kept : kept_streams.StandsFor x.streams streams
+  pub links_kept : kept_links.StandsFor x.links links
 
 -- a turn goes on from a world that the machine shows
 pub record At (x : Machine) (older : List Order) (t : Turn) (f : World → Turn) : Type 0 where
@@ -81,17 +96,40 @@ unfoldable pub paused : Option Paused → (World → Turn) → World → Turn
 paused None k w = k w
 paused (Some p) k w = swept p.news p.to (Some p.stop) k w
 
+-- a request of a link that asked for a read, or that was answered
+unfoldable pub reading : LinkId → Option Reading → (World → Turn) → World → Turn
+reading link None k w = k w
+reading link (Some read) k w = awaits_read link read w k
+
+-- what is left of the requests of a link, where one of them asked for a read; or of none
+unfoldable pub asking : LinkId → Option Asking → (World → Turn) → World → Turn
+asking link None k w = k w
+asking link (Some p) k w = awaits_read link p.reading w (λ v. serves_asks p.left link v k)
+
+-- the same of a link, which gets More behind them
+unfoldable pub asking_of : LinkId → Option Asking → (World → Turn) → World → Turn
+asking_of link None k w = k w
+asking_of link (Some p) k w = asking link (Some p) (λ v. k (gives_more link v)) w
+
+-- what is left of the links, where a request of one asked for a read; or of none
+unfoldable pub serving : Option Serving → (World → Turn) → World → Turn
+serving None k w = k w
+serving (Some p) k w =
+    asking_of p.link (Some p.asking) (λ v. serves_all (drop p.next p.links.items) v k) w
+
 -- what is left of the turn
 unfoldable pub rest : Option Place → World → Turn
 rest None w = Done w
 rest (Some (Stimulus p)) w = paused (Some p) after_stimulus w
 rest (Some (Pass p)) w = paused (Some p) after_pass w
+rest (Some (InLinks p)) w = serving (Some p) after_links w
 
--- the question that stands: each step that asks yet asks for spawns
+-- the question that stands: a spawn, or the read of a part of a log
 abbrev pub question_of : Option Place → Option Question
 question_of None = None
 question_of (Some (Stimulus p)) = Some question.Spawn
 question_of (Some (Pass p)) = Some question.Spawn
+question_of (Some (InLinks p)) = Some (question.Read p.asking.reading.span.length)
 
 -- the number is above the last one that failed
 abbrev pub is_above : Option ℕ → ℕ → Bool
@@ -173,9 +211,31 @@ pub record Takes (x : Machine) (input : Input) (given : List Order) (y : Machine
 abbrev pub can_name : Numbers → ℕ → Bool
 can_name x number = can_fail (failure_kept x number) && is_above x.last number
 
+-- what is kept of the links tells of the number of one
+abbrev pub tests_by : Links → LinkTests
+tests_by links = record {
+  next = follows links;
+  opened = has_opened links;
+  brings = may_bring links;
+}
+
+-- a link that is opened has the next number
+abbrev pub is_sound : Links → Cause → Bool
+is_sound links (cause_is.Opened link side) = follows links link
+is_sound links cause = true
+
+-- the same of what an input is
+abbrev pub is_sound_part : Links → Part → Bool
+is_sound_part links (Begins at cause) = is_sound links cause
+is_sound_part links part = true
+
+-- a turn may begin so
+abbrev pub may_begin_by : Machine → Cause → Bool
+may_begin_by x cause = may_begin cause x.numbers.next_run (tests_by x.links) x.config.servers
+
 -- the machine accepts the input
 abbrev pub is_fitting : Machine → Input → Bool
 is_fitting x input =
     not x.broken
     && (not x.course.halted
-    && is_accepted (part_of input) (question_of x.hand.place) x.numbers.next_run (can_name x.numbers))
+    && is_accepted (part_of input) (question_of x.hand.place) (may_begin_by x) (can_name x.numbers))

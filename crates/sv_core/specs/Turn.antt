@@ -10,19 +10,22 @@ use Rattle.sv_core.specs.Failure.{failed, refusal}
 use Rattle.sv_core.specs.HandingOut.{hands_out}
 use Rattle.sv_core.specs.Listening.{exits}
 use Rattle.sv_core.specs.Output.{ends_pipe, hears_on}
+use Rattle.sv_core.specs.Serving.{opens, serves_links}
 use Rattle.sv_core.specs.Shutdown.{heeds, follows_plan, halts}
 use Rattle.sv_core.specs.Stops.{stops_all}
 use Rattle.sv_core.specs.Sweeps.{Turn, sweeps_all, sweeps_over}
 use Rattle.sv_core.specs.Sweeps.Turn.{Done, Ask}
 use Rattle.sv_core.specs.World.{World}
 use Rattle.sv_core.specs.declared.failure.Failure.{Failure}
-use Rattle.sv_core.specs.declared.failure.Failure.TheVariants.{NeverFails, ChangesNothing, LosesStdin, RefusesQuestion}
+use Rattle.sv_core.specs.declared.failure.Failure.TheVariants.{NeverFails, ChangesNothing, LosesStdin, LosesLink, RefusesQuestion}
 use Rattle.sv_core.specs.declared.part.Cause.{Cause}
 use Rattle.sv_core.specs.declared.part.Cause.TheVariants as cause_is
 use Rattle.sv_core.specs.declared.part.Followed.{Followed}
 use Rattle.sv_core.specs.declared.part.Followed.TheVariants as followed
 use Rattle.sv_core.specs.declared.part.Question.{Question}
 use Rattle.sv_core.specs.declared.part.Reply.{Reply}
+use Rattle.sv_links.specs.LinkBook.{ended, fed}
+use Rattle.sv_links.specs.LinkBook.Ending.{Ended}
 
 -- step 1, the turn's moment has come: all children are rewound to it
 abbrev pub rewinds : ℕ → World → World
@@ -34,7 +37,9 @@ applies cause_is.Tick w k = k w
 applies (cause_is.Exit run how) w k = k (exits run how w)
 applies (cause_is.Heard run stream bytes) w k = k (hears_on stream run bytes w)
 applies (cause_is.PipeEnd run stream) w k = k (ends_pipe run stream w)
-applies cause_is.Link w k = k w
+applies (cause_is.Opened link side) w k = k (opens link side w)
+applies (cause_is.Brought link bytes) w k = k (record w { links = fed link bytes w.links })
+applies (cause_is.LinkEnd link) w k = k (record w { links = ended link Ended w.links })
 applies (cause_is.Start name) w k =
     if is_running w.course.mood then sweeps_over news_is.Start (span_meant name w.children.roster) w k else k w
 applies (cause_is.Stop name) w k = k (stops_all (span_meant name w.children.roster) w)
@@ -44,13 +49,13 @@ applies (cause_is.Signal signal) w k = k (heeds signal w)
 abbrev pub passes : World → (World → Turn) → Turn
 passes w k = sweeps_all news_is.Time w k
 
--- step 5, the links: none is built yet
-abbrev pub serves_links : World → World
-serves_links w = w
+-- steps 6 to 8, after the links: the stop plan, the pools, and the halt
+abbrev pub after_links : World → Turn
+after_links w = Done (halts (hands_out (follows_plan w)))
 
--- steps 5 to 8, after the pass: the links, the stop plan, the pools, and the halt
+-- steps 5 to 8, after the pass: the links first
 abbrev pub after_pass : World → Turn
-after_pass w = Done (halts (hands_out (follows_plan (serves_links w))))
+after_pass w = serves_links w after_links
 
 -- steps 3 to 8, after the stimulus: the ticks, and the pass
 abbrev pub after_stimulus : World → Turn
@@ -65,6 +70,7 @@ abbrev pub failed_at : Failure → World → Question → (World → Reply → T
 failed_at RefusesQuestion w q k = k w (refusal q)
 failed_at ChangesNothing w q k = Ask (failed ChangesNothing w) q k
 failed_at (LosesStdin run) w q k = Ask (failed (LosesStdin run) w) q k
+failed_at (LosesLink link) w q k = Ask (failed (LosesLink link) w) q k
 failed_at NeverFails w q k = Ask (failed NeverFails w) q k
 
 -- what followed comes to a turn: an answer goes on with it, a failed order changes the world

@@ -3,6 +3,7 @@ use Rattle.std.specs.Prelude.{ℕ, List}
 use Rattle.sv_base.specs.declared.config.Config.{Config}
 use Rattle.sv_children.specs.Crew.{Crew}
 use Rattle.sv_core.specs.declared.course.Course.{Course}
+use Rattle.sv_links.specs.LinkBook.{LinkRecord}
 use Rattle.sv_out.specs.declared.order.Order.{Order}
 use Rattle.sv_pools.specs.EventPools.{EventPools}
 use Rattle.sv_runs.specs.RunBook.{RunBook}
@@ -11,7 +12,7 @@ use Rattle.sv_streams.specs.StreamBook.{StreamRecord}
 -- the configuration, and the daemon's process number; the groups with their children, both in start order; what the
 -- daemon is about; the number that the next run gets; the moment of the turn, and that at which the clock's ticks were
 -- last looked at; the known sizes of files, by their names; the event pools; the runs of the processes, and what they wrote;
--- and all orders that were given since the beginning
+-- the links of clients; and all orders that were given since the beginning
 pub record World : Type 0 where
   pub config : Config
   pub pid : ℕ
@@ -24,4 +25,5 @@ pub record World : Type 0 where
   pub pools : EventPools
   pub runs : RunBook
   pub streams : List StreamRecord
+  pub links : List LinkRecord
   pub given : List Order

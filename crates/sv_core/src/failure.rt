@@ -2,7 +2,7 @@
 ghost use Rattle.std.specs.Prelude.{◌≡◌};
 ghost use Rattle.sv_core.specs.Failure.{failure_of, can_fail};
 
-use sv_base::ids::Run;
+use sv_base::ids::{LinkId, Run};
 use sv_out::order::Order;
 
 /// What it means that an order couldn't be carried out.
@@ -10,10 +10,12 @@ use sv_out::order::Order;
 pub enum Failure {
     /// A report or the halt: nobody carries it out.
     NeverFails,
-    /// A signal that didn't get through.
+    /// A signal that didn't get through, or an order about a file.
     ChangesNothing,
     /// A write to a run: its stdin is closed.
     LosesStdin(Run),
+    /// An order of a link: it is over.
+    LosesLink(LinkId),
     /// A question: it is answered by a refusal.
     RefusesQuestion,
 }
@@ -28,6 +30,9 @@ pub(crate) fn failure_of(order: &Order) -> Failure
             Failure::RefusesQuestion
         }
         Order::Stdin { run, .. } => Failure::LosesStdin(*run),
+        Order::Send { link, .. } | Order::More { link } | Order::Close { link } => {
+            Failure::LosesLink(*link)
+        }
         _ => Failure::ChangesNothing,
     }
 }

@@ -1,20 +1,23 @@
 //! The machine: what it keeps, which inputs it accepts, and the one call that takes an input.
-ghost use Rattle.std.specs.Prelude.{◌≡◌, [], IsTrue, false, ◌&&◌, nat_lt, IfOk, OnOk, OnErr};
+ghost use Rattle.std.specs.Prelude.{◌≡◌, [], IsTrue, false, ◌&&◌, is_some, IfOk, OnOk, OnErr};
+ghost use Rattle.sv_links.specs.StandsFor.{follows, has_opened, may_bring};
 
 use crate::course::Course;
 use crate::hand::Hand;
 use crate::numbers::Numbers;
-use crate::part::{Followed, Part, Question, part_of};
+use crate::openings::server_of;
+use crate::part::{Followed, Part, Question, fits, part_of};
 use crate::place::question_of;
 use std::alloc::{AllocError, Global};
 use std::mem;
 use sv_base::config::{Config, Host};
-use sv_base::ids::Run;
-use sv_base::state::Mood;
+use sv_base::ids::{LinkId, Run};
+use sv_base::state::{Mood, Side};
 use sv_base::text::Text;
 use sv_children::Children;
 use sv_events::Ticks;
 use sv_files::KnownSizes;
+use sv_links::Links;
 use sv_out::input::Input;
 use sv_out::order::Order;
 use sv_pools::Pools;
@@ -44,6 +47,8 @@ pub struct Machine {
     pub(crate) runs: Runs,
     /// What the runs wrote and isn't decided yet.
     pub(crate) streams: Streams,
+    /// The links that are open or have a request in hand.
+    pub(crate) links: Links,
     /// The known sizes of files, in bytes.
     pub(crate) sizes: KnownSizes,
     /// The turn in hand.
@@ -54,8 +59,10 @@ pub struct Machine {
 
 impl Machine {
     ghost use Rattle.sv_files.specs.Sizes.{rise};
-    ghost use Rattle.sv_core.specs.MachineState.{Model, opening, accepts, next, orders, hand, now};
-    ghost use Rattle.sv_core.specs.StandsFor.{StandsFor, Takes, Notes, GoesOnWith, asked_by, has_halted, is_broken, is_fitting};
+    ghost use Rattle.sv_core.specs.MachineState.{Model, opening, accepts, next, orders, hand, is_issued_run, now};
+    ghost use Rattle.sv_core.specs.Parts.{part_of};
+    ghost use Rattle.sv_core.specs.Serving.{server_of};
+    ghost use Rattle.sv_core.specs.StandsFor.{StandsFor, Takes, Notes, GoesOnWith, asked_by, has_halted, is_broken, is_fitting, is_sound_part};
     ghost use Rattle.sv_core.specs.Turn.{is_asking};
 
     /// The machine of this configuration as the daemon begins: each child is stopped and was never started. `sizes` are
@@ -96,6 +103,7 @@ impl Machine {
             pools,
             runs,
             streams: Streams::new(alloc),
+            links: Links::new(alloc),
             sizes,
             hand: Hand {
                 moment: host.start,
@@ -106,9 +114,10 @@ impl Machine {
         })
     }
 
-    /// Whether the machine takes this input now: an answer while a question stands, an order that failed while it can
-    /// be named, and else a turn, but no exit of a run that wasn't issued. After the halt, and when it is broken, a
-    /// machine takes nothing.
+    /// Whether the machine takes this input now: an answer that fits the question that stands, an order that failed while it
+    /// can be named, and else a turn. No turn begins with a run that wasn't issued, a link that wasn't opened, an opening
+    /// that has another number than the next or no server, or a piece of a link whose last order isn't More. After the
+    /// halt, and when it is broken, a machine takes nothing.
     pub fn accepts(&self, input: &Input) -> bool
         ensures accepts { (m : Model) → StandsFor self.now m → result ≡ accepts m input.now }
         ensures fits { result ≡ is_fitting self.now input.now }
@@ -189,21 +198,37 @@ impl Machine {
                 Input::Exit { run, .. } | Input::Out { run, .. } | Input::OutEnd { run, .. } => {
                     asked.is_none() && self.is_issued(*run)
                 }
-                Input::Pid(_) | Input::NoFile | Input::NotExecutable | Input::Refused(_) => {
-                    matches!(asked, Some(Question::Spawn))
-                }
+                Input::Open { link, side, .. } => asked.is_none() && self.may_open(*link, *side),
+                Input::Piece { link, .. } => asked.is_none() && self.may_bring(*link),
+                Input::LinkEnd { link, .. } => asked.is_none() && self.links.is_issued(*link),
                 Input::Failed(number) => self.numbers.can_name(*number),
-                _ => false,
+                answer => fits(asked, answer),
             }
     }
 
+    /// Whether a link is opened by this number at this side.
+    fn may_open(&self, link: LinkId, side: Side) -> bool
+        ensures { result ≡ (follows self.now.links link
+            && is_some (server_of side self.now.config.servers)) }
+    {
+        self.links.is_next(link) && server_of(side, self.config.servers.as_slice()).is_some()
+    }
+
+    /// Whether a piece of a link may come.
+    fn may_bring(&self, link: LinkId) -> bool
+        ensures { result ≡ (has_opened self.now.links link && may_bring self.now.links link) }
+    {
+        self.links.is_issued(link) && self.links.takes_piece(link)
+    }
+
     fn is_issued(&self, run: Run) -> bool
-        ensures { result ≡ (nat_lt 0 run.0 && nat_lt run.0 self.now.numbers.next_run) }
+        ensures { result ≡ is_issued_run run self.now.numbers.next_run }
     {
         0 < run.0 && u64::from(run.0) < self.numbers.next_run
     }
 
     fn take(&mut self, alloc: Global, input: Input) -> Result<Vec<Order>, AllocError>
+        requires { IsTrue (is_sound_part self.old.links (part_of input)) }
         ensures { IfOk result (λ given. Takes self.old input given.items self.new) }
     {
         self.hear(part_of(input))?;
@@ -213,6 +238,7 @@ impl Machine {
 
     /// The turn in hand begins, or goes on.
     fn hear(&mut self, part: Part) -> Result<(), AllocError>
+        requires { IsTrue (is_sound_part self.old.links part) }
         ensures whole { self.new.broken ≡ self.old.broken }
         ensures notes { OnOk result (Notes self.old.numbers self.new.numbers part []) }
         ensures turn { OnOk result (GoesOnWith self.old part self.new) }

@@ -1,15 +1,16 @@
 //! What an input is to the machine.
 ghost use Rattle.std.specs.Prelude.{◌≡◌};
+ghost use Rattle.sv_core.specs.Failure.{refusal_of};
 ghost use Rattle.sv_core.specs.Moves.{started_as, told_of};
-ghost use Rattle.sv_core.specs.Parts.{part_of};
+ghost use Rattle.sv_core.specs.Parts.{answers, part_of};
 
 use crate::failure::Failure;
-use sv_base::bytes::Piece;
-use sv_base::ids::Run;
+use sv_base::bytes::{Bytes, Piece};
+use sv_base::ids::{LinkId, Run};
 use sv_base::moment::Moment;
 use sv_base::number::Pid;
 use sv_base::signal::DaemonSignal;
-use sv_base::state::{How, Stream};
+use sv_base::state::{How, Side, Stream};
 use sv_base::text::Text;
 use sv_children::Told;
 use sv_out::input::Input;
@@ -19,6 +20,8 @@ use sv_out::input::Input;
 pub enum Question {
     /// Whether a process was started.
     Spawn,
+    /// The bytes of a part of a file, at most so many.
+    Read(u64),
 }
 
 /// The answer of a question.
@@ -32,8 +35,14 @@ pub enum Reply {
     NotExecutable,
     /// There is no process, for this reason.
     Refused(Text),
-    /// An answer about a file. No file is asked for yet, so it fits no question.
-    OfFile,
+    /// These bytes were read.
+    Read(Bytes),
+    /// There is no such file.
+    Missing,
+    /// The file is empty now. Nothing is cleared yet, so it fits no question.
+    Done,
+    /// The file couldn't be read.
+    Unread,
 }
 
 /// What a child is told of this answer.
@@ -45,7 +54,7 @@ pub(crate) fn told_of(reply: Reply) -> Told
         Reply::NoFile => Told::NotStarted(Text::fixed("can't find command")),
         Reply::NotExecutable => Told::NotStarted(Text::fixed("command is not executable")),
         Reply::Refused(text) => Told::NotStarted(text),
-        Reply::OfFile => Told::NotStarted(Text::fixed("failed")),
+        _ => Told::NotStarted(Text::fixed("failed")),
     }
 }
 
@@ -56,6 +65,16 @@ pub(crate) fn started_as(reply: &Reply) -> Option<u32>
     match reply {
         Reply::Started(pid) => Some(pid.get()),
         _ => None,
+    }
+}
+
+/// The refusal of the question that stands, if one stands.
+pub(crate) fn refusal_of(asked: Option<Question>) -> Reply
+    ensures { result ≡ refusal_of asked }
+{
+    match asked {
+        Some(Question::Read(_)) => Reply::Unread,
+        Some(Question::Spawn) | None => Reply::Refused(Text::fixed("failed")),
     }
 }
 
@@ -79,8 +98,12 @@ pub enum Cause {
     Heard(Run, Stream, Piece),
     /// A stream of a run ended.
     PipeEnd(Run, Stream),
-    /// A link was opened, brought a piece, or ended. None is served yet.
-    Link,
+    /// A link was opened at a side.
+    Opened(LinkId, Side),
+    /// A link brought a piece.
+    Brought(LinkId, Piece),
+    /// The client of a link ended.
+    LinkEnd(LinkId),
     /// The console asks for starts.
     Start(Text),
     /// The console asks for stops.
@@ -114,9 +137,9 @@ pub(crate) fn part_of(input: Input) -> Part
             bytes,
         } => Part::Begins(at, Cause::Heard(run, stream, bytes)),
         Input::OutEnd { at, run, stream } => Part::Begins(at, Cause::PipeEnd(run, stream)),
-        Input::Open { at, .. } | Input::Piece { at, .. } | Input::LinkEnd { at, .. } => {
-            Part::Begins(at, Cause::Link)
-        }
+        Input::Open { at, link, side } => Part::Begins(at, Cause::Opened(link, side)),
+        Input::Piece { at, link, bytes } => Part::Begins(at, Cause::Brought(link, bytes)),
+        Input::LinkEnd { at, link } => Part::Begins(at, Cause::LinkEnd(link)),
         Input::Start { at, name } => Part::Begins(at, Cause::Start(name)),
         Input::Stop { at, name } => Part::Begins(at, Cause::Stop(name)),
         Input::Signal { at, signal } => Part::Begins(at, Cause::Signal(signal)),
@@ -124,7 +147,24 @@ pub(crate) fn part_of(input: Input) -> Part
         Input::NoFile => Part::Answers(Reply::NoFile),
         Input::NotExecutable => Part::Answers(Reply::NotExecutable),
         Input::Refused(text) => Part::Answers(Reply::Refused(text)),
-        Input::Read(_) | Input::Done | Input::Missing => Part::Answers(Reply::OfFile),
+        Input::Read(bytes) => Part::Answers(Reply::Read(bytes)),
+        Input::Done => Part::Answers(Reply::Done),
+        Input::Missing => Part::Answers(Reply::Missing),
         Input::Failed(number) => Part::Fails(number),
+    }
+}
+
+/// Whether this input answers the question that stands, if one stands.
+pub(crate) fn fits(asked: Option<Question>, input: &Input) -> bool
+    ensures { result ≡ answers asked (part_of input.now) }
+{
+    match (asked, input) {
+        (
+            Some(Question::Spawn),
+            Input::Pid(_) | Input::NoFile | Input::NotExecutable | Input::Refused(_),
+        ) => true,
+        (Some(Question::Read(most)), Input::Read(bytes)) => bytes.as_slice().len() as u64 <= most,
+        (Some(Question::Read(_)), Input::Missing) => true,
+        _ => false,
     }
 }

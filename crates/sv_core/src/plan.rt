@@ -2,7 +2,7 @@
 //! the halt.
 ghost use Rattle.std.specs.Prelude.{◌≡◌, OnOk};
 ghost use Rattle.sv_base.specs.declared.signal.Signal.{Signal};
-ghost use Rattle.sv_core.specs.Frames.{ChangesCourse, GivesOrders, Makes, MovesChildren, MovesPlan};
+ghost use Rattle.sv_core.specs.Frames.{ChangesCourse, EndsCourse, GivesOrders, Makes, MovesChildren, MovesPlan};
 ghost use Rattle.sv_children.specs.Spans.{are_at_rest};
 ghost use Rattle.sv_core.specs.Shutdown.{is_ending, heeds, tells_group, follows_plan, halts};
 ghost use Rattle.sv_core.specs.Stops.{signals, stops, stops_all};
@@ -120,12 +120,13 @@ impl Machine {
         Ok(())
     }
 
-    /// Step 8 of a turn: where the daemon ends and no group is left, it halts.
+    /// Step 8 of a turn: where the daemon ends and no group is left, the links that are open get Close, and it halts.
     pub(crate) fn halt(&mut self) -> Result<(), AllocError>
-        ensures kept { ChangesCourse self.old self.new }
+        ensures kept { EndsCourse self.old self.new }
         ensures halts { OnOk result (Makes halts self.old self.new) }
     {
         if self.course.mood != Mood::Running && self.course.left == 0 {
+            self.close_links()?;
             self.hand.given.push(Order::Halt)?;
             self.course.halted = true;
         }

@@ -1,7 +1,7 @@
 //! Step 2 of a turn.
-ghost use Rattle.std.specs.Prelude.{◌≡◌, IfOk};
+ghost use Rattle.std.specs.Prelude.{◌≡◌, IfOk, IsTrue};
 ghost use Rattle.sv_core.specs.Frames.{MovesOn, Stops};
-ghost use Rattle.sv_core.specs.StandsFor.{paused};
+ghost use Rattle.sv_core.specs.StandsFor.{is_sound, paused};
 ghost use Rattle.sv_core.specs.Turn.{applies};
 
 use crate::machine::Machine;
@@ -16,12 +16,25 @@ impl Machine {
     /// nothing.
     #[tactic(auto, unfolding(crate::specs::StandsFor::paused))]
     pub(crate) fn apply(&mut self, cause: Cause) -> Result<Option<Paused>, AllocError>
+        requires { IsTrue (is_sound self.old.links cause) }
         ensures kept { MovesOn self.old self.new }
         ensures applies { IfOk result (λ left.
             Stops (applies cause) (paused left) self.old self.new) }
     {
         match cause {
-            Cause::Tick | Cause::Link => Ok(None),
+            Cause::Tick => Ok(None),
+            Cause::Opened(link, side) => {
+                self.open_link(link, side)?;
+                Ok(None)
+            }
+            Cause::Brought(link, piece) => {
+                self.links.feed(self.alloc, link, piece.as_slice())?;
+                Ok(None)
+            }
+            Cause::LinkEnd(link) => {
+                self.links.end(link);
+                Ok(None)
+            }
             Cause::Exit(run, how) => {
                 self.exit(run, how)?;
                 Ok(None)

@@ -1,8 +1,11 @@
 //! A turn: its nine steps in order, up to a question, and what followed its input.
-ghost use Rattle.std.specs.Prelude.{◌≡◌, ◌-◌, List, OnOk, Some};
+ghost use Rattle.std.specs.Prelude.{◌≡◌, ◌-◌, IsTrue, List, OnOk, Some, drop};
+ghost use Rattle.sv_answers.specs.Served.{reads_back};
 ghost use Rattle.sv_core.specs.Frames.{GoesOn, Makes};
-ghost use Rattle.sv_core.specs.StandsFor.{At, Shows, rest};
-ghost use Rattle.sv_core.specs.Turn.{turn, serves_links, come, after_pass, after_stimulus, rewinds, world_of};
+ghost use Rattle.sv_core.specs.Serving.{file_reply, replies, serves_all, serves_left};
+ghost use Rattle.sv_core.specs.Failure.{refusal_of};
+ghost use Rattle.sv_core.specs.StandsFor.{At, Shows, is_sound, question_of, rest};
+ghost use Rattle.sv_core.specs.Turn.{turn, come, after_links, after_pass, after_stimulus, rewinds, world_of};
 ghost use Rattle.sv_core.specs.Sweeps.{sweeps};
 ghost use Rattle.sv_core.specs.Moves.{answered};
 ghost use Rattle.sv_core.specs.World.{World};
@@ -10,16 +13,16 @@ ghost use Rattle.sv_out.specs.declared.order.Order.{Order};
 
 use crate::failure::Failure;
 use crate::machine::Machine;
-use crate::part::{Cause, Followed, Reply};
-use crate::place::{Paused, Place};
+use crate::part::{Cause, Followed, Reply, refusal_of};
+use crate::place::{Paused, Place, Serving, question_of};
 use std::alloc::AllocError;
 use sv_base::moment::Moment;
-use sv_base::text::Text;
 use sv_children::News;
 
 impl Machine {
     /// A turn begins: steps 0 to 2, up to a question, and then the others.
     pub(crate) fn begin(&mut self, at: Moment, cause: Cause) -> Result<(), AllocError>
+        requires { IsTrue (is_sound self.old.links cause) }
         ensures kept { GoesOn self.old self.new }
         ensures turn { OnOk result ((older : List Order) (w : World) → Shows self.old older w
             → At self.new older (turn cause at (world_of (rest self.old.hand.place w)))
@@ -59,13 +62,30 @@ impl Machine {
         }
     }
 
-    /// Steps 5 to 8: the links, the stop plan, the pools, and the halt.
+    /// Step 5, the links, up to a question, and then the others.
     pub(crate) fn after_pass(&mut self) -> Result<(), AllocError>
         ensures kept { GoesOn self.old self.new }
         ensures rest { OnOk result ((older : List Order) (w : World) → Shows self.old older w
             → At self.new older (after_pass w) (rest self.new.hand.place)) }
     {
-        self.serve_links();
+        match self.serve_links()? {
+            Some(serving) => {
+                self.hand.place = Some(Place::Links(serving));
+                Ok(())
+            }
+            None => {
+                self.after_links()?;
+                Ok(())
+            }
+        }
+    }
+
+    /// Steps 6 to 8: the stop plan, the pools, and the halt.
+    pub(crate) fn after_links(&mut self) -> Result<(), AllocError>
+        ensures kept { GoesOn self.old self.new }
+        ensures rest { OnOk result ((older : List Order) (w : World) → Shows self.old older w
+            → At self.new older (after_links w) (rest self.new.hand.place)) }
+    {
         self.follow_plan()?;
         self.hand_out()?;
         self.halt()?;
@@ -92,6 +112,13 @@ impl Machine {
         }
     }
 
+    /// The refusal of the question that stands, if one stands.
+    fn refusal(&self) -> Reply
+        ensures { result ≡ refusal_of (question_of self.now.hand.place) }
+    {
+        refusal_of(question_of(&self.hand.place))
+    }
+
     /// An order couldn't be carried out.
     fn suffer(&mut self, failure: Failure) -> Result<(), AllocError>
         ensures kept { GoesOn self.old self.new }
@@ -101,11 +128,16 @@ impl Machine {
     {
         match failure {
             Failure::RefusesQuestion => {
-                self.go_on_with(Reply::Refused(Text::fixed("failed")))?;
+                let refusal = self.refusal();
+                self.go_on_with(refusal)?;
                 Ok(())
             }
             Failure::LosesStdin(run) => {
                 self.lose_stdin(run)?;
+                Ok(())
+            }
+            Failure::LosesLink(link) => {
+                self.links.lose(link);
                 Ok(())
             }
             Failure::ChangesNothing | Failure::NeverFails => Ok(()),
@@ -142,6 +174,10 @@ impl Machine {
             }
             Place::Pass(paused) => {
                 self.go_on_in_pass(paused, reply)?;
+                Ok(())
+            }
+            Place::Links(serving) => {
+                self.go_on_in_links(serving, reply)?;
                 Ok(())
             }
         }
@@ -189,6 +225,34 @@ impl Machine {
         }
     }
 
+    /// Step 5 goes on with the answer of its question, and then the others.
+    fn go_on_in_links(&mut self, left: Serving, reply: Reply) -> Result<(), AllocError>
+        ensures kept { GoesOn self.old self.new }
+        ensures turn { OnOk result ((older : List Order) (w : World) → Shows self.old older w
+            → let back = reads_back left.asking.reading (file_reply reply) in
+            At self.new older (serves_left left.asking.left left.link (replies left.link back w)
+            (λ v. serves_all (drop left.next left.links.items) v after_links))
+            (rest self.new.hand.place)) }
+    {
+        let Serving {
+            links,
+            next,
+            link,
+            asking,
+        } = left;
+        self.answer_read(link, &asking.reading, reply)?;
+        match self.go_on_serving(links, next, link, asking.left)? {
+            Some(serving) => {
+                self.hand.place = Some(Place::Links(serving));
+                Ok(())
+            }
+            None => {
+                self.after_links()?;
+                Ok(())
+            }
+        }
+    }
+
     /// Step 1: the turn's moment has come.
     fn rewind(&mut self, at: Moment)
         ensures kept { self.new ≡ record self.old {
@@ -200,10 +264,4 @@ impl Machine {
         self.children.rewind(at);
         self.hand.moment = at;
     }
-
-    /// Step 5: the links. None is built yet.
-    fn serve_links(&mut self)
-        ensures kept { self.new ≡ self.old }
-        ensures served { Makes serves_links self.old self.new }
-    {}
 }

@@ -14,7 +14,7 @@ use Rattle.sv_loop.specs.JournalPlaces.Line.{Head, Said}
 use Rattle.sv_loop.specs.JournalPlaces.Verdict.{Stands as As_stands, Misplaced as As_misplaced}
 use Rattle.sv_loop.specs.Judging.{JudgedAs, JudgedHead}
 use Rattle.sv_loop.specs.declared.judge.Judged.{Judged}
-use Rattle.sv_loop.specs.declared.judge.Judged.TheVariants.{Stands, Misplaced, Refused, Faulty, NotBuilt, NoMemory}
+use Rattle.sv_loop.specs.declared.judge.Judged.TheVariants.{Stands, Misplaced, Refused, Faulty, NoMemory}
 use Rattle.sv_out.specs.declared.input.Input.{Input}
 
 misplaced_by_head : (at : Stage) (header : Header) (text : List ℕ) (line : Line)
@@ -39,8 +39,6 @@ judged_by_head Misplaced at header text quiet only fits spelled short out =
     λ line. misplaced_by_head at header text line quiet only out
 judged_by_head Refused at header text quiet only fits spelled short found = absurd found
 judged_by_head (Faulty fault) at header text quiet only fits spelled short found =
-    record { header = header; fits = fits; spelled = sym spelled; short = short; judged_so = found }
-judged_by_head NotBuilt at header text quiet only fits spelled short found =
     record { header = header; fits = fits; spelled = sym spelled; short = short; judged_so = found }
 judged_by_head NoMemory at header text quiet only fits spelled short found = tt
 

@@ -10,7 +10,7 @@ use Rattle.sv_journal.specs.declared.header.Header.TheVariants as header_is
 use Rattle.sv_loop.specs.JournalPlaces.{Line, line_text, FitsLine, Stage, Verdict, heads, judged, Walked, behind, walks_on, walked, journal_text, AllFit, IsMisplaced, IsRefused, IsUnconfigured}
 use Rattle.sv_loop.specs.JournalPlaces.Line.{Head, Said}
 use Rattle.sv_loop.specs.JournalPlaces.Stage.{Fresh, Named, Long, Running}
-use Rattle.sv_loop.specs.JournalPlaces.Verdict.{Stands, Misplaced, Refused, Faulty, NotBuilt}
+use Rattle.sv_loop.specs.JournalPlaces.Verdict.{Stands, Misplaced, Refused, Faulty}
 use Rattle.sv_loop.specs.JournalPlaces.Walked.{Reaches, Stops}
 use Rattle.sv_loop.specs.Reading.{has_feed, IsRead, IsWhole, OutsideGrammar, NotAccepted, NotConfigured}
 use Rattle.sv_loop.specs.Replaying.{EndsTooEarly, IsBeforeGo, Replays, TellsWhy, journal_limit, status_number}
@@ -109,7 +109,6 @@ step_of (Stands to given) at line lines last all stands e = step_in at to line l
 step_of Misplaced at line lines last all stands e = cc
 step_of Refused at line lines last all stands e = cc
 step_of (Faulty fault) at line lines last all stands e = cc
-step_of NotBuilt at line lines last all stands e = cc
 
 -- from this place on, the bytes are a good journal
 record Onward (at : Stage) (bytes : List ℕ) : Type 0 where

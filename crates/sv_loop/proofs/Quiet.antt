@@ -13,10 +13,10 @@ use Rattle.sv_loop.proofs.OneReading.{no_head, no_header_behind_go, why_misplace
 use Rattle.sv_loop.specs.JournalPlaces.{Line, Stage, Verdict, Walked, begins, behind, goes_on, heads, judged, long_heads, moved, titles, walked, walks_on}
 use Rattle.sv_loop.specs.JournalPlaces.Line.{Head, Said}
 use Rattle.sv_loop.specs.JournalPlaces.Stage.{Fresh, Named, Long, Running}
-use Rattle.sv_loop.specs.JournalPlaces.Verdict.{Stands, Misplaced, Refused, Faulty, NotBuilt}
+use Rattle.sv_loop.specs.JournalPlaces.Verdict.{Stands, Misplaced, Refused, Faulty}
 use Rattle.sv_loop.specs.JournalPlaces.Walked.{Reaches, Stops}
 use Rattle.sv_loop.specs.Replaying.{IsBeforeGo, TellsWhy}
-use Rattle.sv_loop.specs.LongHeader.{is_built, starting_at}
+use Rattle.sv_loop.specs.LongHeader.{starting_at}
 use Rattle.sv_loop.specs.ShortHeader.{group_of, placed}
 use Rattle.sv_loop.specs.declared.long.LongPlace.{LongPlace}
 use Rattle.sv_loop.specs.declared.long.LongPlace.TheVariants.{Titled, Hosted, Located, Described, Configured}
@@ -39,8 +39,7 @@ if_quiet false at other to given other_quiet e = other_quiet e
 
 begins_quiet : (host : Host) (sizes : List (List ℕ × ℕ)) (config : Result Config ConfFault) (to : Stage) (given : List Order)
     → begins host sizes config ≡ Stands to given → given ≡ []
-begins_quiet host sizes (Ok config) to given e =
-    if_quiet (is_built config) (Running (opening config sizes host)) NotBuilt to given (λ same. cc) e
+begins_quiet host sizes (Ok config) to given e = cc
 begins_quiet host sizes (Err fault) to given e = cc
 
 go_quiet : (groups : List GroupSpec) (start : ℕ) (to : Stage) (given : List Order)
@@ -129,7 +128,6 @@ step_quiet (Stands to first) from line lines at given stands later e =
 step_quiet Misplaced from line lines at given stands later e = cc
 step_quiet Refused from line lines at given stands later e = cc
 step_quiet (Faulty fault) from line lines at given stands later e = cc
-step_quiet NotBuilt from line lines at given stands later e = cc
 
 -- lines that lead to a place before `go` give no orders
 pub quiet_until : (lines : List Line) (from at : Stage) (given : List Order) → walked from lines ≡ Reaches at given → IsBeforeGo at

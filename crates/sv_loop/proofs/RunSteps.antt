@@ -7,12 +7,12 @@ use Rattle.sv_journal.specs.Limits.{line_limit}
 use Rattle.sv_loop.proofs.Walks.{journal_text_more, order_text_append, all_fit_more, has_feed_more, walked_more}
 use Rattle.sv_loop.specs.JournalPlaces.{Line, line_text, Stage, Verdict, journal_text, order_text, IsMisplaced, IsRefused, IsUnconfigured}
 use Rattle.sv_loop.specs.JournalPlaces.Stage.{Fresh}
-use Rattle.sv_loop.specs.JournalPlaces.Verdict.{Faulty as As_faulty, NotBuilt as As_not_built}
+use Rattle.sv_loop.specs.JournalPlaces.Verdict.{Faulty as As_faulty}
 use Rattle.sv_loop.specs.Judging.{LeadsTo}
 use Rattle.sv_loop.specs.Reading.{IsRead, IsAt, GoesOn, AtFault, IsWhole, OutsideGrammar, NotAccepted, NotConfigured, Anything, HalfWritten, StopsAt, Unwrote}
 use Rattle.sv_loop.specs.declared.judge.Place.{Place}
 use Rattle.sv_loop.specs.declared.run.End.{End}
-use Rattle.sv_loop.specs.declared.run.End.TheVariants.{Misplaced, Refused, Faulty, NotBuilt, NoMemory, Unwritten}
+use Rattle.sv_loop.specs.declared.run.End.TheVariants.{Misplaced, Refused, Faulty, NoMemory, Unwritten}
 use Rattle.sv_loop.specs.declared.run.Run.{Run}
 use Rattle.sv_out.specs.Written.{AppendsFront}
 use Rattle.sv_out.specs.declared.order.Order.{Order}
@@ -105,7 +105,6 @@ pub stopped_at_write : (end : End) (run later : Run) (lines : List Line) (at : S
 stopped_at_write Misplaced run later lines at given bytes place orders old new is leads count wrote = absurd wrote
 stopped_at_write Refused run later lines at given bytes place orders old new is leads count wrote = absurd wrote
 stopped_at_write (Faulty fault) run later lines at given bytes place orders old new is leads count wrote = absurd wrote
-stopped_at_write NotBuilt run later lines at given bytes place orders old new is leads count wrote = absurd wrote
 stopped_at_write NoMemory run later lines at given bytes place orders old new is leads count wrote =
     at_fault run later Anything lines at given bytes (10 ∷ []) old new is count tt wrote
 stopped_at_write Unwritten run later lines at given bytes place orders old new is leads count wrote =
@@ -253,9 +252,6 @@ stops_further Refused run later bytes piece more given one two three first step 
     (step first.lines first.at (given ++ first.more) bytes first.is_at)
 stops_further (Faulty fault) run later bytes piece more given one two three first step =
     fault_later later (NotConfigured (As_faulty fault)) (bytes ++ piece) more given first.more one two three
-    (λ at text rest w. (whole_later rest more w.0, w.1)) first.wrote (step first.lines first.at (given ++ first.more) bytes first.is_at)
-stops_further NotBuilt run later bytes piece more given one two three first step =
-    fault_later later (NotConfigured As_not_built) (bytes ++ piece) more given first.more one two three
     (λ at text rest w. (whole_later rest more w.0, w.1)) first.wrote (step first.lines first.at (given ++ first.more) bytes first.is_at)
 stops_further NoMemory run later bytes piece more given one two three first step =
     fault_later later Anything (bytes ++ piece) more given first.more one two three (λ at text rest w. tt) first.wrote

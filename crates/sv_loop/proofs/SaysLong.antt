@@ -11,9 +11,9 @@ use Rattle.sv_loop.proofs.SaysInputs.{says_inputs, quiet}
 use Rattle.sv_loop.specs.JournalPlaces.{Line, begins, described, moved, walked, walks_on}
 use Rattle.sv_loop.specs.JournalPlaces.Line.{Head, Said}
 use Rattle.sv_loop.specs.JournalPlaces.Stage.{Long, Running}
-use Rattle.sv_loop.specs.JournalPlaces.Verdict.{Stands, NotBuilt}
+use Rattle.sv_loop.specs.JournalPlaces.Verdict.{Stands}
 use Rattle.sv_loop.specs.JournalPlaces.Walked.{Reaches}
-use Rattle.sv_loop.specs.LongHeader.{is_behind, host_of, with_variable, starting_at, is_built}
+use Rattle.sv_loop.specs.LongHeader.{is_behind, host_of, with_variable, starting_at}
 use Rattle.sv_loop.specs.WholeJournal.{variable_lines, size_lines, include_lines, input_lines, AllAccepted, IsConfigured}
 use Rattle.sv_loop.specs.declared.long.LongPlace.TheVariants.{Titled, Hosted, Located, Described, Configured}
 use Rattle.sv_out.specs.declared.input.Input.{Input}
@@ -37,28 +37,20 @@ record SaysIncludes (host : Host) (sizes : List (List ℕ × ℕ)) (conf : List 
   spelled : lines ≡ include_lines more ++ go_lines start inputs
   says : SaysFrom first inputs m given
 
-begin_built : (host : Host) (sizes : List (List ℕ × ℕ)) (conf : List ℕ) (included : List (List ℕ × List ℕ)) (config : Config) (built : Bool)
-    (lines : List Line) (m : Model) (given : List Order) → configuration_of conf included host ≡ Ok config → is_built config ≡ built
-    → walks_on (if built then Stands (Running (opening config sizes host)) [] else NotBuilt) (λ next. walked next lines) ≡ Reaches (Running m) given
-    → (first : Model) × (inputs : List Input) × IsConfigured host sizes conf included first × (lines ≡ input_lines inputs) × SaysFrom first inputs m given
-begin_built host sizes conf included config true lines m given accepted built e =
-    let first = opening config sizes host in
-    let said = says_inputs first lines (Running m) given (quiet (walked (Running first) lines) (Running m) given e) in
-    let state : m ≡ after first said.inputs = let same = said.state in cc in (
-      first,
-      said.inputs,
-      record { config = config; accepted = accepted; built = built; begins = refl },
-      said.spelled,
-      record { accepted = said.accepted; state = state; orders_are = said.orders_are },
-    )
-begin_built host sizes conf included config false lines m given accepted built e = cc
-
 begin_by : (host : Host) (sizes : List (List ℕ × ℕ)) (conf : List ℕ) (included : List (List ℕ × List ℕ)) (config : Result Config ConfFault)
     (lines : List Line) (m : Model) (given : List Order) → configuration_of conf included host ≡ config
     → walks_on (begins host sizes config) (λ next. walked next lines) ≡ Reaches (Running m) given
     → (first : Model) × (inputs : List Input) × IsConfigured host sizes conf included first × (lines ≡ input_lines inputs) × SaysFrom first inputs m given
 begin_by host sizes conf included (Ok config) lines m given accepted e =
-    begin_built host sizes conf included config (is_built config) lines m given accepted refl e
+    let first = opening config sizes host in
+    let said = says_inputs first lines (Running m) given (quiet (walked (Running first) lines) (Running m) given e) in
+    let state : m ≡ after first said.inputs = let same = said.state in cc in (
+      first,
+      said.inputs,
+      record { config = config; accepted = accepted; begins = refl },
+      said.spelled,
+      record { accepted = said.accepted; state = state; orders_are = said.orders_are },
+    )
 begin_by host sizes conf included (Err fault) lines m given accepted e = cc
 
 says_includes : (host : Host) (sizes : List (List ℕ × ℕ)) (conf : List ℕ) (included : List (List ℕ × List ℕ)) (lines : List Line) (m : Model) (given : List Order)

@@ -7,10 +7,10 @@ use Rattle.sv_loop.proofs.Quiet.{judged_before_go, quiet_until}
 use Rattle.sv_loop.proofs.RunSteps.{read_later}
 use Rattle.sv_loop.specs.JournalPlaces.{Line, Stage, Verdict, order_text}
 use Rattle.sv_loop.specs.JournalPlaces.Stage.{Fresh, Named, Long, Running}
-use Rattle.sv_loop.specs.JournalPlaces.Verdict.{Faulty as As_faulty, NotBuilt as As_not_built}
+use Rattle.sv_loop.specs.JournalPlaces.Verdict.{Faulty as As_faulty}
 use Rattle.sv_loop.specs.Judging.{IsPlace}
 use Rattle.sv_loop.specs.Reading.{IsRead, GoesOn, OutsideGrammar, NotAccepted, NotConfigured, StopsAt}
-use Rattle.sv_loop.specs.Replaying.{bad_line, not_accepted, configuration_fault, not_built, TellsWhy, Unconfigured, source_failed, too_long, IsBeforeGo, EndsTooEarly, Taken, Closed, IsClosing, HalfTold, line_behind, Replays, ReadOn, Ended}
+use Rattle.sv_loop.specs.Replaying.{bad_line, not_accepted, configuration_fault, TellsWhy, Unconfigured, source_failed, too_long, IsBeforeGo, EndsTooEarly, Taken, Closed, IsClosing, HalfTold, line_behind, Replays, ReadOn, Ended}
 use Rattle.sv_loop.specs.Replaying.IsClosing.{Nothing_more, Of_source, Of_length, Of_line, Of_input, Of_configuration}
 use Rattle.sv_loop.specs.Telling.{IsRunning, Tells, TellsLine, TellsOf, TellsOfLine, TellsOfWhole}
 use Rattle.sv_loop.specs.declared.judge.Place.{Place}
@@ -20,7 +20,7 @@ use Rattle.sv_loop.specs.declared.replaying.Ending.TheVariants.{Whole, Broken, F
 use Rattle.sv_loop.specs.declared.replaying.Status.{Status}
 use Rattle.sv_loop.specs.declared.replaying.Status.TheVariants as status_is
 use Rattle.sv_loop.specs.declared.run.End.{End}
-use Rattle.sv_loop.specs.declared.run.End.TheVariants.{Misplaced, Refused, Faulty, NotBuilt, NoMemory, Unwritten}
+use Rattle.sv_loop.specs.declared.run.End.TheVariants.{Misplaced, Refused, Faulty, NoMemory, Unwritten}
 use Rattle.sv_loop.specs.declared.run.Run.{Run}
 use Rattle.sv_out.specs.Written.{AppendsFront}
 use Rattle.sv_out.specs.declared.order.Order.{Order}
@@ -195,10 +195,6 @@ line_table (Faulty fault) run one two old mid new got bytes taken stops tells =
     told_line one two old mid new bytes stops.more stops.lines stops.at stops.text stops.rest shown status_is.NotConfigured got
     (λ lines. shown) (NotConfigured (As_faulty fault)) taken stops.read stops.wrote stops.cause refl
     (Of_configuration stops.lines (As_faulty fault) shown refl) (unconfigured_row one two old new shown (As_faulty fault) refl) tells
-line_table NotBuilt run one two old mid new got bytes taken stops tells =
-    told one two old mid new bytes stops.more stops.lines stops.at stops.text stops.rest not_built status_is.NotConfigured got
-    (λ lines. not_built) (NotConfigured As_not_built) taken stops.read stops.wrote stops.cause refl
-    (Of_configuration stops.lines As_not_built not_built refl) (unconfigured_row one two old new not_built As_not_built refl) tells
 line_table NoMemory run one two old mid new got bytes taken stops tells =
     rw tells.0 (closed one two old mid new bytes stops.more stops.lines stops.at stops.text stops.rest (λ l. []) (λ a t r. Unit {0})
     taken stops.read stops.wrote tt tells.1)

@@ -5,7 +5,7 @@ use Rattle.std.proofs.lemmas.List.Folds.{list_any-append}
 use Rattle.sv_journal.specs.JournalLine.{order_line}
 use Rattle.sv_journal.specs.Limits.{line_limit}
 use Rattle.sv_loop.specs.JournalPlaces.{Line, line_text, FitsLine, Stage, Verdict, judged, Walked, behind, walks_on, walked, journal_text, order_text, AllFit}
-use Rattle.sv_loop.specs.JournalPlaces.Verdict.{Stands, Misplaced, Refused, Faulty, NotBuilt}
+use Rattle.sv_loop.specs.JournalPlaces.Verdict.{Stands, Misplaced, Refused, Faulty}
 use Rattle.sv_loop.specs.JournalPlaces.Walked.{Reaches, Stops}
 use Rattle.sv_loop.specs.Reading.{has_feed}
 use Rattle.sv_out.specs.declared.order.Order.{Order}
@@ -45,7 +45,6 @@ step_more (Stands n os) onward onward_more to next given more later e =
 step_more Misplaced onward onward_more to next given more later e = cc
 step_more Refused onward onward_more to next given more later e = cc
 step_more (Faulty fault) onward onward_more to next given more later e = cc
-step_more NotBuilt onward onward_more to next given more later e = cc
 
 last_step : (at to next : Stage) (line : Line) (given more : List Order)
     → Reaches at [] ≡ Reaches to given → judged to line ≡ Stands next more → walked at (line ∷ []) ≡ Reaches next (given ++ more)

@@ -13,7 +13,7 @@ use Rattle.sv_journal.specs.JournalLine.{header_line, input_line, order_line, Fi
 use Rattle.sv_journal.specs.Limits.{line_limit}
 use Rattle.sv_journal.specs.declared.header.Header.{Header}
 use Rattle.sv_journal.specs.declared.header.Header.TheVariants as header_is
-use Rattle.sv_loop.specs.LongHeader.{is_behind, host_of, with_variable, starting_at, is_built}
+use Rattle.sv_loop.specs.LongHeader.{is_behind, host_of, with_variable, starting_at}
 use Rattle.sv_loop.specs.ShortHeader.{group_of, placed, config_of, host_at}
 use Rattle.sv_loop.specs.declared.long.LongPlace.{LongPlace}
 use Rattle.sv_loop.specs.declared.long.LongPlace.TheVariants.{Titled, Hosted, Located, Described, Configured}
@@ -44,13 +44,12 @@ pub data Stage : Type 0 where
   Running : Model → Stage
 
 -- a line stands at its place, leads to the next one and gives orders; or it is out of place; or its input isn't
--- accepted; or the configuration has a fault, or a part that isn't built
+-- accepted; or the configuration has a fault
 pub data Verdict : Type 0 where
   Stands : Stage → List Order → Verdict
   Misplaced : Verdict
   Refused : Verdict
   Faulty : ConfFault → Verdict
-  NotBuilt : Verdict
 
 -- a program is one more group, if a configuration can hold it: at most 256 groups, each name once
 abbrev pub adds : List GroupSpec → Verdict
@@ -87,9 +86,9 @@ abbrev pub moved : Option LongPlace → Verdict
 moved (Some place) = Stands (Long place) []
 moved None = Misplaced
 
--- at `go` the daemon begins, if the configuration is accepted and each of its parts is built
+-- at `go` the daemon begins, if the configuration is accepted
 abbrev pub begins : Host → List (List ℕ × ℕ) → Result Config ConfFault → Verdict
-begins host sizes (Ok config) = if is_built config then Stands (Running (opening config sizes host)) [] else NotBuilt
+begins host sizes (Ok config) = Stands (Running (opening config sizes host)) []
 begins host sizes (Err fault) = Faulty fault
 
 -- what is to be said of a line of a long header

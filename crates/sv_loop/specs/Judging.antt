@@ -2,11 +2,11 @@
 use Rattle.std.specs.Prelude.{◌≡◌, ℕ, List}
 use Rattle.sv_core.specs.StandsFor.{StandsFor}
 use Rattle.sv_loop.specs.JournalPlaces.{Stage, Verdict, Leads, IsMisplaced, IsRefused, IsUnconfigured}
-use Rattle.sv_loop.specs.JournalPlaces.Verdict.{Stands as As_stands, Misplaced as As_misplaced, Faulty as As_faulty, NotBuilt as As_not_built}
+use Rattle.sv_loop.specs.JournalPlaces.Verdict.{Stands as As_stands, Misplaced as As_misplaced, Faulty as As_faulty}
 use Rattle.sv_loop.specs.JournalPlaces.Stage.{Fresh as At_title, Named as At_programs, Long as At_long, Running as At_inputs}
 use Rattle.sv_out.specs.declared.order.Order.{Order}
 use Rattle.sv_loop.specs.declared.judge.Judged.{Judged}
-use Rattle.sv_loop.specs.declared.judge.Judged.TheVariants.{Stands, Misplaced, Refused, Faulty, NotBuilt, NoMemory}
+use Rattle.sv_loop.specs.declared.judge.Judged.TheVariants.{Stands, Misplaced, Refused, Faulty, NoMemory}
 use Rattle.sv_loop.specs.declared.judge.Place.{Place}
 use Rattle.sv_loop.specs.declared.judge.Place.TheVariants.{Fresh, Named, Long, Running}
 
@@ -30,7 +30,6 @@ JudgedHead (Stands place orders) verdict = (to : Stage) × (verdict ≡ As_stand
 JudgedHead Misplaced verdict = verdict ≡ As_misplaced
 JudgedHead Refused verdict = ⊥
 JudgedHead (Faulty fault) verdict = verdict ≡ As_faulty fault
-JudgedHead NotBuilt verdict = verdict ≡ As_not_built
 JudgedHead NoMemory verdict = Unit {0}
 
 -- what the answer says of a line
@@ -39,5 +38,4 @@ JudgedAs (Stands place orders) at text = LeadsTo at text place orders.items
 JudgedAs Misplaced at text = IsMisplaced at text
 JudgedAs Refused at text = IsRefused at text
 JudgedAs (Faulty fault) at text = IsUnconfigured at text (As_faulty fault)
-JudgedAs NotBuilt at text = IsUnconfigured at text As_not_built
 JudgedAs NoMemory at text = Unit {0}

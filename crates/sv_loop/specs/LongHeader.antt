@@ -1,9 +1,8 @@
 -- The long header of a journal: the host, its environment by rising names, the known sizes of log files by rising names,
 -- the text of the configuration with those that it includes, and the start.
-use Rattle.std.specs.Prelude.{ℕ, List, [], ◌∷◌, ◌++◌, Bool, true, ◌==◌, length}
+use Rattle.std.specs.Prelude.{ℕ, List, [], ◌∷◌, ◌++◌, Bool, true}
 use Rattle.std.specs.Cmp.Lexicographic.{slice_cmp}
 use Rattle.std.specs.Ordering.{nat_cmp, is_lt}
-use Rattle.sv_base.specs.declared.config.Config.{Config}
 use Rattle.sv_base.specs.declared.config.Host.{Host}
 
 -- the name stands behind that of the last entry, if there is one
@@ -23,7 +22,3 @@ with_variable host name value = record host { environment = host.environment ++ 
 -- the daemon begins at this moment
 abbrev pub starting_at : Host → ℕ → Host
 starting_at host start = record host { start = start }
-
--- all its parts are built: it has no server
-abbrev pub is_built : Config → Bool
-is_built config = length config.servers == 0

@@ -5,11 +5,11 @@ use Rattle.std.specs.List.{list_any}
 use Rattle.sv_journal.specs.Limits.{line_limit}
 use Rattle.sv_loop.specs.JournalPlaces.{Line, Stage, Verdict, walked, journal_text, order_text, AllFit, IsMisplaced, IsRefused, IsUnconfigured}
 use Rattle.sv_loop.specs.JournalPlaces.Stage.{Fresh}
-use Rattle.sv_loop.specs.JournalPlaces.Verdict.{Faulty as As_faulty, NotBuilt as As_not_built}
+use Rattle.sv_loop.specs.JournalPlaces.Verdict.{Faulty as As_faulty}
 use Rattle.sv_loop.specs.JournalPlaces.Walked.{Reaches}
 use Rattle.sv_loop.specs.Judging.{IsPlace}
 use Rattle.sv_loop.specs.declared.run.End.{End}
-use Rattle.sv_loop.specs.declared.run.End.TheVariants.{Misplaced, Refused, Faulty, NotBuilt, NoMemory, Unwritten}
+use Rattle.sv_loop.specs.declared.run.End.TheVariants.{Misplaced, Refused, Faulty, NoMemory, Unwritten}
 use Rattle.sv_loop.specs.declared.run.Run.{Run}
 use Rattle.sv_out.specs.Written.{AppendsFront}
 use Rattle.sv_out.specs.declared.order.Order.{Order}
@@ -87,7 +87,6 @@ abbrev pub StopsAt : End → Run → List ℕ → List Order → Option (List �
 StopsAt Misplaced run bytes earlier old new = AtFault run OutsideGrammar bytes earlier old new
 StopsAt Refused run bytes earlier old new = AtFault run NotAccepted bytes earlier old new
 StopsAt (Faulty fault) run bytes earlier old new = AtFault run (NotConfigured (As_faulty fault)) bytes earlier old new
-StopsAt NotBuilt run bytes earlier old new = AtFault run (NotConfigured As_not_built) bytes earlier old new
 StopsAt NoMemory run bytes earlier old new = AtFault run Anything bytes earlier old new
 StopsAt Unwritten run bytes earlier old new = HalfWritten bytes earlier old new
 

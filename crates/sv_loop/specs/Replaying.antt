@@ -7,7 +7,7 @@ use Rattle.sv_conf.specs.declared.fault.ConfFault.{ConfFault}
 use Rattle.sv_core.specs.MachineState.{Model}
 use Rattle.sv_loop.specs.JournalPlaces.{Line, Stage, Verdict, order_text}
 use Rattle.sv_loop.specs.JournalPlaces.Stage.{Fresh, Named, Long, Running}
-use Rattle.sv_loop.specs.JournalPlaces.Verdict.{Faulty, NotBuilt}
+use Rattle.sv_loop.specs.JournalPlaces.Verdict.{Faulty}
 use Rattle.sv_loop.specs.Reading.{IsRead, OutsideGrammar, NotAccepted, NotConfigured, GoesOn, StopsAt}
 use Rattle.sv_loop.specs.declared.replaying.Ending.{Ending}
 use Rattle.sv_loop.specs.declared.replaying.Ending.TheVariants as ending
@@ -65,14 +65,9 @@ too_long = codes "fault 8" ++ 10 ∷ []
 unfoldable pub configuration_fault : ConfFault → List ℕ
 configuration_fault fault = codes "fault 6 conf " ++ fault_text fault ++ 10 ∷ []
 
--- that of a configuration with parts that are not built yet
-abbrev pub not_built : List ℕ
-not_built = codes "fault 6 not built" ++ 10 ∷ []
-
 -- the line that tells why the configuration isn't run
 abbrev pub TellsWhy : Verdict → List ℕ → Type 0
 TellsWhy (Faulty fault) line = line ≡ configuration_fault fault
-TellsWhy NotBuilt line = line ≡ not_built
 TellsWhy verdict line = ⊥
 
 -- the place is before `go`

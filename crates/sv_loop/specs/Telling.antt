@@ -1,7 +1,7 @@
 -- What is told of how a journal's reading ended.
 use Rattle.std.specs.Prelude.{◌≡◌, ℕ, List, [], ◌∷◌, ◌+◌, ◌⊎◌, Option}
 use Rattle.std.specs.Io.KnownBytes.{Appends, Consumes, IsAtEnd}
-use Rattle.sv_loop.specs.Replaying.{bad_line, not_accepted, configuration_fault, not_built, source_failed, too_long}
+use Rattle.sv_loop.specs.Replaying.{bad_line, not_accepted, configuration_fault, source_failed, too_long}
 use Rattle.sv_loop.specs.declared.judge.Place.{Place}
 use Rattle.sv_loop.specs.declared.judge.Place.TheVariants as place
 use Rattle.sv_loop.specs.declared.replaying.Ending.{Ending}
@@ -9,7 +9,7 @@ use Rattle.sv_loop.specs.declared.replaying.Ending.TheVariants.{Whole, Broken, F
 use Rattle.sv_loop.specs.declared.replaying.Status.{Status}
 use Rattle.sv_loop.specs.declared.replaying.Status.TheVariants as status
 use Rattle.sv_loop.specs.declared.run.End.{End}
-use Rattle.sv_loop.specs.declared.run.End.TheVariants.{Misplaced, Refused, Faulty, NotBuilt, NoMemory, Unwritten}
+use Rattle.sv_loop.specs.declared.run.End.TheVariants.{Misplaced, Refused, Faulty, NoMemory, Unwritten}
 use Rattle.sv_loop.specs.declared.run.Run.{Run}
 use Rattle.sv_out.specs.Written.{AppendsFront}
 
@@ -45,7 +45,6 @@ abbrev pub TellsOfLine : End → Run → Option (List ℕ) → Option (List ℕ)
 TellsOfLine Misplaced run old new got = TellsLine (bad_line (run.lines + 1)) status.BadLine old new got
 TellsOfLine Refused run old new got = TellsLine (not_accepted (run.lines + 1)) status.NotAccepted old new got
 TellsOfLine (Faulty fault) run old new got = TellsLine (configuration_fault fault) status.NotConfigured old new got
-TellsOfLine NotBuilt run old new got = Tells not_built status.NotConfigured old new got
 TellsOfLine NoMemory run old new got = (got ≡ status.NoMemory) × Appends old new []
 TellsOfLine Unwritten run old new got = (got ≡ status.SinkFailed) × Appends old new []
 

@@ -16,7 +16,6 @@ use Rattle.sv_loop.specs.JournalPlaces.{Line, Stage, Verdict, heads, journal_tex
 use Rattle.sv_loop.specs.JournalPlaces.Line.{Head, Said}
 use Rattle.sv_loop.specs.JournalPlaces.Stage.{Fresh, Running}
 use Rattle.sv_loop.specs.JournalPlaces.Walked.{Reaches}
-use Rattle.sv_loop.specs.LongHeader.{is_built}
 use Rattle.sv_loop.specs.Replaying.{TellsWhy, journal_limit}
 use Rattle.sv_loop.specs.ShortHeader.{config_of, group_of, host_at, placed}
 use Rattle.sv_out.specs.declared.input.Input.{Input}
@@ -69,11 +68,10 @@ abbrev pub groups_of : List GroupSpec → List Program → List GroupSpec
 groups_of groups [] = groups
 groups_of groups (program ∷ programs) = groups_of (placed (group_of program) groups) programs
 
--- the state in which the daemon of this header begins: that of its configuration, of which each part is built
+-- the state in which the daemon of this header begins: that of its configuration
 pub record IsConfigured (host : Host) (sizes : List (List ℕ × ℕ)) (text : List ℕ) (included : List (List ℕ × List ℕ)) (m : Model) : Type 0 where
   pub config : Config
   pub accepted : configuration_of text included host ≡ Ok config
-  pub built : is_built config ≡ true
   pub begins : m ≡ opening config sizes host
 
 -- the machine as it begins
@@ -130,7 +128,7 @@ pub data IsDoneOrHindered : ℕ → Type 0 where
   Sink_failed : IsDoneOrHindered 4
 
 -- the source holds a header whose configuration isn't run, with anything behind it: each line before its last one is in
--- the grammar of its place, and at the last one the configuration is refused or has a part that isn't built
+-- the grammar of its place, and at the last one the configuration is refused
 pub record HoldsUnconfigured (left : Option (List ℕ)) : Type 0 where
   pub lines : List Line
   pub fit : AllFit lines

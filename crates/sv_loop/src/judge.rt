@@ -43,8 +43,6 @@ pub enum Judged {
     Refused,
     /// The header is whole, and its configuration has this fault.
     Faulty(ConfFault),
-    /// The header is whole, and a part of its configuration isn't built.
-    NotBuilt,
     /// Memory was refused.
     NoMemory,
 }

@@ -5,7 +5,7 @@ ghost use Rattle.sv_files.specs.Sizes.{rise};
 ghost use Rattle.sv_journal.specs.declared.header.Header.{Header};
 ghost use Rattle.sv_loop.specs.JournalPlaces.{begins, goes_on, long_heads, moved};
 ghost use Rattle.sv_loop.specs.Judging.{JudgedHead};
-ghost use Rattle.sv_loop.specs.LongHeader.{host_of, starting_at, is_built};
+ghost use Rattle.sv_loop.specs.LongHeader.{host_of, starting_at};
 
 use crate::judge::{Judged, Place};
 use crate::sizes::{Sizes, is_behind};
@@ -216,18 +216,8 @@ fn judge_start(
 fn begin(alloc: Global, host: &Host, sizes: Sizes, config: Config) -> Judged
     ensures { JudgedHead result (begins host.now sizes (Ok config)) }
 {
-    if !is_built(&config) {
-        return Judged::NotBuilt;
-    }
     match Machine::new(alloc, config, sizes.into_vec(), host) {
         Ok(machine) => crate::judge::running(alloc, machine),
         Err(AllocError) => Judged::NoMemory,
     }
-}
-
-/// Whether each part of the configuration is built: it has no server.
-fn is_built(config: &Config) -> bool
-    ensures { result ≡ is_built config.now }
-{
-    config.servers.as_slice().is_empty()
 }

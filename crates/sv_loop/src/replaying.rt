@@ -229,7 +229,6 @@ fn close_line<K: Sink>(alloc: Global, run: &Run, end: End, sink: &mut K) -> Stat
             sink,
         ),
         End::Faulty(fault) => tell_configuration_fault(alloc, &fault, sink),
-        End::NotBuilt => tell(b"fault 6 not built\n", Status::NotConfigured, sink),
         End::NoMemory => Status::NoMemory,
         End::Unwritten => Status::SinkFailed,
     }
@@ -309,9 +308,9 @@ fn run<R: Source, K: Sink>(alloc: Global, source: &mut R, sink: &mut K) -> Statu
 ///
 /// The answer is 0 where the journal was read to its end, behind `go`, and each of its lines stood at its place; 1 where
 /// the source failed; 2 where the words are refused; 3 for want of memory; 4 where the sink failed; 5 where a line is
-/// outside the grammar of its place, or the journal ends before `go`; 6 where the header's configuration is refused, or has
-/// a part that isn't built; 7 where an input isn't accepted; 8 where the source
-/// has more than 67,108,864 bytes. A line that tells of it was then written, but at 0, 3 and 4.
+/// outside the grammar of its place, or the journal ends before `go`; 6 where the header's configuration is refused; 7 where
+/// an input isn't accepted; 8 where the source has more than 67,108,864 bytes. A line that tells of it was then written, but
+/// at 0, 3 and 4.
 pub fn replay<R: Source, K: Sink>(alloc: Global, words: &[Text], source: &mut R, sink: &mut K) -> u8
     ensures statuses { (status : Status) × (result ≡ status_number status) }
     ensures refused { (AreRun words.now → ⊥) →

@@ -22,8 +22,6 @@ pub enum End {
     Refused,
     /// The configuration has this fault.
     Faulty(ConfFault),
-    /// A part of the configuration isn't built.
-    NotBuilt,
     /// Memory was refused.
     NoMemory,
     /// Its orders couldn't be written.
@@ -145,7 +143,6 @@ impl Run {
             Judged::Misplaced => Err(End::Misplaced),
             Judged::Refused => Err(End::Refused),
             Judged::Faulty(fault) => Err(End::Faulty(fault)),
-            Judged::NotBuilt => Err(End::NotBuilt),
             Judged::NoMemory => Err(End::NoMemory),
         }
     }

@@ -76,13 +76,13 @@ const CASES: [Case; 33] = [
         written: "",
     },
     Case {
-        name: "a_server_is_not_built",
+        name: "a_server",
         journal: "supervisor-journal 1\nhost h\nhere /etc\npid 1\nconf [supervisord]%0Alogfile=NONE%0A[inet_http_server]%0Aport=9001%0A\ngo 0\n",
-        status: 6,
-        written: "fault 6 not built\n",
+        status: 0,
+        written: "",
     },
     Case {
-        name: "a_fault_before_what_is_not_built",
+        name: "a_fault_of_a_server",
         journal: "supervisor-journal 1\nhost h\nhere /etc\npid 1\nconf [unix_http_server]%0A\ngo 0\n",
         status: 6,
         written: "fault 6 conf 2 Missing unix_http_server file\n",

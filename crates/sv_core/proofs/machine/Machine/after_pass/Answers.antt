@@ -1,8 +1,14 @@
-use Rattle.sv_core.proofs.Standing.{done_there}
+use Rattle.sv_core.proofs.Standing.{gone_on_links, left_in_links}
+use Rattle.sv_core.specs.Turn.{after_links}
 use Rattle.sv_core.proofs.machine.Machine.after_pass.Goals as goal
 
-pub returns-clause-rest : goal.returns-clause-rest
-returns-clause-rest c = λ older w s.
-    let served = c.serve_links.ensures.served older w s in
-    let followed = c.in_ok-follow_plan.ensures.follows older _ served in
-    done_there c.halt.new.self older _ (c.in_ok-halt.ensures.halts older _ (c.in_ok-hand_out.ensures.hands older _ followed))
+pub returns-in-Some-clause-rest : goal.returns-in-Some-clause-rest
+returns-in-Some-clause-rest c = λ older w s.
+    left_in_links c.serve_links.new.self older _ c.in_ok-serving.field-0 c.in-Some.serving c.in-Some.is
+    (c.in_ok-serving.ensures.serves older w after_links s)
+
+pub returns-in_ok-after_links-in-None-clause-rest : goal.returns-in_ok-after_links-in-None-clause-rest
+returns-in_ok-after_links-in-None-clause-rest c = λ older w s.
+    let at = c.in_ok-serving.ensures.serves older w after_links s in
+    gone_on_links c.serve_links.new.self c.after_links.new.self older _ c.in_ok-serving.field-0 after_links _ c.in-None.is at
+    (c.in_ok-after_links-in-None.ensures.rest older at.world at.shows)

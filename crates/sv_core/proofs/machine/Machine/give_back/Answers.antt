@@ -10,10 +10,10 @@ use Rattle.sv_pools.specs.StandsFor as kept_pools
 use Rattle.sv_core.proofs.machine.Machine.give_back.Goals as goal
 
 pub returns-clause-gives : goal.returns-clause-gives
-returns-clause-gives c = made (gives_back c.args.child) c.args.self.now c.tell_drops.new.self (λ older pools runs streams kept alive written.
+returns-clause-gives c = made (gives_back c.args.child) c.args.self.now c.tell_drops.new.self (λ older pools runs streams links kept alive written bound.
     let id = id_of c.args.child in
     let told = rejection_reports id pools in
-    let after : World = record (shown c.args.self.now older pools runs streams) { pools = rejects id pools } in
+    let after : World = record (shown c.args.self.now older pools runs streams links) { pools = rejects id pools } in
     let reports : c.reject.new.given.items ≡ told =
     c.in_ok-reject.ensures.given pools kept
     ∙ ap (λ (i : ℕ). c.new-reports.result.items ++ rejection_reports i pools) c.id_of.ensures
@@ -28,4 +28,6 @@ returns-clause-gives c = made (gives_back c.args.child) c.args.self.now c.tell_d
       pools_kept = subst (λ (i : ℕ). kept_pools.StandsFor c.reject.new.self (rejects i pools)) c.id_of.ensures (c.in_ok-reject.ensures.rejected pools kept);
       runs_kept = alive;
       streams_kept = written;
+      links = links;
+      links_kept = bound;
     })))

@@ -1,6 +1,6 @@
 use Rattle.std.proofs.Common.{Some, ◌∙◌, ap}
 use Rattle.sv_core.proofs.Shown.{at_same}
-use Rattle.sv_core.proofs.Standing.{pass_answered, stimulus_answered}
+use Rattle.sv_core.proofs.Standing.{links_answered, pass_answered, stimulus_answered}
 use Rattle.sv_core.specs.StandsFor.{rest}
 use Rattle.sv_core.specs.Turn.{come}
 use Rattle.sv_core.specs.declared.part.Followed.TheVariants as followed
@@ -20,3 +20,10 @@ returns-in_ok-go_on_in_pass-in-Pass-clause-turn c = λ older w s.
     (ap (λ (p : Place). come (rest (Some p) w) (followed.Answered c.args.reply)) c.in-Pass.is
     ∙ pass_answered c.in-Pass.paused c.args.reply w)
     (c.in_ok-go_on_in_pass-in-Pass.ensures.turn older w s)
+
+pub returns-in_ok-go_on_in_links-in-Links-clause-turn : goal.returns-in_ok-go_on_in_links-in-Links-clause-turn
+returns-in_ok-go_on_in_links-in-Links-clause-turn c = λ older w s.
+    at_same _ older _ _ _
+    (ap (λ (p : Place). come (rest (Some p) w) (followed.Answered c.args.reply)) c.in-Links.is
+    ∙ links_answered c.in-Links.serving c.args.reply w)
+    (c.in_ok-go_on_in_links-in-Links.ensures.turn older w s)

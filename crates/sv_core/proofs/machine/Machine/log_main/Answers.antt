@@ -6,8 +6,8 @@ use Rattle.sv_core.specs.StandsFor.{shown}
 use Rattle.sv_core.proofs.machine.Machine.log_main.Goals as goal
 
 pub returns-in_ok-append-in-Some-clause-logs : goal.returns-in_ok-append-in-Some-clause-logs
-returns-in_ok-append-in-Some-clause-logs c = made (logs_if c.args.self.now.config.main c.args.bytes) c.args.self.now _ (λ older pools runs streams kept alive written.
-    let w = shown c.args.self.now older pools runs streams in
+returns-in_ok-append-in-Some-clause-logs c = made (logs_if c.args.self.now.config.main c.args.bytes) c.args.self.now _ (λ older pools runs streams links kept alive written bound.
+    let w = shown c.args.self.now older pools runs streams links in
     let main = c.args.self.now.config.main in
     let logged = logged_there w older c.args.self.now.hand.given.items c.append.new.given.items c.append.new.self main c.as_slice.result.now refl
     c.in_ok-append-in-Some.ensures.sizes c.in_ok-append-in-Some.ensures.orders in
@@ -19,4 +19,6 @@ returns-in_ok-append-in-Some-clause-logs c = made (logs_if c.args.self.now.confi
       pools_kept = kept;
       runs_kept = alive;
       streams_kept = written;
+      links = links;
+      links_kept = bound;
     })

@@ -1,6 +1,6 @@
 use Rattle.std.proofs.Common.{refl}
 use Rattle.sv_loop.proofs.RunSteps.{stood, stopped_at_write, misplaced, refused, unconfigured, no_memory}
-use Rattle.sv_loop.specs.JournalPlaces.Verdict.{Faulty, NotBuilt}
+use Rattle.sv_loop.specs.JournalPlaces.Verdict.{Faulty}
 use Rattle.sv_loop.proofs.run.Run.end_line.Goals as goal
 
 pub returns-in-Ok-clause-goes_on : goal.returns-in-Ok-clause-goes_on
@@ -29,11 +29,6 @@ pub returns-in-Faulty-clause-stops : goal.returns-in-Faulty-clause-stops
 returns-in-Faulty-clause-stops g c = λ lines at given bytes is.
     unconfigured c.args.self.now _ (Faulty c.in-Faulty.fault) lines at given bytes _ is refl
     (rw c.as_slice.ensures.value at (c.in-Faulty.ensures at (rw c.replace-place.ensures.value is.place)))
-
-pub returns-in-NotBuilt-clause-stops : goal.returns-in-NotBuilt-clause-stops
-returns-in-NotBuilt-clause-stops g c = λ lines at given bytes is.
-    unconfigured c.args.self.now _ NotBuilt lines at given bytes _ is refl
-    (rw c.as_slice.ensures.value at (c.in-NotBuilt.ensures at (rw c.replace-place.ensures.value is.place)))
 
 pub returns-in-NoMemory-clause-stops : goal.returns-in-NoMemory-clause-stops
 returns-in-NoMemory-clause-stops g c = λ lines at given bytes is. no_memory c.args.self.now _ lines at given bytes 10 _ is refl
