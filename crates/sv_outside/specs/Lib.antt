@@ -1,0 +1,9 @@
+pub mod Told
+pub mod Plans
+pub mod Clocks
+pub mod Waiting
+pub mod Listening
+pub mod Spawning
+pub mod Gates
+pub mod HeldJobs
+pub mod ScriptSpawns

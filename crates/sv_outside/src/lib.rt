@@ -1,0 +1,25 @@
+//! The outside as threads meet it: the clock, the programs that are started, the links that come in, and the gate behind
+//! which jobs run. Each object that can fail counts its faults, and a call fails only where that count rose in it; an
+//! object that can, tells what it was asked for. Each trait has a form in memory.
+#![tactic(auto)]
+
+pub use clock::{Clock, FixedClock};
+pub use gate::Gate;
+pub use hold_gate::HoldGate;
+pub use jobs::{Job, JobWord, PumpEnd};
+pub use listening::{Listen, ScriptListen};
+pub use script_spawner::{Program, ScriptSpawner};
+pub use spawner::{Asked, KillFault, Refusal, SpawnFault, Spawner, Started};
+pub use waiter::{ScriptWaiter, Waiter};
+
+mod calls;
+pub mod clock;
+pub mod gate;
+pub mod hold_gate;
+pub mod jobs;
+pub mod listening;
+pub mod script_spawner;
+pub mod spawner;
+#[cfg(test)]
+mod tests;
+pub mod waiter;
