@@ -1,0 +1,5 @@
+mod Consoles
+mod Lines
+mod Pumps
+mod Serves
+mod Writes

@@ -1,0 +1,10 @@
+pub mod LastNotes
+pub mod Pieces
+pub mod Pumping
+pub mod StdinWriting
+pub mod Serving
+pub mod Watching
+pub mod Accepting
+pub mod ConsoleLines
+pub mod Consoling
+pub mod HeldLines

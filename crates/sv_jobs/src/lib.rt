@@ -1,0 +1,28 @@
+//! The functions of the jobs: what runs beside the loop, and posts what it reads as notes. Each says what it read, wrote,
+//! took and posted, over objects of the outside that tell it.
+#![tactic(auto)]
+
+pub use accepting::accept_links;
+pub use consoling::console;
+pub use notes::{LinkWord, Note, StdinWord};
+pub use pumping::pump;
+pub use serving::serve_link;
+pub use stdin_writing::write_stdin;
+pub use ticking::ticker;
+pub use watching::watch;
+
+mod accepting;
+mod console_line;
+mod consoling;
+mod ending;
+mod line_in_hand;
+mod notes;
+mod pumping;
+mod reading;
+mod room;
+mod serving;
+mod stdin_writing;
+#[cfg(test)]
+mod tests;
+mod ticking;
+mod watching;

@@ -1,0 +1,5 @@
+//! x
+#[test]
+fn nothing(rt: HostRuntime) {
+    assert!(rt; true);
+}
