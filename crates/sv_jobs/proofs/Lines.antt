@@ -1,12 +1,12 @@
 -- The lines of the console, byte by byte.
-use Rattle.std.proofs.Common.{◌≡◌, ◌≢◌, ◌≤◌, ◌<◌, ◌+◌, ◌++◌, ◌∷◌, ◌∙◌, ◌⊎◌, ℕ, Bool, true, false, List, [], Option, None, Some, ap, append_assoc, append-nil, arith, inl, inr, length, refl, subst, sym, take}
+use Rattle.std.proofs.Common.{◌≡◌, ◌≢◌, ◌≤◌, ◌<◌, ◌++◌, ◌∷◌, ◌∙◌, ℕ, Bool, true, false, List, [], Option, None, Some, ap, append_assoc, append-nil, arith, length, refl, sym}
 use Rattle.std.proofs.lemmas.Bool.{ltb-true, lt-ltb}
 use Rattle.std.proofs.lemmas.Bool.Decides.{nat_tests}
 use Rattle.std.proofs.lemmas.Grind.{flat_map-append}
 use Rattle.std.proofs.lemmas.List.{length-append, length-take, take-append-le, take_all}
 use Rattle.std.proofs.lemmas.List.Elements.{All-append, All-cons, All-nil, filter_map-append}
 use Rattle.std.proofs.lemmas.Str.{is_utf8-from_IsUtf8, IsUtf8-from_is_utf8}
-use Rattle.std.specs.List.{cons_option, filter_map, flat_map}
+use Rattle.std.specs.List.{cons_option, flat_map}
 use Rattle.std.specs.Prelude.{All, IfOk, Result, Ok, Err, nat_lt, option_to_list}
 use Rattle.std.specs.Str.{IsUtf8, is_utf8}
 use Rattle.sv_jobs.specs.ConsoleLines.{IsPlain, asked, kept, kept_limit, line_limit, note_of, notes_of, parted, with_feed}
@@ -60,7 +60,7 @@ noted_kept_by false rest short = ap note_of (take_all kept_limit rest (grind (ar
 noted_kept_by true rest long =
     let more : line_limit < length rest = ltb-true line_limit (length rest) long in
     let still : nat_lt line_limit (length (kept rest)) ≡ true =
-        lt-ltb line_limit (length (kept rest)) (omega (arith, length-take kept_limit rest)) in
+    lt-ltb line_limit (length (kept rest)) (omega (arith, length-take kept_limit rest)) in
     rw (long, still) refl
 
 noted_kept : (rest : List ℕ) → note_of (kept rest) ≡ note_of rest

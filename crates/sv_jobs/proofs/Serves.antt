@@ -32,9 +32,12 @@ twice : (deeds : List Deed) (deed : Deed) (told : Option Exchange)
     → option_map (after_deeds (deed ∷ [])) (option_map (after_deeds deeds) told) ≡ option_map (after_deeds (deeds ++ deed ∷ [])) told
 twice deeds deed None = refl
 twice deeds deed (Some exchange) =
-    rw (flat_map-append written_by deeds (deed ∷ []), flat_map-append read_by deeds (deed ∷ []),
-        append_assoc exchange.sent (flat_map written_by deeds) (flat_map written_by (deed ∷ [])),
-        append_assoc exchange.heard (flat_map read_by deeds) (flat_map read_by (deed ∷ []))) refl
+    rw (
+      flat_map-append written_by deeds (deed ∷ []),
+      flat_map-append read_by deeds (deed ∷ []),
+      append_assoc exchange.sent (flat_map written_by deeds) (flat_map written_by (deed ∷ [])),
+      append_assoc exchange.heard (flat_map read_by deeds) (flat_map read_by (deed ∷ [])),
+    ) refl
 
 served_more : (link : LinkId) (a b c : Option Exchange) (t u v : List (ℕ × LinkWord)) (k l m : List Note) (seat : ℕ) (deed : Deed)
     → ServedSoFar link a b t u k l → v ≡ u ++ (seat, word_of deed) ∷ [] → c ≡ option_map (after_deeds (deed ∷ [])) b → m ≡ l ++ note_of link deed ∷ []

@@ -1,5 +1,5 @@
 -- One text more is written to a standard input.
-use Rattle.std.proofs.Common.{◌≡◌, ◌++◌, ◌∷◌, ◌∙◌, ◌+◌, ℕ, List, [], Option, ap, append_assoc, append-nil, length, map, replicate, subst, sym}
+use Rattle.std.proofs.Common.{◌≡◌, ◌++◌, ◌∷◌, ◌∙◌, ℕ, List, [], Option, ap, append_assoc, append-nil, length, map, replicate, subst, sym}
 use Rattle.std.proofs.KnownBytes.{Appends-trans}
 use Rattle.std.proofs.lemmas.List.{length-append, map-append, replicate_more}
 use Rattle.std.proofs.lemmas.List.Folds.{concat-append}

@@ -1,5 +1,5 @@
 -- What is accepted, and what is posted of it.
-use Rattle.std.specs.Prelude.{◌≡◌, ◌≤◌, ◌+◌, ◌-◌, ◌^◌, ◌==◌, ◌++◌, ℕ, List, Option, length, map, min, option_map, replicate, if◌then◌else◌}
+use Rattle.std.specs.Prelude.{◌≡◌, ◌≤◌, ◌+◌, ◌-◌, ◌^◌, ◌==◌, ◌++◌, ℕ, List, Option, length, min, option_map, replicate, if◌then◌else◌}
 use Rattle.sv_base.specs.declared.state.Side.{Side}
 use Rattle.sv_jobs.specs.declared.notes.Note.{Note}
 use Rattle.sv_jobs.specs.declared.notes.Note.TheVariants.{Open}

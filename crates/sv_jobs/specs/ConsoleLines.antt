@@ -1,6 +1,6 @@
 -- The lines of the console, each ended by a line feed, and what they ask for.
 use Rattle.std.specs.Prelude.{◌≢◌, ◌==◌, ◌++◌, ◌∷◌, ◌||◌, ℕ, Bool, List, [], Option, None, Some, All, codes, length, nat_lt, not, take, if◌then◌else◌, option_map}
-use Rattle.std.specs.List.{before_first, after_first, filter_map, find, flat_map, position_or_len}
+use Rattle.std.specs.List.{before_first, after_first, filter_map, find, position_or_len}
 use Rattle.std.specs.Str.{bytes_eq, is_utf8}
 use Rattle.sv_base.specs.Names.{signal_name}
 use Rattle.sv_base.specs.declared.signal.Signal.{Signal}

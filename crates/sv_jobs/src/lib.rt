@@ -22,7 +22,5 @@ mod reading;
 mod room;
 mod serving;
 mod stdin_writing;
-#[cfg(test)]
-mod tests;
 mod ticking;
 mod watching;

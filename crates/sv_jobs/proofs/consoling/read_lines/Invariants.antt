@@ -1,4 +1,4 @@
-use Rattle.std.proofs.Common.{◌≡◌, ◌≤◌, length}
+use Rattle.std.proofs.Common.{◌≤◌}
 use Rattle.sv_jobs.proofs.Consoles.{HeardSoFar, HearsPiece}
 use Rattle.sv_jobs.specs.HeldLines.{kept_bytes}
 use Rattle.sv_lane.specs.Ends.{IsSameSeat, posted}

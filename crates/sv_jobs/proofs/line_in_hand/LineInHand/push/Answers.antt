@@ -1,6 +1,4 @@
-use Rattle.std.proofs.Common.{◌∙◌, ◌≤◌, arith, length, sym}
-use Rattle.std.proofs.lemmas.List.{length-append, take-append-le, take_all}
-use Rattle.sv_jobs.specs.ConsoleLines.{kept_limit}
+use Rattle.std.proofs.Common.{arith}
 use Rattle.sv_jobs.proofs.Lines.{pushed, unpushed}
 use Rattle.sv_jobs.proofs.line_in_hand.LineInHand.push.Goals as goal
 

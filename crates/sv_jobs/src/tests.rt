@@ -1,5 +1,0 @@
-//! x
-#[test]
-fn nothing(rt: HostRuntime) {
-    assert!(rt; true);
-}

@@ -1,0 +1,111 @@
+//! What serves a link, over a link in memory.
+
+ghost use Rattle.std.specs.Prelude.{◌≤◌};
+
+use crate::telling::{bytes_of, calls_of, lane_of, letter, notes_of};
+use std::alloc::Global;
+use std::collections::VecDeque;
+use std::process::Abort;
+use std::sync::Wait;
+use sv_base::{Bytes, LinkId, Place, Text};
+use sv_jobs::{LinkWord, serve_link};
+use sv_lane::Poster;
+use sv_out::{Dial, Link, Script, ScriptDial, ScriptLink};
+use sv_outside::PumpEnd;
+
+// Each line: the bytes of the link, the most bytes of a call, the call that is to fail; the words, `+` being a More and a
+// dot a Close; the notes, what was sent, what was heard, and how it ended.
+const LINKS: &str = "\
+abcd|3||+ hi + .|abc s d .|hi|abcd|E
+abcd|3|1|+ hi + .|.|||F
+abcd|3|2|+ hi + .|abc .||abc|F
+abcd|3|3|+ hi + .|abc s .|hi|abc|F
+abcd|3|4|+ hi + .|abc s d .|hi|abcd|E
+abcd|3||+ + + +|abc d .||abcd|E
+abcd|1||+ hi .|a s .|hi|a|E
+abcd|1|2|+ hi .|a .||a|F
+abcd|1|3|+ hi .|a .|h|a|F
+|9||hi you .|s s .|hiyou||E
+|9||.|.|||E
+|9||+|.|||E
+";
+
+fn most_of(text: &str) -> usize
+    ensures { 1 ≤ result }
+{
+    match text {
+        "1" => 1,
+        "3" => 3,
+        _ => 9,
+    }
+}
+
+/// Posts the words.
+fn post_words<R: Abort + Wait>(rt: &R, alloc: Global, poster: &mut Poster<LinkWord>, words: &str) {
+    for word in words.split(' ') {
+        poster.post(
+            rt,
+            match word {
+                "+" => LinkWord::More,
+                "." => LinkWord::Close,
+                text => LinkWord::Send(Bytes::from_vec(bytes_of(rt, alloc, text))),
+            },
+        );
+    }
+}
+
+/// What was sent over a link and what was heard, with a bar between them.
+fn told(rt: &impl Abort, alloc: Global, link: ScriptLink) -> String {
+    let mut dial = ScriptDial::new(alloc, VecDeque::new(alloc), Vec::new(alloc));
+    dial.close(alloc, link).expect(rt, "ample memory");
+    let mut text = String::new(alloc);
+    for exchange in dial.exchanges() {
+        for bytes in [exchange.sent.as_slice(), b"|", exchange.heard.as_slice()] {
+            let part = std::str::from_utf8(bytes).unwrap_or("");
+            text.push_str(part).expect(rt, "ample memory");
+        }
+    }
+    text
+}
+
+fn serve_line<R: Abort + Wait>(rt: &R, alloc: Global, line: &str) {
+    let (bytes, rest) = line.split_once('|').expect(rt, "the bytes");
+    let (most, rest) = rest.split_once('|').expect(rt, "the most");
+    let (failing, rest) = rest.split_once('|').expect(rt, "the calls");
+    let (words, rest) = rest.split_once('|').expect(rt, "the words");
+    let (expected, rest) = rest.split_once('|').expect(rt, "the notes");
+    let (exchanged, end) = rest.rsplit_once('|').expect(rt, "what was exchanged");
+    let script = Script::new(
+        bytes_of(rt, alloc, bytes),
+        most_of(most),
+        calls_of(rt, alloc, failing),
+    );
+    let mut link = ScriptLink::new(alloc, Place::Unix(Text::fixed("/s")), script);
+    let (mut taker, mut poster) = lane_of(rt, alloc);
+    let (mut words_taker, mut words_poster) = lane_of(rt, alloc);
+    post_words(rt, alloc, &mut words_poster, words);
+    let came = serve_link(
+        rt,
+        alloc,
+        &mut link,
+        LinkId(7),
+        &mut poster,
+        &mut words_taker,
+    );
+    let notes = notes_of(rt, alloc, &mut taker, &mut poster);
+    if came == PumpEnd::OutOfMemory {
+        assert!(rt; notes.as_str().ends_with("? ."), "{line}");
+        return;
+    }
+    assert_eq!(rt; letter(came), end, "{line}");
+    assert_eq!(rt; notes.as_str(), expected, "{line}");
+    assert!(rt; (link.faults() == 1) == (came == PumpEnd::Failed), "{line}");
+    assert_eq!(rt; told(rt, alloc, link).as_str(), exchanged, "{line}");
+}
+
+#[test]
+fn a_link_is_served_word_by_word(rt: HostRuntime) {
+    for line in LINKS.lines() {
+        serve_line(&rt, rt.alloc(), line);
+    }
+}
