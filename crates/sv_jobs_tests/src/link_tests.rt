@@ -54,16 +54,20 @@ fn post_words<R: Abort + Wait>(rt: &R, alloc: Global, poster: &mut Poster<LinkWo
     }
 }
 
+fn push_bytes(rt: &impl Abort, text: &mut String, bytes: &[u8]) {
+    let part = std::str::from_utf8(bytes).unwrap_or("");
+    text.push_str(part).expect(rt, "ample memory");
+}
+
 /// What was sent over a link and what was heard, with a bar between them.
 fn told(rt: &impl Abort, alloc: Global, link: ScriptLink) -> String {
     let mut dial = ScriptDial::new(alloc, VecDeque::new(alloc), Vec::new(alloc));
     dial.close(alloc, link).expect(rt, "ample memory");
     let mut text = String::new(alloc);
     for exchange in dial.exchanges() {
-        for bytes in [exchange.sent.as_slice(), b"|", exchange.heard.as_slice()] {
-            let part = std::str::from_utf8(bytes).unwrap_or("");
-            text.push_str(part).expect(rt, "ample memory");
-        }
+        push_bytes(rt, &mut text, exchange.sent.as_slice());
+        text.push('|').expect(rt, "ample memory");
+        push_bytes(rt, &mut text, exchange.heard.as_slice());
     }
     text
 }
