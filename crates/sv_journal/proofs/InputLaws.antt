@@ -27,13 +27,13 @@ use Rattle.sv_journal.specs.declared.token.Letters.{Letters}
 use Rattle.sv_journal.specs.declared.token.Letters.TheVariants.{OfText, OfBytes}
 use Rattle.sv_journal.specs.Limits.{number_limit, run_limit}
 use Rattle.sv_journal.specs.Spelling.{token}
-use Rattle.sv_journal.specs.JournalLine.{AreBytes, IsPiece, how_words, FitsHow, stream_word, stream_end_word, side_word, input_line, FitsInput}
+use Rattle.sv_journal.specs.JournalLine.{IsPiece, how_words, FitsHow, stream_word, stream_end_word, side_word, input_line, FitsInput}
 use Rattle.sv_journal.specs.Reading.{◌>>=◌, end_at, keyword_at}
 use Rattle.sv_journal.specs.ReadingLines.{verb_word, verbs, told_signal, told_signals, told_word, ending_word, endings, answer_word, answers, sides, word_then, keyword_then, number_then, last_token_then, last_piece_then, how_at, exit_at, out_at, out_end_at, open_at, link_piece_at, link_end_at, event_of, event_at, answer_of, answer_at, begins_with_digit, input_at}
 use Rattle.sv_journal.proofs.LineParts.{end_takes, word_then_takes, keyword_then_takes, number_then_takes, last_token_takes}
 use Rattle.sv_journal.proofs.Names.{good_text, text_good, good_bytes, bytes_good}
 use Rattle.sv_journal.proofs.NumberLaws.{IsLimit, number_again, digit_from}
-use Rattle.sv_journal.proofs.PieceLaws.{PieceTaken, last_piece_takes, end_piece}
+use Rattle.sv_journal.proofs.PieceLaws.{last_piece_takes, end_piece}
 use Rattle.sv_journal.proofs.TokenLaws.{Good, token_again}
 
 pub moment_fits : IsLimit moment_limit

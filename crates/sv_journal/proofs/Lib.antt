@@ -1,6 +1,8 @@
 pub mod Codes
 pub mod Columns
+pub mod Counted
 pub mod CommaLaws
+pub mod Commas
 pub mod HeaderLaws
 pub mod InputLaws
 pub mod OneMeaning
@@ -11,11 +13,15 @@ pub mod Marks
 pub mod Names
 pub mod NoLineFeed
 pub mod NumberLaws
+pub mod OrderLaws
+pub mod OrderParts
 pub mod PieceLaws
+pub mod PlainOrders
 pub mod Results
 pub mod Sharp
 pub mod SharpCodes
 pub mod SharpLines
+pub mod SharpOrders
 pub mod SharpPiece
 pub mod SharpToken
 pub mod Stages

@@ -1,5 +1,5 @@
 -- No line begins with the mark of an order's line.
-use Rattle.std.proofs.Common.{◌≡◌, ◌≢◌, ℕ, List, ◌++◌, sym, ap, ◌∙◌}
+use Rattle.std.proofs.Common.{◌≢◌, ℕ, List, ◌++◌, sym, ap, ◌∙◌}
 use Rattle.std.specs.Prelude.{codes}
 use Rattle.sv_out.specs.declared.input.Input.{Input}
 use Rattle.sv_journal.specs.declared.header.Header.{Header}

@@ -26,13 +26,13 @@ use Rattle.sv_journal.specs.Spelling.{stands_for_itself, hex_digit, byte_spellin
 use Rattle.sv_journal.specs.JournalLine.{how_words, FitsHow, stream_word, stream_end_word, side_word, input_line, FitsInput, autorestart_word, is_exit_code, header_line, FitsHeader, program_line, FitsProgram}
 use Rattle.sv_journal.proofs.TokenLaws.{spelled_itself, spelled_escaped}
 
-abbrev Plain : List ℕ → Type 0
+abbrev pub Plain : List ℕ → Type 0
 Plain bs = list_any (λ (b : ℕ). eqb b 10) bs ≡ false
 
-joined : (a b : List ℕ) → Plain a → Plain b → Plain (a ++ b)
+pub joined : (a b : List ℕ) → Plain a → Plain b → Plain (a ++ b)
 joined a b p q = list_any-append (λ (b : ℕ). eqb b 10) a b ∙ rw (p, q) refl
 
-number : (n : ℕ) → n < 2 ^ 64 → Plain (decimal n)
+pub number : (n : ℕ) → n < 2 ^ 64 → Plain (decimal n)
 number n fits = decimal_by_steps (λ n ds. Plain ds)
     (λ k small. rw (ne_eqb (48 + k) 10 (omega arith)) refl)
     (λ k ds big ih. joined ds ((48 + k % 10) ∷ []) ih (rw (ne_eqb (48 + k % 10) 10 (omega arith)) refl))
@@ -61,7 +61,7 @@ letters : (bs : List ℕ) → Plain (bytes_spelling bs)
 letters [] = refl
 letters (b ∷ bs) = joined (byte_spelling b) (bytes_spelling bs) (letter b) (letters bs)
 
-text : (bs : List ℕ) → Plain (token bs)
+pub text : (bs : List ℕ) → Plain (token bs)
 text [] = refl
 text (b ∷ bs) = letters (b ∷ bs)
 
@@ -84,7 +84,7 @@ how (how_is.Signal signal) fits = joined (codes "signal ") (decimal signal) refl
 after_number : (n : ℕ) (rest : List ℕ) → n < 2 ^ 64 → Plain rest → Plain (decimal n ++ rest)
 after_number n rest fits plain = joined (decimal n) rest (number n fits) plain
 
-signal : (signal : Signal) → Plain (signal_name signal)
+pub signal : (signal : Signal) → Plain (signal_name signal)
 signal signal_is.Term = refl
 signal signal_is.Hup = refl
 signal signal_is.Int = refl

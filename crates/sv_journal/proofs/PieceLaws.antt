@@ -1,7 +1,7 @@
 -- A piece that was read is what its line spells, and each piece is read again.
-use Rattle.std.proofs.Common.{◌≡◌, ℕ, zero, suc, ◌+◌, ◌*◌, ◌-◌, ◌/◌, ◌%◌, ◌<◌, ◌≤◌, Bool, true, false, not, cond, ◌&&◌, eqb, ltb, leb, List, [], ◌∷◌, ◌++◌, length, Result, Ok, Err, inl, inr, refl, sym, ap, ◌∙◌, subst, arith, append_assoc, append-nil}
+use Rattle.std.proofs.Common.{◌≡◌, ℕ, zero, suc, ◌+◌, ◌*◌, ◌-◌, ◌/◌, ◌%◌, ◌<◌, ◌≤◌, Bool, true, false, not, cond, ◌&&◌, eqb, leb, List, [], ◌∷◌, ◌++◌, length, Result, Ok, Err, inl, inr, refl, sym, ap, ◌∙◌, subst, arith, append_assoc, append-nil}
 use Rattle.std.specs.List.{list_all}
-use Rattle.std.proofs.lemmas.Bool.{false≢true, cases_Bool, lt-ltb, ltb-true, and_parts, and_from, eqb-true, not-true, not_from_false}
+use Rattle.std.proofs.lemmas.Bool.{cases_Bool, lt-ltb, ltb-true, and_parts, and_from, eqb-true, not-true, not_from_false}
 use Rattle.sv_base.specs.Limits.{piece_limit}
 use Rattle.sv_journal.specs.JournalLine.{is_byte, IsPiece}
 use Rattle.sv_journal.specs.Spelling.{stands_for_itself, hex_digit, byte_spelling, bytes_spelling, token}

@@ -1,5 +1,5 @@
 -- A reader of a piece stops at the first byte with which no piece goes on.
-use Rattle.std.proofs.Common.{◌≡◌, ℕ, zero, suc, ◌+◌, ◌/◌, ◌%◌, ◌<◌, ◌≤◌, Bool, true, false, not, cond, ◌&&◌, eqb, ◌⊎◌, List, [], ◌∷◌, ◌++◌, length, Result, Ok, Err, inl, inr, refl, sym, ap, ◌∙◌, subst, arith, append_assoc, length-append}
+use Rattle.std.proofs.Common.{◌≡◌, ℕ, zero, suc, ◌/◌, ◌%◌, ◌<◌, Bool, true, false, not, cond, eqb, ◌⊎◌, List, [], ◌∷◌, ◌++◌, length, Result, Ok, Err, inl, inr, refl, sym, ap, ◌∙◌, subst, arith, append_assoc, length-append}
 use Rattle.std.proofs.lemmas.Bool.{and_parts, eqb-true, not-true}
 use Rattle.sv_base.specs.Limits.{piece_limit}
 use Rattle.sv_journal.specs.Spelling.{stands_for_itself, hex_digit, byte_spelling}
@@ -12,7 +12,7 @@ use Rattle.sv_journal.specs.declared.token.Awaits.TheVariants.{Character}
 use Rattle.sv_journal.proofs.PieceLaws.{byte_again, byte_takes, byte_some, step_ok, step_err, nothing_left, piece_cons}
 use Rattle.sv_journal.proofs.Results.{never}
 use Rattle.sv_journal.proofs.Sharp.{Failure, Sharp, any, err_value, cons_head, at_nothing}
-use Rattle.sv_journal.proofs.SharpToken.{Escaped, escaped, choose_false}
+use Rattle.sv_journal.proofs.SharpToken.{escaped, choose_false}
 use Rattle.sv_journal.proofs.TokenLaws.{chosen, choose_true, hex_below, hex_again, spelled_escaped}
 
 -- where the reader of a byte stops

@@ -1,6 +1,9 @@
 pub mod Column
+pub mod Commas
 pub mod JournalLine
 pub mod Limits
+pub mod OrderReading
+pub mod Orders
 pub mod Outcome
 pub mod Pieces
 pub mod Reading

@@ -57,7 +57,7 @@ pub fn read_header(alloc: Global, line: &[u8]) -> Result<Header, LineFault>
 }
 
 /// The column of the first bad byte, where so many bytes are left from it on.
-fn column(line: &[u8], left: usize) -> usize
+pub(crate) fn column(line: &[u8], left: usize) -> usize
     ensures { result ≡ min (length line.now - left) line_limit }
 {
     line.len().saturating_sub(left).min(LINE_LIMIT)

@@ -172,7 +172,7 @@ fn end_verb(stream: Stream) -> &'static str
 
 /// Adds a word and a number.
 #[tactic(auto, using(crate::proofs::Lists::joined))]
-fn put_counted(line: &mut String, word: &str, number: u64) -> Result<(), AllocError>
+pub(crate) fn put_counted(line: &mut String, word: &str, number: u64) -> Result<(), AllocError>
     ensures { OnOk result (string_bytes line.new
         ≡ string_bytes line.old ++ (word.now ++ decimal number)) }
 {
@@ -182,7 +182,7 @@ fn put_counted(line: &mut String, word: &str, number: u64) -> Result<(), AllocEr
 
 /// Adds a word and a token.
 #[tactic(auto, using(crate::proofs::Lists::joined))]
-fn put_spelled(line: &mut String, word: &str, bytes: &[u8]) -> Result<(), AllocError>
+pub(crate) fn put_spelled(line: &mut String, word: &str, bytes: &[u8]) -> Result<(), AllocError>
     ensures { OnOk result (string_bytes line.new
         ≡ string_bytes line.old ++ (word.now ++ token bytes.now)) }
 {
@@ -399,7 +399,7 @@ fn put_then_bytes(line: &mut String, bytes: &[u8]) -> Result<(), AllocError>
     put_token(line, bytes)
 }
 
-fn put_number(line: &mut String, number: u64) -> Result<(), AllocError>
+pub(crate) fn put_number(line: &mut String, number: u64) -> Result<(), AllocError>
     ensures { OnOk result (string_bytes line.new ≡ string_bytes line.old ++ decimal number) }
 {
     let mut buffer = itoa::Buffer::new();
@@ -407,7 +407,7 @@ fn put_number(line: &mut String, number: u64) -> Result<(), AllocError>
 }
 
 /// Adds the token of these bytes.
-fn put_token(line: &mut String, bytes: &[u8]) -> Result<(), AllocError>
+pub(crate) fn put_token(line: &mut String, bytes: &[u8]) -> Result<(), AllocError>
     ensures { OnOk result (string_bytes line.new ≡ string_bytes line.old ++ token bytes.now) }
 {
     if bytes.is_empty() {

@@ -5,4 +5,8 @@
 #[cfg(test)]
 mod lines;
 #[cfg(test)]
+mod order_lines;
+#[cfg(test)]
+mod orders;
+#[cfg(test)]
 mod tests;

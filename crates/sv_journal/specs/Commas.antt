@@ -1,0 +1,7 @@
+-- Numbers parted by commas, the first one apart.
+use Rattle.std.specs.Prelude.{ℕ, List, ◌∷◌}
+use Rattle.std.specs.Fmt.{decimal}
+
+-- a comma and a number
+abbrev pub then_number : ℕ → List ℕ
+then_number n = 44 ∷ decimal n
