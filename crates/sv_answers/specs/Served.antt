@@ -1,13 +1,11 @@
--- What a client's request comes to: a reply, or a read of a part of a log and then a reply
--- (the manual's chapter on its XML-RPC interface; RFC 9112, sections 6 and 9).
-use Rattle.std.specs.Prelude.{ℕ, pos, List, [], ◌∷◌, Bool, true, false, Option, Some, None, codes, if◌then◌else◌, min, ◌-◌, ◌^◌}
+-- What a client's request is, and what its answer looks like on the link (the manual's chapter on its XML-RPC interface;
+-- RFC 9112, sections 6 and 9).
+use Rattle.std.specs.Prelude.{ℕ, pos, List, [], ◌∷◌, Bool, true, false, Option, Some, None, codes, min, ◌-◌, ◌^◌}
 use Rattle.std.specs.Str.{bytes_eq}
 use Rattle.sv_answers.specs.declared.read.FileReply.{FileReply}
 use Rattle.sv_answers.specs.declared.read.FileReply.TheVariants as file
-use Rattle.sv_answers.specs.declared.served.Reading.{Reading}
-use Rattle.sv_answers.specs.declared.served.Sent.{Sent}
-use Rattle.sv_answers.specs.declared.served.Served.{Served}
-use Rattle.sv_answers.specs.declared.served.Served.TheVariants.{Replies, Reads}
+use Rattle.sv_answers.specs.declared.read.Reading.{Reading}
+use Rattle.sv_answers.specs.declared.sent.Sent.{Sent}
 use Rattle.sv_http.specs.ReplyText.{reply_text}
 use Rattle.sv_http.specs.declared.ask.Ask.{Ask}
 use Rattle.sv_http.specs.declared.ask.Ask.TheVariants as ask_is
@@ -16,12 +14,11 @@ use Rattle.sv_http.specs.declared.status.Refusal.TheVariants.{BadRequest}
 use Rattle.sv_http.specs.declared.status.Status.TheVariants.{Ok, Bad}
 use Rattle.sv_info.specs.Faults.{fault_number, fault_text}
 use Rattle.sv_info.specs.declared.fault.Fault.{Fault}
-use Rattle.sv_info.specs.declared.fault.Fault.TheVariants.{Failed, NoFile, UnknownMethod}
-use Rattle.sv_methods.specs.MethodTable.{planned}
-use Rattle.sv_methods.specs.Outcomes as outcome_is
+use Rattle.sv_info.specs.declared.fault.Fault.TheVariants.{Failed, NoFile, IncorrectParameters}
 use Rattle.sv_methods.specs.declared.planned.ReadShape.{ReadShape}
 use Rattle.sv_methods.specs.declared.planned.ReadShape.TheVariants.{Plain, Tail}
-use Rattle.sv_methods.specs.Scenes.{Scene}
+use Rattle.sv_multi.specs.MultiCall.{parts_of}
+use Rattle.sv_multi.specs.Views.{PartTree}
 use Rattle.sv_xmlcall.specs.Called.{called}
 use Rattle.sv_xmlcall.specs.Characters.{log_text}
 use Rattle.sv_xmlcall.specs.Trees.{CallTree, Tree, Trees, tree, no_tree, integer, truth, text, array, trees_of, Reply, Returns, Faults}
@@ -37,11 +34,26 @@ said close reply = record { text = reply_text Ok (written_reply reply) close; cl
 abbrev pub refused : Refusal → Sent
 refused refusal = record { text = reply_text (Bad refusal) [] true; closes = true }
 
--- the reply that tells a fault, and what the call named, if it named something
-abbrev pub faulty : Bool → Fault → Option (List ℕ) → Sent
-faulty close fault subject = said close (Faults (pos (fault_number fault)) (fault_text fault subject))
+-- a fault, and what the call named, if it named something
+abbrev pub faulty : Fault → Option (List ℕ) → Reply
+faulty fault subject = Faults (pos (fault_number fault)) (fault_text fault subject)
 
 -- ---- a request
+
+-- a request is refused, or it is a call, behind whose reply the link closes or not
+pub data Request : Type 0 where
+  Refuses : Sent → Request
+  Calls : CallTree → Bool → Request
+
+-- a body that is no call is a bad request
+abbrev pub found : Bool → Option CallTree → Request
+found close None = Refuses (refused BadRequest)
+found close (Some call) = Calls call close
+
+-- what a request is
+abbrev pub heard : Ask → Request
+heard (ask_is.Bad refusal) = Refuses (refused refusal)
+heard (ask_is.Call body close) = found close (called body)
 
 -- what a param names, where it is a string
 abbrev pub subject_in : Tree → Option (List ℕ)
@@ -53,39 +65,20 @@ abbrev pub subject_of : Trees → Option (List ℕ)
 subject_of (tree first params) = subject_in first
 subject_of no_tree = None
 
--- the answer to what isn't carried out yet
-abbrev pub unbuilt : Bool → Served
-unbuilt close = Replies (faulty close UnknownMethod None)
+-- ---- several calls in one
 
--- what comes of what a call is planned to do; requests to do something aren't carried out yet
-abbrev pub comes_of : Bool → Option (List ℕ) → outcome_is.Outcome → Served
-comes_of close subject (outcome_is.Gives value) = Replies (said close (Returns value))
-comes_of close subject (outcome_is.Refuses number content) =
-    Replies (said close (Faults (pos number) content))
-comes_of close subject (outcome_is.Does requests waiting) = unbuilt close
-comes_of close subject (outcome_is.Reads file span shape) = Reads (record {
-  file = file;
-  span = span;
-  shape = shape;
-  subject = subject;
-  close = close;
-})
-
--- several calls in one aren't carried out yet
+-- a call that asks for several calls
 abbrev pub is_several : CallTree → Bool
 is_several call = bytes_eq call.method (codes "system.multicall")
 
--- what comes of a call, where the body is one; a body that is none is a bad request
-abbrev pub comes_of_call : Scene → ℕ → Bool → Option CallTree → Served
-comes_of_call scene now close None = Replies (refused BadRequest)
-comes_of_call scene now close (Some call) =
-    if is_several call then unbuilt close
-    else comes_of close (subject_of call.params) (planned scene call now)
+-- the calls that its params ask for; none where they aren't one array of structs
+abbrev pub parts_in : Trees → Option (List PartTree)
+parts_in (tree value no_tree) = parts_of value
+parts_in params = None
 
--- what comes of a request at this moment
-abbrev pub serves : Scene → ℕ → Ask → Served
-serves scene now (ask_is.Bad refusal) = Replies (refused refusal)
-serves scene now (ask_is.Call body close) = comes_of_call scene now close (called body)
+-- what several calls in one are answered whose params aren't one array of structs
+abbrev pub no_parts : Reply
+no_parts = faulty IncorrectParameters None
 
 -- ---- a read
 
@@ -100,13 +93,12 @@ shaped (Tail offset missed) part =
     array (trees_of (text part ∷ offset_tree offset ∷ truth missed ∷ []))
 
 -- there is no such file: a fault; for the end of a log it is as if nothing had been logged
-abbrev pub missing : Reading → ReadShape → Sent
-missing reading Plain = faulty reading.close NoFile reading.subject
-missing reading (Tail offset missed) = said reading.close (Returns (shaped (Tail 0 false) []))
+abbrev pub missing : Reading → ReadShape → Reply
+missing reading Plain = faulty NoFile reading.subject
+missing reading (Tail offset missed) = Returns (shaped (Tail 0 false) [])
 
--- what is replied when the file was read
-abbrev pub reads_back : Reading → FileReply → Sent
-reads_back reading (file.Part bytes) =
-    said reading.close (Returns (shaped reading.shape (log_text bytes)))
+-- what is answered when the file was read
+abbrev pub reads_back : Reading → FileReply → Reply
+reads_back reading (file.Part bytes) = Returns (shaped reading.shape (log_text bytes))
 reads_back reading file.Missing = missing reading reading.shape
-reads_back reading file.Failed = faulty reading.close Failed reading.subject
+reads_back reading file.Failed = faulty Failed reading.subject

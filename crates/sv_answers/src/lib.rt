@@ -1,13 +1,15 @@
-//! What a client's request comes to: its reply, or a read of a part of a log and then its reply. `specs/Served.antt` is the
+//! What a client's request is: refused, or a call; and what its answer looks like on the link. `specs/Served.antt` is the
 //! definition. Nothing here carries anything out.
 #![tactic(auto)]
 
 mod read;
-mod served;
-mod serving;
+mod request;
+mod sent;
+mod several;
 #[cfg(test)]
 mod tests;
 
-pub use read::{FileReply, answer_read};
-pub use served::{Reading, Sent, Served};
-pub use serving::serve;
+pub use read::{FileReply, Reading, read_back};
+pub use request::{Heard, hear, subject_of};
+pub use sent::{Sent, say};
+pub use several::{is_several, no_parts, parts_asked};

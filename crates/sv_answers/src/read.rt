@@ -1,16 +1,27 @@
-//! The answer of a read, and the reply that it makes.
+//! A read of a part of a log, and the answer that it makes.
 ghost use Rattle.std.specs.Prelude.{◌≡◌, IfOk};
 ghost use Rattle.std.specs.Option.{option_copied};
 ghost use Rattle.sv_answers.specs.Served.{missing, offset_tree, reads_back, shaped};
-ghost use Rattle.sv_xmlcall.specs.Trees.{view};
+ghost use Rattle.sv_xmlcall.specs.Trees.{reply_view, view};
 
-use crate::served::{Reading, Sent, faulty, giving};
+use crate::sent::faulty;
 use std::alloc::{AllocError, Global};
 use sv_base::bytes::Bytes;
 use sv_base::text::Text;
 use sv_info::Fault;
+use sv_logs::Span;
 use sv_methods::ReadShape;
-use sv_xmlcall::{Value, text_of_log};
+use sv_xmlcall::{Answered, Value, text_of_log};
+
+/// A part of a log that a call asks for.
+#[derive(Debug, Drop)]
+pub struct Reading {
+    pub file: Text,
+    pub span: Span,
+    pub shape: ReadShape,
+    /// What the call named, if it named something.
+    pub subject: Option<Text>,
+}
 
 /// What became of a read of a part of a file.
 #[derive(Debug, Drop)]
@@ -23,29 +34,34 @@ pub enum FileReply {
     Failed,
 }
 
-/// The reply to a call whose part of a log was read.
-pub fn answer_read(alloc: Global, reading: &Reading, answer: &FileReply) -> Result<Sent, AllocError>
-    ensures { IfOk result (λ sent. sent ≡ reads_back reading.now answer.now) }
+/// What a call is answered whose part of a log was read.
+pub fn read_back(
+    alloc: Global,
+    reading: &Reading,
+    reply: &FileReply,
+) -> Result<Answered, AllocError>
+    ensures { IfOk result (λ answered. reply_view answered ≡ reads_back reading.now reply.now) }
 {
-    match answer {
+    match reply {
         FileReply::Part(bytes) => {
             let text = text_of_log(alloc, bytes.as_slice())?;
             let value = shape(alloc, reading.shape, text)?;
-            giving(alloc, reading.close, &value)
+            Ok(Answered::Value(value))
         }
         FileReply::Missing => miss(alloc, reading),
-        FileReply::Failed => faulty(alloc, reading.close, Fault::Failed, subject_of(reading)),
+        FileReply::Failed => faulty(alloc, Fault::Failed, subject_of(reading)),
     }
 }
 
-fn miss(alloc: Global, reading: &Reading) -> Result<Sent, AllocError>
-    ensures { IfOk result (λ sent. sent ≡ missing reading.now reading.now.shape) }
+fn miss(alloc: Global, reading: &Reading) -> Result<Answered, AllocError>
+    ensures { IfOk result (λ answered. reply_view answered
+        ≡ missing reading.now reading.now.shape) }
 {
     match reading.shape {
-        ReadShape::Plain => faulty(alloc, reading.close, Fault::NoFile, subject_of(reading)),
+        ReadShape::Plain => faulty(alloc, Fault::NoFile, subject_of(reading)),
         ReadShape::Tail(_, _) => {
             let value = shape(alloc, ReadShape::Tail(0, false), Text::fixed(""))?;
-            giving(alloc, reading.close, &value)
+            Ok(Answered::Value(value))
         }
     }
 }

@@ -1,93 +1,103 @@
-//! Requests whose replies were written out by hand, over a daemon without processes whose main log is `/m`.
+//! Requests, parts and replies that were written out by hand.
 
-use crate::read::{FileReply, answer_read};
-use crate::served::{Reading, Sent, Served};
-use crate::serving::serve;
+use crate::read::{FileReply, Reading, read_back};
+use crate::request::{Heard, hear, subject_of};
+use crate::sent::{Sent, say};
+use crate::several::{is_several, no_parts, parts_asked};
 use std::alloc::Global;
 use std::process::Abort;
 use sv_base::bytes::Bytes;
-use sv_base::config::{ClientSpec, Config};
-use sv_base::groups::Groups;
-use sv_base::items::Items;
-use sv_base::moment::Moment;
-use sv_base::number::{Backups, CaptureBytes};
-use sv_base::spec::LogSpec;
-use sv_base::state::{Level, Mood};
 use sv_base::text::Text;
-use sv_groups::Roster;
 use sv_http::{Ask, Refusal};
 use sv_logs::Span;
-use sv_methods::{ReadShape, Stand};
+use sv_methods::ReadShape;
+use sv_xmlcall::{Answered, Call, Value};
 
-/// A body, and the text of its reply; of a read the file, the offset and the length.
+/// A body, and what it is: the method and what it names, with the number of its parts where it asks for several calls; or the
+/// text that refuses it.
 struct Case {
     body: &'static str,
-    close: bool,
-    comes: &'static str,
+    method: &'static str,
+    subject: Option<&'static str>,
+    parts: Option<usize>,
 }
 
-const CASES: [Case; 8] = [
+const CASES: [Case; 6] = [
     Case {
         body: "<methodCall><methodName>supervisor.getAPIVersion</methodName></methodCall>",
-        close: false,
-        comes: "HTTP/1.1 200 OK\r\nContent-Type: text/xml\r\nContent-Length: 121\r\n\r\n<?xml version='1.0'?><methodResponse><params><param><value><string>3.0</string></value></param></params></methodResponse>",
+        method: "supervisor.getAPIVersion",
+        subject: None,
+        parts: None,
     },
     Case {
-        body: "<methodCall><methodName>supervisor.getAPIVersion</methodName></methodCall>",
-        close: true,
-        comes: "HTTP/1.1 200 OK\r\nContent-Type: text/xml\r\nContent-Length: 121\r\nConnection: close\r\n\r\n<?xml version='1.0'?><methodResponse><params><param><value><string>3.0</string></value></param></params></methodResponse>",
+        body: "<methodCall><methodName>supervisor.stopProcess</methodName><params><param><value>cat</value></param><param><value><boolean>0</boolean></value></param></params></methodCall>",
+        method: "supervisor.stopProcess",
+        subject: Some("cat"),
+        parts: None,
     },
     Case {
-        body: "<methodCall><methodName>supervisor.getAPIVersion</methodName></methodCall> x",
-        close: false,
-        comes: "HTTP/1.1 400 Bad Request\r\nContent-Type: text/xml\r\nContent-Length: 0\r\nConnection: close\r\n\r\n",
-    },
-    Case {
-        body: "<methodCall><methodName>supervisor.getState</methodName></methodCall>",
-        close: false,
-        comes: "HTTP/1.1 200 OK\r\nContent-Type: text/xml\r\nContent-Length: 262\r\n\r\n<?xml version='1.0'?><methodResponse><params><param><value><struct><member><name>statecode</name><value><int>1</int></value></member><member><name>statename</name><value><string>RUNNING</string></value></member></struct></value></param></params></methodResponse>",
-    },
-    Case {
-        body: "<methodCall><methodName>none</methodName></methodCall>",
-        close: false,
-        comes: "HTTP/1.1 200 OK\r\nContent-Type: text/xml\r\nContent-Length: 254\r\n\r\n<?xml version='1.0'?><methodResponse><fault><value><struct><member><name>faultCode</name><value><int>1</int></value></member><member><name>faultString</name><value><string>UNKNOWN_METHOD</string></value></member></struct></value></fault></methodResponse>",
-    },
-    Case {
-        body: "<methodCall><methodName>supervisor.shutdown</methodName></methodCall>",
-        close: false,
-        comes: "HTTP/1.1 200 OK\r\nContent-Type: text/xml\r\nContent-Length: 254\r\n\r\n<?xml version='1.0'?><methodResponse><fault><value><struct><member><name>faultCode</name><value><int>1</int></value></member><member><name>faultString</name><value><string>UNKNOWN_METHOD</string></value></member></struct></value></fault></methodResponse>",
+        body: "<methodCall><methodName>supervisor.readLog</methodName><params><param><value><int>2</int></value></param></params></methodCall>",
+        method: "supervisor.readLog",
+        subject: None,
+        parts: None,
     },
     Case {
         body: "<methodCall><methodName>system.multicall</methodName><params><param><value><array><data></data></array></value></param></params></methodCall>",
-        close: false,
-        comes: "HTTP/1.1 200 OK\r\nContent-Type: text/xml\r\nContent-Length: 254\r\n\r\n<?xml version='1.0'?><methodResponse><fault><value><struct><member><name>faultCode</name><value><int>1</int></value></member><member><name>faultString</name><value><string>UNKNOWN_METHOD</string></value></member></struct></value></fault></methodResponse>",
+        method: "system.multicall",
+        subject: None,
+        parts: Some(0),
     },
     Case {
-        body: "<methodCall><methodName>supervisor.readLog</methodName><params><param><value><int>2</int></value></param><param><value><int>3</int></value></param></params></methodCall>",
-        close: true,
-        comes: "/m 2 3",
+        body: "<methodCall><methodName>system.multicall</methodName><params><param><value><array><data><value><struct><member><name>methodName</name><value>a</value></member></struct></value><value><struct></struct></value></data></array></value></param></params></methodCall>",
+        method: "system.multicall",
+        subject: None,
+        parts: Some(2),
+    },
+    Case {
+        body: "<methodCall><methodName>system.multicall</methodName><params><param><value><array><data></data></array></value></param><param><value>b</value></param></params></methodCall>",
+        method: "system.multicall",
+        subject: None,
+        parts: None,
     },
 ];
 
-fn config(alloc: Global, groups: Groups) -> Config {
-    Config {
-        identifier: Text::fixed("supervisor"),
-        main: LogSpec {
-            file: Some(Text::fixed("/m")),
-            maxbytes: 0,
-            backups: Backups::least(),
-            capture: CaptureBytes::least(),
-            events: false,
-        },
-        level: Level::Info,
-        groups,
-        servers: Items::new(alloc),
-        client: ClientSpec {
-            url: Text::fixed(""),
-            username: Text::fixed(""),
-            password: Text::fixed(""),
-        },
-        rpc: true,
+fn is_wanted(rt: &impl Abort, alloc: Global, call: &Call, case: &Case) {
+    assert!(rt; call.method.as_str() == case.method, "{}", case.body);
+    let subject = subject_of(call).ok().expect(rt, "memory");
+    match (&subject, case.subject) {
+        (None, None) => {}
+        (Some(subject), Some(wanted)) => assert!(rt; subject.as_str() == wanted, "{}", case.body),
+        _ => assert!(rt; false, "{}", case.body),
+    }
+    let several = case.method == "system.multicall";
+    assert_eq!(rt; is_several(call), several, "{}", case.body);
+    let parts = parts_asked(alloc, call).ok().expect(rt, "memory");
+    match &parts {
+        Some(parts) => assert_eq!(rt; Some(parts.len()), case.parts, "{}", case.body),
+        None => assert!(rt; case.parts.is_none(), "{}", case.body),
+    }
+}
+
+fn ask(rt: &impl Abort, alloc: Global, body: &str, close: bool) -> Ask {
+    let body = Bytes::from_slice(alloc, body.as_bytes()).ok();
+    Ask::Call {
+        body: body.expect(rt, "memory"),
+        close,
+    }
+}
+
+#[test]
+fn requests_are_calls(rt: HostRuntime) {
+    let alloc = rt.alloc();
+    for case in &CASES {
+        let heard = hear(alloc, ask(&rt, alloc, case.body, true)).ok();
+        match heard.expect(&rt, "memory") {
+            Heard::Calls(call, close) => {
+                assert!(&rt; close, "{}", case.body);
+                is_wanted(&rt, alloc, &call, case);
+            }
+            Heard::Refuses(_) => assert!(&rt; false, "{}", case.body),
+        }
     }
 }
 
@@ -96,69 +106,47 @@ fn is_said(rt: &impl Abort, sent: &Sent, text: &str, closes: bool) {
     assert_eq!(rt; sent.closes, closes, "{text}");
 }
 
-/// Looks at what came of a request.
-fn is_wanted(rt: &impl Abort, served: &Served, case: &Case) {
-    match served {
-        Served::Replies(sent) => {
-            let closes = case.close || case.comes.starts_with("HTTP/1.1 400");
-            is_said(rt, sent, case.comes, closes);
-        }
-        Served::Reads(reading) => {
-            assert!(rt; case.comes == "/m 2 3", "{}", case.comes);
-            assert!(rt; reading.file.as_str() == "/m", "the file");
-            assert!(rt;
-                reading.span.start == 2 && reading.span.length == 3,
-                "the part"
-            );
-            assert!(rt; reading.close && reading.subject.is_none(), "the others");
-        }
-    }
-}
+/// A request without the password.
+const UNAUTHORIZED: &str =
+    "HTTP/1.1 401 Unauthorized\r\nContent-Type: text/xml\r\nContent-Length: 0\r\nWWW-Authenticate: Basic realm=\"default\"\r\nConnection: close\r\n\r\n";
 
-/// Makes a request of a case, and looks at what comes of it.
-fn comes_out(rt: &impl Abort, alloc: Global, stand: &Stand, case: &Case) {
-    let body = Bytes::from_slice(alloc, case.body.as_bytes());
-    let ask = Ask::Call {
-        body: body.ok().expect(rt, "memory"),
-        close: case.close,
-    };
-    let now = Moment::new(1000).expect(rt, "a moment");
-    let served = serve(alloc, stand, now, ask).ok().expect(rt, "memory");
-    is_wanted(rt, &served, case);
-}
+/// A body that is no call.
+const BAD_REQUEST: &str =
+    "HTTP/1.1 400 Bad Request\r\nContent-Type: text/xml\r\nContent-Length: 0\r\nConnection: close\r\n\r\n";
 
 #[test]
-fn requests_come_to_their_replies(rt: HostRuntime) {
+fn requests_are_refused(rt: HostRuntime) {
     let alloc = rt.alloc();
-    let groups = Groups::new(Vec::new(alloc)).expect(&rt, "no groups");
-    let config = config(alloc, groups);
-    let roster = Roster::new(alloc, &config).ok().expect(&rt, "memory");
-    let sizes = vec![in alloc; (Text::fixed("/m"), 10)]
-        .ok()
-        .expect(&rt, "memory");
-    let stand = Stand {
-        mood: Mood::Running,
-        pid: 1,
-        config: &config,
-        roster: &roster,
-        children: &[],
-        closed: &[],
-        sizes: sizes.as_slice(),
-    };
-    for case in &CASES {
-        comes_out(&rt, alloc, &stand, case);
+    let no_call = "<methodCall><methodName>a</methodName></methodCall> x";
+    let asked = [
+        (ask(&rt, alloc, no_call, false), BAD_REQUEST),
+        (Ask::Bad(Refusal::Unauthorized), UNAUTHORIZED),
+    ];
+    for (ask, text) in asked {
+        match hear(alloc, ask).ok().expect(&rt, "memory") {
+            Heard::Refuses(sent) => is_said(&rt, &sent, text, true),
+            Heard::Calls(_, _) => assert!(&rt; false, "{text}"),
+        }
     }
-    let now = Moment::new(1000).expect(&rt, "a moment");
-    let asked = serve(alloc, &stand, now, Ask::Bad(Refusal::Unauthorized));
-    is_wanted(&rt, &asked.ok().expect(&rt, "memory"), &UNAUTHORIZED);
 }
 
-/// A request without the password.
-const UNAUTHORIZED: Case = Case {
-    body: "",
-    close: true,
-    comes: "HTTP/1.1 401 Unauthorized\r\nContent-Type: text/xml\r\nContent-Length: 0\r\nWWW-Authenticate: Basic realm=\"default\"\r\nConnection: close\r\n\r\n",
-};
+/// The reply that tells the API's version.
+const VERSION: &str =
+    "HTTP/1.1 200 OK\r\nContent-Type: text/xml\r\nContent-Length: 121\r\n\r\n<?xml version='1.0'?><methodResponse><params><param><value><string>3.0</string></value></param></params></methodResponse>";
+
+/// The reply to several calls in one whose params aren't an array, behind which the link closes.
+const NO_PARTS: &str =
+    "HTTP/1.1 200 OK\r\nContent-Type: text/xml\r\nContent-Length: 260\r\nConnection: close\r\n\r\n<?xml version='1.0'?><methodResponse><fault><value><struct><member><name>faultCode</name><value><int>2</int></value></member><member><name>faultString</name><value><string>INCORRECT_PARAMETERS</string></value></member></struct></value></fault></methodResponse>";
+
+#[test]
+fn answers_are_said(rt: HostRuntime) {
+    let alloc = rt.alloc();
+    let version = Answered::Value(Value::Text(Text::fixed("3.0")));
+    let sent = say(alloc, false, &version).ok().expect(&rt, "memory");
+    is_said(&rt, &sent, VERSION, false);
+    let sent = say(alloc, true, &no_parts()).ok().expect(&rt, "memory");
+    is_said(&rt, &sent, NO_PARTS, true);
+}
 
 /// A shape, what the call named, what was read, and the body of the reply.
 struct Back {
@@ -236,16 +224,15 @@ fn come_back(rt: &impl Abort, alloc: Global, back: &Back) {
             None => None,
             Some(name) => Some(Text::fixed(name)),
         },
-        close: false,
     };
-    let answer = match back.part {
+    let reply = match back.part {
         Some(part) => FileReply::Part(Bytes::from_slice(alloc, part).ok().expect(rt, "memory")),
         None if back.missing => FileReply::Missing,
         None => FileReply::Failed,
     };
-    let sent = answer_read(alloc, &reading, &answer)
-        .ok()
-        .expect(rt, "memory");
+    let answered = read_back(alloc, &reading, &reply).ok();
+    let sent = say(alloc, false, &answered.expect(rt, "memory")).ok();
+    let sent = sent.expect(rt, "memory");
     let text = std::str::from_utf8(sent.text.as_slice()).unwrap_or("");
     assert!(rt; text.contains(back.body), "{}", back.body);
     assert!(rt; !sent.closes, "the link goes on");

@@ -23,11 +23,13 @@ use Rattle.sv_child.specs.declared.step.Step.{Step}
 use Rattle.sv_children.specs.Crew.{Crew}
 use Rattle.sv_children.specs.News.{step_of}
 use Rattle.sv_children.specs.Orders.{kill, kill_at, kill_of, reports_at, reports_of}
-use Rattle.sv_core.proofs.Accounts.{all_dropped, found_after, fresh_at, in_order, only_of_roster, some_at}
+use Rattle.sv_core.proofs.Accounts.{all_dropped, entries_happened, entries_told, found_after, happenings, happenings_ordered, fresh_at, in_order, only_of_roster, some_at}
 use Rattle.sv_core.proofs.Reported.{all_given}
-use Rattle.sv_core.proofs.Steps.{Steps, kept_after}
+use Rattle.sv_core.proofs.Steps.{Steps}
+use Rattle.sv_core.proofs.Walk.{kept_after}
 use Rattle.sv_core.proofs.Told.{AreDrops, is_drop, offer_drops, rejection_drops}
-use Rattle.sv_core.specs.Account.{Happening, HoldSome, PoolsAreAccountedFor, PoolsHaveAHistory, all_happened, all_ordered, drop_told, drops_told, happened, is_of_pools, ordered}
+use Rattle.sv_core.specs.Account.{Entry, Happening, HoldSome, PoolsAreAccountedFor, PoolsHaveAHistory, all_entered, all_ordered, drop_told, drops_told, entered, entry_ordered, happened, is_of_pools, ordered}
+use Rattle.sv_core.specs.Account.Entry.{Happens, Writes}
 use Rattle.sv_core.specs.Account.Happening.{Offered, Handed, Acknowledged, Rejected}
 use Rattle.sv_core.specs.Deeds.{after, deeds}
 use Rattle.sv_core.specs.Events.{offers, offers_if}
@@ -60,22 +62,22 @@ use Rattle.sv_pools.specs.Offers.{drop_report, event_of, offer_reports, offered 
 -- from one world to a later one: what happened to the pools meanwhile, and which orders tell of it
 pub record Deals (w v : World) : Type 0 where
   pub server : v.config.identifier ≡ w.config.identifier
-  pub all : List Happening
-  pub pools : v.pools ≡ all_happened all w.pools
+  pub all : List Entry
+  pub pools : v.pools ≡ all_entered all w.pools
   pub more : List Order
   pub added : v.given ≡ w.given ++ more
   pub told : filter is_of_pools more ≡ all_ordered w.config.identifier all w.pools
 
-happened_on : (one other : List Happening) (ps : EventPools) → all_happened (one ++ other) ps ≡ all_happened other (all_happened one ps)
+happened_on : (one other : List Entry) (ps : EventPools) → all_entered (one ++ other) ps ≡ all_entered other (all_entered one ps)
 happened_on [] other ps = refl
-happened_on (h ∷ one) other ps = happened_on one other (happened h ps)
+happened_on (e ∷ one) other ps = happened_on one other (entered e ps)
 
-ordered_on : (server : List ℕ) (one other : List Happening) (ps : EventPools)
-    → all_ordered server (one ++ other) ps ≡ all_ordered server one ps ++ all_ordered server other (all_happened one ps)
+ordered_on : (server : List ℕ) (one other : List Entry) (ps : EventPools)
+    → all_ordered server (one ++ other) ps ≡ all_ordered server one ps ++ all_ordered server other (all_entered one ps)
 ordered_on server [] other ps = refl
-ordered_on server (h ∷ one) other ps =
-    ap (λ (rest : List Order). ordered server h ps ++ rest) (ordered_on server one other (happened h ps))
-    ∙ sym (append_assoc (ordered server h ps) (all_ordered server one (happened h ps)) (all_ordered server other (all_happened one (happened h ps))))
+ordered_on server (e ∷ one) other ps =
+    ap (λ (rest : List Order). entry_ordered server e ps ++ rest) (ordered_on server one other (entered e ps))
+    ∙ sym (append_assoc (entry_ordered server e ps) (all_ordered server one (entered e ps)) (all_ordered server other (all_entered one (entered e ps))))
 
 same : (w : World) → Deals w w
 same w = record { server = refl; all = []; pools = refl; more = []; added = sym (append-nil w.given); told = refl }
@@ -84,7 +86,7 @@ follow : (u v w : World) → Deals u v → Deals v w → Deals u w
 follow u v w a b = record {
   server = b.server ∙ a.server;
   all = a.all ++ b.all;
-  pools = b.pools ∙ ap (all_happened b.all) a.pools ∙ sym (happened_on a.all b.all u.pools);
+  pools = b.pools ∙ ap (all_entered b.all) a.pools ∙ sym (happened_on a.all b.all u.pools);
   more = a.more ++ b.more;
   added = b.added ∙ ap (λ (given : List Order). given ++ b.more) a.added ∙ append_assoc u.given a.more b.more;
   told = filter-append is_of_pools a.more b.more
@@ -141,7 +143,7 @@ once : (h : Happening) (w v : World) → v.config.identifier ≡ w.config.identi
     → v.given ≡ w.given ++ ordered w.config.identifier h w.pools → Deals w v
 once h w v server pools given = record {
   server = server;
-  all = h ∷ [];
+  all = Happens h ∷ [];
   pools = pools;
   more = ordered w.config.identifier h w.pools;
   added = given;
@@ -248,7 +250,7 @@ deals_told : (h : Happening) (w v : World) → (u : World) → u.config.identifi
     → u.given ≡ w.given → Reports (ordered w.config.identifier h w.pools) u v → Deals w v
 deals_told h w v u server pools given t = record {
   server = t.server ∙ server;
-  all = h ∷ [];
+  all = Happens h ∷ [];
   pools = t.pools ∙ pools;
   more = t.more;
   added = t.added ∙ ap (λ (orders : List Order). orders ++ t.more) given;
@@ -341,6 +343,17 @@ deals_steps = record {
   wanted = λ link w. record { server = refl; all = []; pools = refl; more = order.More link ∷ []; added = refl; told = refl };
   closed = λ link w. record { server = refl; all = []; pools = refl; more = order.Close link ∷ []; added = refl; told = refl };
   read = λ file start length w. record { server = refl; all = []; pools = refl; more = order.ReadFile file start length ∷ []; added = refl; told = refl };
+  called = λ calls w. record { server = refl; all = []; pools = refl; more = []; added = sym (append-nil w.given); told = refl };
+  told = λ run bytes w. record {
+    server = refl;
+    all = Writes run bytes ∷ [];
+    pools = refl;
+    more = order.Stdin run bytes ∷ [];
+    added = refl;
+    told = refl;
+  };
+  wiped = λ file w. record { server = refl; all = []; pools = refl; more = order.ClearFile file ∷ []; added = refl; told = refl };
+  emptied = λ file w. record { server = refl; all = []; pools = refl; more = []; added = sym (append-nil w.given); told = refl };
   offered = offered;
   clocked = λ clock w. record { server = refl; all = []; pools = refl; more = []; added = sym (append-nil w.given); told = refl };
   booked = λ runs w. record { server = refl; all = []; pools = refl; more = []; added = sym (append-nil w.given); told = refl };
@@ -390,15 +403,16 @@ accounted config sizes host inputs roster some = λ place p is.
     let m = opening config sizes host in
     let was = history config sizes host inputs in
     let ps = all_pools.opening config.groups in
-    let found = found_after config.identifier was.all ps place p is (only_of_roster config.groups place p roster is) in
+    let hs = happenings was.all in
+    let found = found_after config.identifier hs ps place p is (only_of_roster config.groups place p roster is) in
     let fresh = fresh_at 0 config.groups place p is in
-    let told : drops_told p.group (all_ordered config.identifier was.all ps) ≡ drops_told p.group (deeds m inputs) =
-    ap (drops_told p.group) (sym was.orders) ∙ drops_of_pools p.group (deeds m inputs) in
+    let told : drops_told p.group (happenings_ordered config.identifier hs ps) ≡ drops_told p.group (deeds m inputs) =
+    sym (entries_told config.identifier p.group was.all ps) ∙ ap (drops_told p.group) (sym was.orders) ∙ drops_of_pools p.group (deeds m inputs) in
     record {
       pool = found.pool;
-      is = ap (λ (pools : EventPools). slice_get pools.each place) was.pools ∙ found.is;
+      is = ap (λ (pools : EventPools). slice_get pools.each place) (was.pools ∙ entries_happened was.all ps) ∙ found.is;
       group = found.goes.group;
       listeners = found.goes.listeners;
-      places = λ few. in_order p found.pool (drops_told p.group (all_ordered config.identifier was.all ps)) fresh (some_at 0 config.groups place p some is) found.goes few;
-      dropped = all_dropped p found.pool (drops_told p.group (all_ordered config.identifier was.all ps)) fresh found.goes ∙ told;
+      places = λ few. in_order p found.pool (drops_told p.group (happenings_ordered config.identifier hs ps)) fresh (some_at 0 config.groups place p some is) found.goes few;
+      dropped = all_dropped p found.pool (drops_told p.group (happenings_ordered config.identifier hs ps)) fresh found.goes ∙ told;
     }

@@ -14,7 +14,8 @@ use Rattle.sv_base.specs.Roster.{are_memberships, is_roster}
 use Rattle.sv_base.specs.declared.ids.Run.{Run}
 use Rattle.sv_base.specs.declared.spec.GroupSpec.{GroupSpec}
 use Rattle.sv_base.specs.declared.spec.PoolSpec.{PoolSpec}
-use Rattle.sv_core.specs.Account.{Happening, HoldSome, all_happened, all_ordered, drop_told, drops_told, happened, ordered}
+use Rattle.sv_core.specs.Account.{Entry, Happening, HoldSome, all_entered, all_ordered, drop_told, drops_told, happened, ordered}
+use Rattle.sv_core.specs.Account.Entry.{Happens, Writes}
 use Rattle.sv_core.specs.Account.Happening.{Offered, Handed, Acknowledged, Rejected}
 use Rattle.sv_events.specs.declared.event.Event.{Event}
 use Rattle.sv_out.specs.declared.order.Order.{Order}
@@ -281,6 +282,36 @@ told_by_all server (Handed run place) ps = refl
 told_by_all server (Acknowledged place) ps = sym (nothing_of_all server place ps.drawn ps.each)
 told_by_all server (Rejected place) ps = refl
 
+-- what happened, one after the other
+abbrev pub all_happened : List Happening → EventPools → EventPools
+all_happened [] ps = ps
+all_happened (h ∷ hs) ps = all_happened hs (happened h ps)
+
+abbrev pub happenings_ordered : List ℕ → List Happening → EventPools → List Order
+happenings_ordered server [] ps = []
+happenings_ordered server (h ∷ hs) ps = ordered server h ps ++ happenings_ordered server hs (happened h ps)
+
+-- the happenings among the entries
+abbrev pub happenings : List Entry → List Happening
+happenings [] = []
+happenings (Happens h ∷ es) = h ∷ happenings es
+happenings (Writes run bytes ∷ es) = happenings es
+
+pub entries_happened : (es : List Entry) (ps : EventPools) → all_entered es ps ≡ all_happened (happenings es) ps
+entries_happened [] ps = refl
+entries_happened (Happens h ∷ es) ps = entries_happened es (happened h ps)
+entries_happened (Writes run bytes ∷ es) ps = entries_happened es ps
+
+-- what clients write reports no drop
+pub entries_told : (server group : List ℕ) (es : List Entry) (ps : EventPools)
+    → drops_told group (all_ordered server es ps) ≡ drops_told group (happenings_ordered server (happenings es) ps)
+entries_told server group [] ps = refl
+entries_told server group (Happens h ∷ es) ps =
+    flat_map-append (drop_told group) (ordered server h ps) (all_ordered server es (happened h ps))
+    ∙ ap (λ (drops : List Dropped). drops_told group (ordered server h ps) ++ drops) (entries_told server group es (happened h ps))
+    ∙ sym (flat_map-append (drop_told group) (ordered server h ps) (happenings_ordered server (happenings es) (happened h ps)))
+entries_told server group (Writes run bytes ∷ es) ps = entries_told server group es ps
+
 -- a pool is found after its steps
 pub record Found (p : EventPool) (found : Option EventPool) (drops : List Dropped) : Type 0 where
   pub pool : EventPool
@@ -289,7 +320,7 @@ pub record Found (p : EventPool) (found : Option EventPool) (drops : List Droppe
 
 pub found_after : (server : List ℕ) (hs : List Happening) (ps : EventPools) (place : ℕ) (p : EventPool)
     → slice_get ps.each place ≡ Some p → Only p.group place ps.each
-    → Found p (slice_get (all_happened hs ps).each place) (drops_told p.group (all_ordered server hs ps))
+    → Found p (slice_get (all_happened hs ps).each place) (drops_told p.group (happenings_ordered server hs ps))
 found_after server [] ps place p is only = record { pool = p; is = is; goes = stays p }
 found_after server (h ∷ hs) ps place p is only =
     let q = here h ps.drawn p in
@@ -304,16 +335,16 @@ found_after server (h ∷ hs) ps place p is only =
     let told : drops_told p.group (ordered server h ps) ≡ drops_told p.group (told_here server h ps.drawn p) =
     ap (drops_told p.group) (told_by_all server h ps)
     ∙ one_tells p.group (told_here server h ps.drawn) (λ x other. others_silent server h ps.drawn p.group x other) ps.each place p is only in
-    let all : drops_told p.group (told_here server h ps.drawn p) ++ drops_told q.group (all_ordered server hs (happened h ps))
-    ≡ drops_told p.group (ordered server h ps ++ all_ordered server hs (happened h ps)) =
-    ap (λ (group : List ℕ). drops_told p.group (told_here server h ps.drawn p) ++ drops_told group (all_ordered server hs (happened h ps))) first.group
-    ∙ ap (λ (drops : List Dropped). drops ++ drops_told p.group (all_ordered server hs (happened h ps))) (sym told)
-    ∙ sym (flat_map-append (drop_told p.group) (ordered server h ps) (all_ordered server hs (happened h ps))) in
+    let all : drops_told p.group (told_here server h ps.drawn p) ++ drops_told q.group (happenings_ordered server hs (happened h ps))
+    ≡ drops_told p.group (ordered server h ps ++ happenings_ordered server hs (happened h ps)) =
+    ap (λ (group : List ℕ). drops_told p.group (told_here server h ps.drawn p) ++ drops_told group (happenings_ordered server hs (happened h ps))) first.group
+    ∙ ap (λ (drops : List Dropped). drops ++ drops_told p.group (happenings_ordered server hs (happened h ps))) (sym told)
+    ∙ sym (flat_map-append (drop_told p.group) (ordered server h ps) (happenings_ordered server hs (happened h ps))) in
     record {
       pool = rest.pool;
       is = rest.is;
       goes = subst (λ (drops : List Dropped). Stepped p rest.pool drops) all
-          (stepped_on p q rest.pool (drops_told p.group (told_here server h ps.drawn p)) (drops_told q.group (all_ordered server hs (happened h ps))) first rest.goes);
+          (stepped_on p q rest.pool (drops_told p.group (told_here server h ps.drawn p)) (drops_told q.group (happenings_ordered server hs (happened h ps))) first rest.goes);
     }
 
 -- ---- the pools that a configuration opens

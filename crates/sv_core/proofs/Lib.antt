@@ -1,5 +1,7 @@
 mod Account
 mod Accounts
+mod CallSteps
+mod Left
 mod LinkTests
 mod LogHistory
 mod Logged
@@ -15,3 +17,4 @@ mod Stopped
 mod Sweeps
 mod Told
 mod Unmoved
+mod Walk

@@ -23,19 +23,21 @@ use Rattle.sv_children.specs.Crew.{Crew}
 use Rattle.sv_children.specs.News.{step_of}
 use Rattle.sv_children.specs.Orders.{kill, kill_at, kill_of, reports_at, reports_of}
 use Rattle.sv_core.proofs.Reported.{all_given}
-use Rattle.sv_core.proofs.Steps.{Steps, kept_after}
+use Rattle.sv_core.proofs.Steps.{Steps}
+use Rattle.sv_core.proofs.Walk.{kept_after}
 use Rattle.sv_core.proofs.Told.{AreDrops, is_drop, offer_drops, rejection_drops}
 use Rattle.sv_core.specs.Deeds.{after, deeds}
 use Rattle.sv_core.specs.Events.{offers, offers_if}
 use Rattle.sv_core.specs.Listening.{gives_back, id_of}
-use Rattle.sv_core.specs.LogHistory.{LogsHaveAHistory, is_of_logs}
+use Rattle.sv_core.specs.LogHistory.{LogDeed, LogsHaveAHistory, all_log_orders, all_sizes, is_of_logs, orders_of_deed, sizes_after}
+use Rattle.sv_core.specs.LogHistory.LogDeed.{Adds, Empties}
 use Rattle.sv_core.specs.Logging.{drop_line, logs, logs_if, notes_if, tells_drop, tells_drops}
 use Rattle.sv_core.specs.MachineState.{now, opening}
 use Rattle.sv_core.specs.Moves.{changed, goes_edge, goes_edge_if, goes_edges, moves, reported, says}
 use Rattle.sv_core.specs.World.{World}
 use Rattle.sv_events.specs.declared.fact.Fact.{Fact}
 use Rattle.sv_facts.specs.EdgeFacts.{fact_at, kind_of, pid_at}
-use Rattle.sv_files.specs.Logging.{all_logged, all_orders, log_orders, logged, order_of, orders_if, plan_as}
+use Rattle.sv_files.specs.Logging.{log_orders, order_of, orders_if, plan_as}
 use Rattle.sv_files.specs.Sizes.{Sizes, size_in}
 use Rattle.sv_groups.specs.StartOrder.{pairs_of}
 use Rattle.sv_lines.specs.EdgeLines.{line_at}
@@ -52,22 +54,22 @@ use Rattle.sv_pools.specs.Offers.{offer_reports, offered as pools_after}
 
 -- from one world to a later one: what was logged meanwhile, and which orders tell of it
 pub record Keeps (w v : World) : Type 0 where
-  pub all : List (LogSpec × List ℕ)
-  pub sizes : v.sizes ≡ all_logged all w.sizes
+  pub all : List LogDeed
+  pub sizes : v.sizes ≡ all_sizes all w.sizes
   pub more : List Order
   pub added : v.given ≡ w.given ++ more
-  pub told : filter is_of_logs more ≡ all_orders all w.sizes
+  pub told : filter is_of_logs more ≡ all_log_orders all w.sizes
 
-logged_on : (one other : List (LogSpec × List ℕ)) (sizes : Sizes) → all_logged (one ++ other) sizes ≡ all_logged other (all_logged one sizes)
+logged_on : (one other : List LogDeed) (sizes : Sizes) → all_sizes (one ++ other) sizes ≡ all_sizes other (all_sizes one sizes)
 logged_on [] other sizes = refl
-logged_on ((log, piece) ∷ one) other sizes = logged_on one other (logged log piece sizes)
+logged_on (deed ∷ one) other sizes = logged_on one other (sizes_after deed sizes)
 
-orders_on : (one other : List (LogSpec × List ℕ)) (sizes : Sizes)
-    → all_orders (one ++ other) sizes ≡ all_orders one sizes ++ all_orders other (all_logged one sizes)
+orders_on : (one other : List LogDeed) (sizes : Sizes)
+    → all_log_orders (one ++ other) sizes ≡ all_log_orders one sizes ++ all_log_orders other (all_sizes one sizes)
 orders_on [] other sizes = refl
-orders_on ((log, piece) ∷ one) other sizes =
-    ap (λ (rest : List Order). log_orders log piece sizes ++ rest) (orders_on one other (logged log piece sizes))
-    ∙ sym (append_assoc (log_orders log piece sizes) (all_orders one (logged log piece sizes)) (all_orders other (all_logged one (logged log piece sizes))))
+orders_on (deed ∷ one) other sizes =
+    ap (λ (rest : List Order). orders_of_deed deed sizes ++ rest) (orders_on one other (sizes_after deed sizes))
+    ∙ sym (append_assoc (orders_of_deed deed sizes) (all_log_orders one (sizes_after deed sizes)) (all_log_orders other (all_sizes one (sizes_after deed sizes))))
 
 -- nothing is logged
 quiet : (w v : World) (more : List Order) → v.sizes ≡ w.sizes → v.given ≡ w.given ++ more → filter is_of_logs more ≡ [] → Keeps w v
@@ -82,13 +84,13 @@ same w = still w w refl refl
 follow : (u v w : World) → Keeps u v → Keeps v w → Keeps u w
 follow u v w a b = record {
   all = a.all ++ b.all;
-  sizes = b.sizes ∙ ap (all_logged b.all) a.sizes ∙ sym (logged_on a.all b.all u.sizes);
+  sizes = b.sizes ∙ ap (all_sizes b.all) a.sizes ∙ sym (logged_on a.all b.all u.sizes);
   more = a.more ++ b.more;
   added = b.added ∙ ap (λ (given : List Order). given ++ b.more) a.added ∙ append_assoc u.given a.more b.more;
   told = filter-append is_of_logs a.more b.more
       ∙ ap (λ (orders : List Order). orders ++ filter is_of_logs b.more) a.told
-      ∙ ap (λ (orders : List Order). all_orders a.all u.sizes ++ orders) b.told
-      ∙ ap (λ (sizes : Sizes). all_orders a.all u.sizes ++ all_orders b.all sizes) a.sizes
+      ∙ ap (λ (orders : List Order). all_log_orders a.all u.sizes ++ orders) b.told
+      ∙ ap (λ (sizes : Sizes). all_log_orders a.all u.sizes ++ all_log_orders b.all sizes) a.sizes
       ∙ sym (orders_on a.all b.all u.sizes);
 }
 
@@ -111,7 +113,7 @@ log_kept log piece sizes = by_file log.file where
 
 added_log : (log : LogSpec) (piece : List ℕ) (w : World) → Keeps w (logs log piece w)
 added_log log piece w = record {
-  all = (log, piece) ∷ [];
+  all = Adds log piece ∷ [];
   sizes = refl;
   more = log_orders log piece w.sizes;
   added = refl;
@@ -251,6 +253,10 @@ keeps_steps = record {
   wanted = λ link w. record { all = []; sizes = refl; more = order.More link ∷ []; added = refl; told = refl };
   closed = λ link w. record { all = []; sizes = refl; more = order.Close link ∷ []; added = refl; told = refl };
   read = λ file start length w. record { all = []; sizes = refl; more = order.ReadFile file start length ∷ []; added = refl; told = refl };
+  called = λ calls w. record { all = []; sizes = refl; more = []; added = sym (append-nil w.given); told = refl };
+  told = λ run bytes w. record { all = []; sizes = refl; more = order.Stdin run bytes ∷ []; added = refl; told = refl };
+  wiped = λ file w. record { all = []; sizes = refl; more = order.ClearFile file ∷ []; added = refl; told = refl };
+  emptied = λ file w. record { all = Empties file ∷ []; sizes = refl; more = []; added = sym (append-nil w.given); told = refl };
   offered = offered;
   clocked = λ clock w. record { all = []; sizes = refl; more = []; added = sym (append-nil w.given); told = refl };
   booked = λ runs w. record { all = []; sizes = refl; more = []; added = sym (append-nil w.given); told = refl };

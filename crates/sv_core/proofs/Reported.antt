@@ -22,7 +22,8 @@ use Rattle.sv_children.proofs.Walks.{moved_walk, state_new, state_rewound, told_
 use Rattle.sv_children.specs.Crew.{Crew}
 use Rattle.sv_children.specs.Orders.{kill_at, reports_at, reports_of}
 use Rattle.sv_children.specs.Reported.{edge_told, edges_told, state_at}
-use Rattle.sv_core.proofs.Steps.{Steps, Onward, kept_next, kept_after}
+use Rattle.sv_core.proofs.Steps.{Steps, Onward}
+use Rattle.sv_core.proofs.Walk.{kept_next, kept_after}
 use Rattle.sv_core.specs.Deeds.{after, deeds}
 use Rattle.sv_core.specs.MachineState.{Model, accepts, hand, next, now, opening, orders}
 use Rattle.sv_core.proofs.Told.{AreDrops, IsSilent, is_drop, offer_drops, parted, rejection_drops, reports_more, reports_skip, silent_both, silent_drop, silent_hand, silent_log, silent_none}
@@ -251,6 +252,10 @@ goes_steps = record {
   wanted = λ link w. record { kept = refl; more = order.More link ∷ []; added = refl; walk = λ place p roster is. refl };
   closed = λ link w. record { kept = refl; more = order.Close link ∷ []; added = refl; walk = λ place p roster is. refl };
   read = λ file start length w. record { kept = refl; more = order.ReadFile file start length ∷ []; added = refl; walk = λ place p roster is. refl };
+  called = λ calls w. record { kept = refl; more = []; added = sym (append-nil w.given); walk = λ place p roster is. refl };
+  told = λ run bytes w. record { kept = refl; more = order.Stdin run bytes ∷ []; added = refl; walk = λ place p roster is. refl };
+  wiped = λ file w. record { kept = refl; more = order.ClearFile file ∷ []; added = refl; walk = λ place p roster is. refl };
+  emptied = λ file w. record { kept = refl; more = []; added = sym (append-nil w.given); walk = λ place p roster is. refl };
   offered = λ kind fact w. adds_goes w (offers kind fact w) (offered kind fact w);
   clocked = λ clock w. adds_goes w (record w { clock = clock }) (adds_nothing w (record w { clock = clock }) refl refl);
   booked = λ runs w. adds_goes w (record w { runs = runs }) (adds_nothing w (record w { runs = runs }) refl refl);

@@ -6,6 +6,9 @@ use Rattle.sv_base.specs.declared.ids.Run.{Run}
 use Rattle.sv_base.specs.declared.kind.Kind.{Kind}
 use Rattle.sv_base.specs.declared.state.How.{How}
 use Rattle.sv_base.specs.declared.state.Stream.{Stream}
+use Rattle.sv_calls.specs.CallBook.{CallBook}
+use Rattle.sv_calls.specs.StandsFor as kept_calls
+use Rattle.sv_calls.specs.declared.calls.Calls.{Calls}
 use Rattle.sv_child.specs.ChildTable.{Stimulus}
 use Rattle.sv_child.specs.declared.child.Child.{Child}
 use Rattle.sv_child.specs.declared.step.Edge.{Edge}
@@ -20,10 +23,9 @@ use Rattle.sv_core.specs.Listening.{gives_back, hears, id_of, loses_of, tells, t
 use Rattle.sv_core.specs.Logging.{notes_if}
 use Rattle.sv_core.specs.Output.{takes_all, takes_part, takes_parts}
 use Rattle.sv_core.specs.Moves.{changed, comes, goes_edge, goes_edge_if, goes_edges, reported, says}
-use Rattle.sv_core.specs.Serving.{gives}
 use Rattle.sv_core.specs.StandsFor.{At, Shows, shown, stopped}
 use Rattle.sv_core.specs.Sweeps.{Turn}
-use Rattle.sv_core.specs.World.{World}
+use Rattle.sv_core.specs.World.{World, gives}
 use Rattle.sv_core.specs.declared.machine.Machine.{Machine}
 use Rattle.sv_events.specs.declared.fact.Fact.{Fact}
 use Rattle.sv_facts.specs.EdgeFacts.{fact_at, kind_of, pid_at}
@@ -49,20 +51,20 @@ use Rattle.sv_streams.specs.declared.streams.Streams.{Streams}
 
 -- what is made of each world that is written out from the fields is made of each that is shown
 pub made : (f : World → World) (x y : Machine)
-    → ((older : List Order) (pools : EventPools) (runs : RunBook) (streams : List StreamRecord) (links : List LinkRecord)
+    → ((older : List Order) (pools : EventPools) (runs : RunBook) (streams : List StreamRecord) (links : List LinkRecord) (calls : CallBook)
     → kept_pools.StandsFor x.pools pools → kept_runs.StandsFor x.runs runs → kept_streams.StandsFor x.streams streams
-    → kept_links.StandsFor x.links links → Shows y older (f (shown x older pools runs streams links)))
+    → kept_links.StandsFor x.links links → kept_calls.StandsFor x.calls calls → Shows y older (f (shown x older pools runs streams links calls)))
     → Makes f x y
-made f x y goes older w s = subst (λ (u : World). Shows y older (f u)) (sym s.is) (goes older s.pools s.runs s.streams s.links s.pools_kept s.runs_kept s.streams_kept s.links_kept)
+made f x y goes older w s = subst (λ (u : World). Shows y older (f u)) (sym s.is) (goes older s.pools s.runs s.streams s.links s.calls s.pools_kept s.runs_kept s.streams_kept s.links_kept s.calls_kept)
 
 -- the same of a step that may ask
 pub stops : (step : World → (World → Turn) → Turn) (left : (World → Turn) → World → Turn) (x y : Machine)
-    → ((older : List Order) (pools : EventPools) (runs : RunBook) (streams : List StreamRecord) (links : List LinkRecord) (k : World → Turn)
+    → ((older : List Order) (pools : EventPools) (runs : RunBook) (streams : List StreamRecord) (links : List LinkRecord) (calls : CallBook) (k : World → Turn)
     → kept_pools.StandsFor x.pools pools → kept_runs.StandsFor x.runs runs → kept_streams.StandsFor x.streams streams
-    → kept_links.StandsFor x.links links → At y older (step (shown x older pools runs streams links) k) (left k))
+    → kept_links.StandsFor x.links links → kept_calls.StandsFor x.calls calls → At y older (step (shown x older pools runs streams links calls) k) (left k))
     → Stops step left x y
 stops step left x y goes older w k s =
-    subst (λ (u : World). At y older (step u k) (left k)) (sym s.is) (goes older s.pools s.runs s.streams s.links k s.pools_kept s.runs_kept s.streams_kept s.links_kept)
+    subst (λ (u : World). At y older (step u k) (left k)) (sym s.is) (goes older s.pools s.runs s.streams s.links s.calls k s.pools_kept s.runs_kept s.streams_kept s.links_kept s.calls_kept)
 
 -- a turn that is the same goes on in the same way
 pub at_same : (y : Machine) (older : List Order) (t u : Turn) (f : World → Turn) → t ≡ u → At y older u f → At y older t f
@@ -133,6 +135,8 @@ runs_there y older w change s runs step = record {
   streams_kept = s.streams_kept;
   links = s.links;
   links_kept = s.links_kept;
+  calls = s.calls;
+  calls_kept = s.calls_kept;
 }
 
 -- one more token
@@ -224,6 +228,8 @@ streams_there y older w change s streams step = record {
   streams_kept = step s.streams s.streams_kept;
   links = s.links;
   links_kept = s.links_kept;
+  calls = s.calls;
+  calls_kept = s.calls_kept;
 }
 
 -- one more part
@@ -262,6 +268,27 @@ links_there y older w change s links step = record {
   streams_kept = s.streams_kept;
   links = change s.links;
   links_kept = step s.links s.links_kept;
+  calls = s.calls;
+  calls_kept = s.calls_kept;
+}
+
+-- the calls in hand are others
+pub calls_there : (y : Machine) (older : List Order) (w : World) (change : CallBook → CallBook)
+    → Shows y older w → (calls : Calls)
+    → ((book : CallBook) → kept_calls.StandsFor y.calls book → kept_calls.StandsFor calls (change book))
+    → Shows (record y { calls = calls }) older (record w { calls = change w.calls })
+calls_there y older w change s calls step = record {
+  pools = s.pools;
+  runs = s.runs;
+  is = ap (λ (v : World). record v { calls = change v.calls }) s.is;
+  pools_kept = s.pools_kept;
+  runs_kept = s.runs_kept;
+  streams = s.streams;
+  streams_kept = s.streams_kept;
+  links = s.links;
+  links_kept = s.links_kept;
+  calls = change s.calls;
+  calls_kept = step s.calls s.calls_kept;
 }
 
 -- one more order is given
@@ -272,13 +299,15 @@ order_there y z older w more s same added = record {
   pools = s.pools;
   runs = s.runs;
   is = ap (gives more) s.is
-      ∙ ap (λ (all : List Order). record (shown y older s.pools s.runs s.streams s.links) { given = all })
+      ∙ ap (λ (all : List Order). record (shown y older s.pools s.runs s.streams s.links s.calls) { given = all })
       (append_assoc older y.hand.given.items (more ∷ []) ∙ ap (λ (orders : List Order). older ++ orders) (sym added))
-      ∙ ap (λ (m : Machine). shown m older s.pools s.runs s.streams s.links) (sym same);
+      ∙ ap (λ (m : Machine). shown m older s.pools s.runs s.streams s.links s.calls) (sym same);
   pools_kept = subst (λ (pools : Pools). kept_pools.StandsFor pools s.pools) (sym (ap (λ (m : Machine). m.pools) same)) s.pools_kept;
   runs_kept = subst (λ (runs : Runs). kept_runs.StandsFor runs s.runs) (sym (ap (λ (m : Machine). m.runs) same)) s.runs_kept;
   streams = s.streams;
   streams_kept = subst (λ (streams : Streams). kept_streams.StandsFor streams s.streams) (sym (ap (λ (m : Machine). m.streams) same)) s.streams_kept;
   links = s.links;
   links_kept = subst (λ (links : Links). kept_links.StandsFor links s.links) (sym (ap (λ (m : Machine). m.links) same)) s.links_kept;
+  calls = s.calls;
+  calls_kept = subst (λ (calls : Calls). kept_calls.StandsFor calls s.calls) (sym (ap (λ (m : Machine). m.calls) same)) s.calls_kept;
 }

@@ -1,23 +1,25 @@
 -- The machine and the state that it stands for go on together.
 use Rattle.std.proofs.Common.{◌≡◌, ℕ, List, [], ◌∷◌, ◌++◌, Option, Some, None, Bool, true, false, ◌&&◌, length, refl, subst, sym, ap, ◌∙◌, append-nil, ◌-◌}
-use Rattle.std.specs.Prelude.{codes, drop, is_none, is_some, nat_lt, not}
+use Rattle.std.specs.Prelude.{is_none, is_some, nat_lt, not}
 use Rattle.std.specs.List.{list_all}
 use Rattle.std.proofs.Math.Seq.{drop-append_seam}
-use Rattle.sv_answers.specs.Served.{reads_back}
 use Rattle.sv_core.proofs.LinkTests.{may_same}
+use Rattle.sv_core.proofs.Left.{serving_asks}
 use Rattle.sv_core.proofs.Named.{names_fresh, names_failed}
 use Rattle.sv_core.proofs.Shown.{at_same}
 use Rattle.sv_core.specs.Events.{announces}
 use Rattle.sv_base.specs.declared.ids.LinkId.{LinkId}
+use Rattle.sv_calls.specs.StandsFor as kept_calls
+use Rattle.sv_calls.specs.declared.calls.Calls.{Calls}
 use Rattle.sv_base.specs.declared.ids.Run.{Run}
-use Rattle.sv_core.specs.Failure.{can_fail, failures_told, refusal_of}
+use Rattle.sv_core.specs.Failure.{can_fail, failures_told, refusal, refusal_of}
 use Rattle.sv_core.specs.Listening.{loses_stdin}
 use Rattle.sv_core.specs.MachineState.{Model, can_be_named, failure_named, hand, is_accepted, may_begin_in, now, accepts, next, next_part, orders, turn_of}
 use Rattle.sv_core.specs.Parts.{part_of}
-use Rattle.sv_core.specs.StandsFor.{At, Shows, StandsFor, Takes, Names, Notes, asked_by, asking, asking_of, can_name, failure_kept, has_halted, is_above, is_fitting, is_sound, is_sound_part, may_begin_by, paused, question_of, rest, serving, swept, shown, turn_after}
-use Rattle.sv_core.specs.Serving.{awaits_read, file_reply, replies, serves_all, serves_left}
+use Rattle.sv_core.specs.StandsFor.{At, Shows, StandsFor, Takes, Names, Notes, asked_by, can_name, failure_kept, has_halted, is_above, is_fitting, is_sound, is_sound_part, may_begin_by, paused, question_of, rest, swept, shown, turn_after}
+use Rattle.sv_core.specs.Left.{question_called, serving, serving_answered}
 use Rattle.sv_core.specs.Sweeps.{Turn, asks, sweeps}
-use Rattle.sv_core.specs.Sweeps.Turn.{Done}
+use Rattle.sv_core.specs.Sweeps.Turn.{Ask, Done}
 use Rattle.sv_core.specs.Turn.{applies, asked_of, come, came, after_links, after_pass, after_stimulus, turn, rewinds, world_of, is_asking}
 use Rattle.sv_core.specs.Moves.{answered}
 use Rattle.sv_core.specs.World.{World}
@@ -50,19 +52,25 @@ use Rattle.sv_runs.specs.declared.runs.Runs.{Runs}
 use Rattle.sv_streams.specs.StandsFor as kept_streams
 use Rattle.sv_streams.specs.declared.streams.Streams.{Streams}
 
+-- where step 5 stopped, its question stands
+links_ask : (p : Serving) (w : World)
+    → rest (Some (InLinks p)) w ≡ Ask w (question_called p.asking.going.calling) (λ v reply. serving_answered p reply v after_links)
+unfolding rest
+links_ask p w = serving_asks p after_links w
+
 pub world_of_rest : (place : Option Place) (w : World) → world_of (rest place w) ≡ w
-unfolding rest paused swept asks serving asking_of asking awaits_read
+unfolding rest paused swept asks
 world_of_rest None w = refl
 world_of_rest (Some (Stimulus p)) w = refl
 world_of_rest (Some (Pass p)) w = refl
-world_of_rest (Some (InLinks p)) w = refl
+world_of_rest (Some (InLinks p)) w = ap world_of (links_ask p w)
 
 pub asked_of_rest : (place : Option Place) (w : World) → asked_of (rest place w) ≡ question_of place
-unfolding rest paused swept asks serving asking_of asking awaits_read
+unfolding rest paused swept asks
 asked_of_rest None w = refl
 asked_of_rest (Some (Stimulus p)) w = refl
 asked_of_rest (Some (Pass p)) w = refl
-asked_of_rest (Some (InLinks p)) w = refl
+asked_of_rest (Some (InLinks p)) w = ap asked_of (links_ask p w)
 
 pub came_more : (t : Turn) (fs more : List Followed) → came t (fs ++ more) ≡ came (came t fs) more
 came_more t [] more = refl
@@ -81,7 +89,7 @@ hand_after_part x m (Fails number) same =
 now_at : (x : Machine) (m : Model) (s : StandsFor x m) → now m ≡ s.hand_at.world
 now_at x m s = ap world_of s.hand_at.is ∙ world_of_rest x.hand.place s.hand_at.world
 
-now_is : (x : Machine) (m : Model) (s : StandsFor x m) → now m ≡ shown x s.older s.hand_at.shows.pools s.hand_at.shows.runs s.hand_at.shows.streams s.hand_at.shows.links
+now_is : (x : Machine) (m : Model) (s : StandsFor x m) → now m ≡ shown x s.older s.hand_at.shows.pools s.hand_at.shows.runs s.hand_at.shows.streams s.hand_at.shows.links s.hand_at.shows.calls
 now_is x m s = now_at x m s ∙ s.hand_at.shows.is
 
 pub given_is : (x : Machine) (m : Model) (s : StandsFor x m) → (now m).given ≡ s.older
@@ -205,7 +213,7 @@ halted_is x m s = rw (s.whole, now_is x m s) refl
 -- where a turn was left is no part of the world
 pub left_there : (y : Machine) (older : List Order) (place : Option Place) (w : World) → Shows y older w
     → Shows (record y { hand = record y.hand { place = place } }) older w
-left_there y older place w s = record { pools = s.pools; runs = s.runs; is = s.is; pools_kept = s.pools_kept; runs_kept = s.runs_kept; streams = s.streams; streams_kept = s.streams_kept; links = s.links; links_kept = s.links_kept }
+left_there y older place w s = record { pools = s.pools; runs = s.runs; is = s.is; pools_kept = s.pools_kept; runs_kept = s.runs_kept; streams = s.streams; streams_kept = s.streams_kept; links = s.links; links_kept = s.links_kept; calls = s.calls; calls_kept = s.calls_kept }
 
 -- a turn begins
 pub turn_begun : (cause : Cause) (at : ℕ) (place : Option Place) (w : World)
@@ -272,23 +280,21 @@ done_there y older w s = record { world = w; shows = left_there y older None w s
 pub stimulus_answered : (p : Paused) (reply : Reply) (w : World)
     → come (rest (Some (Stimulus p)) w) (followed.Answered reply)
     ≡ sweeps p.news (p.to - p.stop.next) p.stop.next (answered p.stop.asked.child p.stop.asked.run reply w) after_stimulus
-unfolding rest paused swept asks serving asking_of asking awaits_read
+unfolding rest paused swept asks
 stimulus_answered p reply w = refl
 
 -- and step 4
 pub pass_answered : (p : Paused) (reply : Reply) (w : World)
     → come (rest (Some (Pass p)) w) (followed.Answered reply)
     ≡ sweeps p.news (p.to - p.stop.next) p.stop.next (answered p.stop.asked.child p.stop.asked.run reply w) after_pass
-unfolding rest paused swept asks serving asking_of asking awaits_read
+unfolding rest paused swept asks
 pass_answered p reply w = refl
 
 -- and step 5
 pub links_answered : (p : Serving) (reply : Reply) (w : World)
     → come (rest (Some (InLinks p)) w) (followed.Answered reply)
-    ≡ serves_left p.asking.left p.link (replies p.link (reads_back p.asking.reading (file_reply reply)) w)
-    (λ v. serves_all (drop p.next p.links.items) v after_links)
-unfolding rest serving asking_of asking awaits_read
-links_answered p reply w = refl
+    ≡ serving_answered p reply w after_links
+links_answered p reply w = ap (λ t. come t (followed.Answered reply)) (links_ask p w)
 
 -- no question stands: nothing comes of an answer
 pub nothing_answered : (reply : Reply) (w : World) → come (rest None w) (followed.Answered reply) ≡ rest None w
@@ -303,44 +309,49 @@ nothing_answered_at x older reply w s =
 -- a question that is refused is answered by its refusal
 pub refused_is : (place : Option Place) (w : World)
     → come (rest place w) (followed.Failed RefusesQuestion) ≡ come (rest place w) (followed.Answered (refusal_of (question_of place)))
-unfolding rest paused swept asks serving asking_of asking awaits_read
+unfolding rest paused swept asks
 refused_is None w = refl
 refused_is (Some (Stimulus p)) w = refl
 refused_is (Some (Pass p)) w = refl
-refused_is (Some (InLinks p)) w = refl
+refused_is (Some (InLinks p)) w =
+    ap (λ t. come t (followed.Failed RefusesQuestion)) (links_ask p w)
+    ∙ sym (ap (λ t. come t (followed.Answered (refusal (question_called p.asking.going.calling)))) (links_ask p w))
 
 -- a failure that changes nothing
 pub nothing_failed : (place : Option Place) (w : World) → come (rest place w) (followed.Failed ChangesNothing) ≡ rest place w
-unfolding rest paused swept asks serving asking_of asking awaits_read
+unfolding rest paused swept asks
 nothing_failed None w = refl
 nothing_failed (Some (Stimulus p)) w = refl
 nothing_failed (Some (Pass p)) w = refl
-nothing_failed (Some (InLinks p)) w = refl
+nothing_failed (Some (InLinks p)) w = ap (λ t. come t (followed.Failed ChangesNothing)) (links_ask p w) ∙ sym (links_ask p w)
 
 pub never_failed : (place : Option Place) (w : World) → come (rest place w) (followed.Failed NeverFails) ≡ rest place w
-unfolding rest paused swept asks serving asking_of asking awaits_read
+unfolding rest paused swept asks
 never_failed None w = refl
 never_failed (Some (Stimulus p)) w = refl
 never_failed (Some (Pass p)) w = refl
-never_failed (Some (InLinks p)) w = refl
+never_failed (Some (InLinks p)) w = ap (λ t. come t (followed.Failed NeverFails)) (links_ask p w) ∙ sym (links_ask p w)
 
 -- a write that failed
 pub stdin_failed : (place : Option Place) (run : Run) (w : World)
     → come (rest place w) (followed.Failed (LosesStdin run)) ≡ rest place (loses_stdin run w)
-unfolding rest paused swept asks serving asking_of asking awaits_read
+unfolding rest paused swept asks
 stdin_failed None run w = refl
 stdin_failed (Some (Stimulus p)) run w = refl
 stdin_failed (Some (Pass p)) run w = refl
-stdin_failed (Some (InLinks p)) run w = refl
+stdin_failed (Some (InLinks p)) run w =
+    ap (λ t. come t (followed.Failed (LosesStdin run))) (links_ask p w) ∙ sym (links_ask p (loses_stdin run w))
 
 -- an order of a link that failed
 pub link_failed : (place : Option Place) (link : LinkId) (w : World)
     → come (rest place w) (followed.Failed (LosesLink link)) ≡ rest place (record w { links = ended link Lost w.links })
-unfolding rest paused swept asks serving asking_of asking awaits_read
+unfolding rest paused swept asks
 link_failed None link w = refl
 link_failed (Some (Stimulus p)) link w = refl
 link_failed (Some (Pass p)) link w = refl
-link_failed (Some (InLinks p)) link w = refl
+link_failed (Some (InLinks p)) link w =
+    ap (λ t. come t (followed.Failed (LosesLink link))) (links_ask p w)
+    ∙ sym (links_ask p (record w { links = ended link Lost w.links }))
 
 -- the orders of an input are handed over
 pub taken_there : (x y : Machine) (older given : List Order) (w : World)
@@ -353,12 +364,14 @@ taken_there x y older given w same none is s =
     record {
       pools = s.pools;
       runs = s.runs;
-      is = s.is ∙ ap (λ (orders : List Order). record (shown x older s.pools s.runs s.streams s.links) { given = orders }) all
-          ∙ ap (λ (m : Machine). shown m (older ++ given) s.pools s.runs s.streams s.links) (sym same);
+      is = s.is ∙ ap (λ (orders : List Order). record (shown x older s.pools s.runs s.streams s.links s.calls) { given = orders }) all
+          ∙ ap (λ (m : Machine). shown m (older ++ given) s.pools s.runs s.streams s.links s.calls) (sym same);
       pools_kept = subst (λ (pools : Pools). kept_pools.StandsFor pools s.pools) (sym (ap (λ (m : Machine). m.pools) same)) s.pools_kept;
       runs_kept = subst (λ (runs : Runs). kept_runs.StandsFor runs s.runs) (sym (ap (λ (m : Machine). m.runs) same)) s.runs_kept;
       streams = s.streams;
       streams_kept = subst (λ (streams : Streams). kept_streams.StandsFor streams s.streams) (sym (ap (λ (m : Machine). m.streams) same)) s.streams_kept;
       links = s.links;
       links_kept = subst (λ (links : Links). kept_links.StandsFor links s.links) (sym (ap (λ (m : Machine). m.links) same)) s.links_kept;
+      calls = s.calls;
+      calls_kept = subst (λ (calls : Calls). kept_calls.StandsFor calls s.calls) (sym (ap (λ (m : Machine). m.calls) same)) s.calls_kept;
     }

@@ -1,12 +1,9 @@
--- One walk through the turn, for a relation between two worlds that each of its small steps keeps.
-use Rattle.std.proofs.Common.{ℕ, zero, suc, ◌+◌, ◌++◌, List, [], ◌∷◌, Bool, true, false, ◌&&◌, ◌||◌, Option, Some, None, subst, sym, if◌then◌else◌}
+-- One walk through the turn, for a relation between two worlds that each of its small steps keeps: the steps, and what is made of
+-- them for children, listeners and links.
+use Rattle.std.proofs.Common.{ℕ, zero, suc, ◌+◌, ◌++◌, List, [], ◌∷◌, Bool, true, false, ◌||◌, Option, Some, None, if◌then◌else◌}
 use Rattle.std.specs.Prelude.{◌-◌, length, nat_le, codes, slice_get}
 use Rattle.std.specs.Str.{bytes_eq}
-use Rattle.sv_answers.specs.Served.{reads_back, serves}
-use Rattle.sv_answers.specs.declared.served.Reading.{Reading}
-use Rattle.sv_answers.specs.declared.served.Sent.{Sent}
-use Rattle.sv_answers.specs.declared.served.Served.{Served}
-use Rattle.sv_answers.specs.declared.served.Served.TheVariants.{Replies, Reads}
+use Rattle.sv_answers.specs.declared.sent.Sent.{Sent}
 use Rattle.sv_base.specs.declared.ids.LinkId.{LinkId}
 use Rattle.sv_base.specs.declared.ids.Run.{Run}
 use Rattle.sv_base.specs.declared.kind.Kind.{Kind}
@@ -15,7 +12,7 @@ use Rattle.sv_base.specs.declared.signal.Signal.{Signal}
 use Rattle.sv_base.specs.declared.state.How.{How}
 use Rattle.sv_base.specs.declared.state.Stream.{Stream}
 use Rattle.sv_base.specs.declared.state.Stream.TheVariants.{Out, Err}
-use Rattle.sv_base.specs.declared.state.Mood.TheVariants as mood_is
+use Rattle.sv_calls.specs.CallBook.{CallBook}
 use Rattle.sv_child.specs.ChildTable.{Stimulus}
 use Rattle.sv_child.specs.Moves.{is_running}
 use Rattle.sv_child.specs.declared.step.ChildDeed.{ChildDeed}
@@ -25,50 +22,36 @@ use Rattle.sv_base.specs.declared.spec.LogSpec.{LogSpec}
 use Rattle.sv_children.specs.Crew.{Member, member_at}
 use Rattle.sv_children.specs.News.{deed_of, step_of, stimulus_of, stimulus_told}
 use Rattle.sv_children.specs.Orders.{spawn_at}
-use Rattle.sv_children.specs.Spans.{span_meant}
 use Rattle.sv_children.specs.declared.news.News.{News}
 use Rattle.sv_children.specs.declared.news.News.TheVariants as news_is
-use Rattle.sv_core.proofs.Standing.{came_more}
-use Rattle.sv_core.specs.Deeds.{after}
 use Rattle.sv_core.specs.Events.{announces, offers, offers_change, offers_if, offers_tick, ticks}
 use Rattle.sv_core.specs.Logging.{logs, logs_if, notes_if}
 use Rattle.sv_core.specs.Output.{ends_pipe, hears_on, log_fact, log_kind, log_of, logs_of, message_fact, message_kind, says_on, takes_all, takes_part, takes_parts}
 use Rattle.sv_core.specs.HandingOut.{hands_from, hands_out, hands_to, ready_of, sends, sends_to}
-use Rattle.sv_core.specs.Listening.{exits, exits_of, gives_back, hears, id_of, is_done_with, loses_of, loses_stdin, takes_result, tells, tells_all, tells_by}
-use Rattle.sv_core.specs.Failure.{failed, failures_told, refusal}
-use Rattle.sv_core.specs.MachineState.{Model, hand, failure_named, now, next, next_part, turn_of, accepts}
+use Rattle.sv_core.specs.Listening.{exits_of, gives_back, hears, id_of, is_done_with, loses_of, loses_stdin, takes_result, tells, tells_all, tells_by}
 use Rattle.sv_core.specs.Moves.{answered, begins_as, begins_output, begins_output_of, comes, fails, is_listener_of, kills, moves, orders_spawn, says, started_as, told_of}
-use Rattle.sv_core.specs.Parts.{part_of}
-use Rattle.sv_core.specs.Serving.{asks_for, awaits_read, closes_all, closes_behind, closes_links, comes_to, file_reply, gives, gives_more, guard_at, opens, opens_for, replies, scene_of, sends_reply, serves_all, serves_ask, serves_asks, serves_link, serves_next, welcome}
-use Rattle.sv_core.specs.Shutdown.{drops_group, follows_plan, halts, halts_after, has_come_to_rest, heeds, in_mood, is_ending, moves_on, tells_group}
+use Rattle.sv_core.specs.Calling.{closes_behind, replies, sends_reply}
+use Rattle.sv_core.specs.Openings.{closes_all, opens_for, welcome}
+use Rattle.sv_core.specs.Serving.{gives_more}
+use Rattle.sv_core.specs.Shutdown.{drops_group, follows_plan, has_come_to_rest, moves_on, tells_group}
 use Rattle.sv_core.specs.Stops.{signals, stops, stops_from, stops_all}
-use Rattle.sv_core.specs.Sweeps.{Turn, asks, carries_out, does, does_noted, meets, spawns, spawns_as, sweeps, sweeps_all, sweeps_over}
+use Rattle.sv_core.specs.Sweeps.{Turn, asks, carries_out, does, does_noted, meets, spawns, spawns_as, sweeps, sweeps_all}
 use Rattle.sv_core.specs.Sweeps.Turn.{Done, Ask}
-use Rattle.sv_core.specs.Turn.{after_links, after_pass, after_stimulus, applies, came, come, failed_at, rewinds, turn, world_of}
-use Rattle.sv_core.specs.World.{World}
+use Rattle.sv_core.specs.Turn.{rewinds, world_of}
+use Rattle.sv_core.specs.World.{World, gives}
 use Rattle.sv_core.specs.declared.course.Course.{Course}
-use Rattle.sv_core.specs.declared.failure.Failure.{Failure}
-use Rattle.sv_core.specs.declared.failure.Failure.TheVariants.{NeverFails, ChangesNothing, LosesStdin, LosesLink, RefusesQuestion}
-use Rattle.sv_core.specs.declared.part.Cause.{Cause}
-use Rattle.sv_core.specs.declared.part.Cause.TheVariants as cause_is
-use Rattle.sv_core.specs.declared.part.Followed.{Followed}
-use Rattle.sv_core.specs.declared.part.Followed.TheVariants as followed
-use Rattle.sv_core.specs.declared.part.Part.{Part}
-use Rattle.sv_core.specs.declared.part.Part.TheVariants.{Begins, Answers, Fails}
-use Rattle.sv_core.specs.declared.part.Question.{Question}
 use Rattle.sv_core.specs.declared.part.Reply.{Reply}
 use Rattle.sv_core.specs.declared.part.Reply.TheVariants.{Refused}
 use Rattle.sv_events.specs.TickSlice.{tick}
 use Rattle.sv_events.specs.declared.fact.Fact.{Fact}
 use Rattle.sv_events.specs.declared.fact.Fact.TheVariants as fact
+use Rattle.sv_files.specs.Sizes.{cleared}
 use Rattle.sv_groups.specs.StartOrder.{span_of}
 use Rattle.sv_groups.specs.declared.order.Span.{Span}
-use Rattle.sv_http.specs.declared.ask.Ask.{Ask as Request}
 use Rattle.sv_http.specs.declared.guard.Guard.{Guard}
 use Rattle.sv_links.specs.LinkBook as link_book
 use Rattle.sv_links.specs.LinkBook.{LinkRecord}
-use Rattle.sv_links.specs.LinkBook.Ending.{Closed, Ended, Failed as Lost}
-use Rattle.sv_out.specs.declared.input.Input.{Input}
+use Rattle.sv_links.specs.LinkBook.Ending.{Closed}
 use Rattle.sv_out.specs.declared.order.Order.TheVariants as order
 use Rattle.sv_out.specs.declared.order.SpawnOrder.{SpawnOrder}
 use Rattle.sv_lines.specs.EdgeLines.{how_of, killing_at, spawned_at}
@@ -116,13 +99,17 @@ pub record Steps (R : World → World → Type 0) : Type 0 where
   pub wanted : (link : LinkId) (w : World) → R w (gives (order.More link) w)
   pub closed : (link : LinkId) (w : World) → R w (gives (order.Close link) w)
   pub read : (file : List ℕ) (start length : ℕ) (w : World) → R w (gives (order.ReadFile file start length) w)
+  pub called : (calls : CallBook) (w : World) → R w (record w { calls = calls })
+  pub told : (run : Run) (bytes : List ℕ) (w : World) → R w (gives (order.Stdin run bytes) w)
+  pub wiped : (file : List ℕ) (w : World) → R w (gives (order.ClearFile file) w)
+  pub emptied : (file : List ℕ) (w : World) → R w (record w { sizes = cleared file w.sizes })
 
 module _ (R : World → World → Type 0) (s : Steps R) where
   pub leads : (w v : World) (t : Turn) → R w v → From R v t → From R w t
   leads w v t r f = (s.follow w v (world_of t) r f.0, f.1)
 
   -- a test, and either way the relation holds
-  by_test : (b : Bool) (w one other : World) → R w one → R w other → R w (if b then one else other)
+  pub by_test : (b : Bool) (w one other : World) → R w one → R w other → R w (if b then one else other)
   by_test true w one other yes_holds no_holds = yes_holds
   by_test false w one other yes_holds no_holds = no_holds
 
@@ -197,7 +184,7 @@ module _ (R : World → World → Type 0) (s : Steps R) where
   pub kept_change : (kind : Kind) (w : World) → R w (offers_change kind w)
   kept_change kind w = s.offered kind fact.Supervisor w
 
-  kept_announces : (w : World) → R w (announces w)
+  pub kept_announces : (w : World) → R w (announces w)
   kept_announces w =
       let course : Course = record w.course { announced = true } in
       let told = record w { course = course } in
@@ -209,7 +196,7 @@ module _ (R : World → World → Type 0) (s : Steps R) where
   kept_tick kind None w = s.same w
   kept_tick kind (Some when) w = s.offered kind (fact.Tick when) w
 
-  kept_ticks : (w : World) → R w (ticks w)
+  pub kept_ticks : (w : World) → R w (ticks w)
   kept_ticks w =
       let old = w.clock in
       let new = w.moment in
@@ -277,7 +264,7 @@ module _ (R : World → World → Type 0) (s : Steps R) where
   kept_says Out run bytes w = kept_hears run bytes w
   kept_says Err run bytes w = s.same w
 
-  kept_hears_on : (pipe : Stream) (run : Run) (bytes : List ℕ) (w : World) → R w (hears_on pipe run bytes w)
+  pub kept_hears_on : (pipe : Stream) (run : Run) (bytes : List ℕ) (w : World) → R w (hears_on pipe run bytes w)
   kept_hears_on pipe run bytes w =
       let streams = output.fed run pipe bytes w.streams in
       let owner = output.owner_in run w.streams in
@@ -288,7 +275,7 @@ module _ (R : World → World → Type 0) (s : Steps R) where
       s.follow w u (hears_on pipe run bytes w) (s.written streams w)
       (s.follow u v (hears_on pipe run bytes w) (kept_all owner channel ps u) (kept_says pipe run bytes v))
 
-  kept_ends_pipe : (run : Run) (pipe : Stream) (w : World) → R w (ends_pipe run pipe w)
+  pub kept_ends_pipe : (run : Run) (pipe : Stream) (w : World) → R w (ends_pipe run pipe w)
   kept_ends_pipe run pipe w =
       let owner = output.owner_in run w.streams in
       let channel = output.channel_in run pipe w.streams in
@@ -300,7 +287,7 @@ module _ (R : World → World → Type 0) (s : Steps R) where
       s.follow w u (ends_pipe run pipe w) (s.booked book w)
       (s.follow u v (ends_pipe run pipe w) (s.written streams u) (kept_all owner channel ps v))
 
-  kept_exits_of : (child : Option ℕ) (run : Run) (how : How) (w : World) → R w (exits_of child run how w)
+  pub kept_exits_of : (child : Option ℕ) (run : Run) (how : How) (w : World) → R w (exits_of child run how w)
   kept_exits_of None run how w = s.same w
   kept_exits_of (Some c) run how w =
       let v = comes (Some how) (stimulus_of (news_is.Exit run how)) c w in
@@ -330,7 +317,7 @@ module _ (R : World → World → Type 0) (s : Steps R) where
       s.follow w (hands_to c w) (hands_from left (c + 1) (hands_to c w))
       (kept_sends (ready_of (slice_get w.children.all c) w.runs) c w) (kept_hands_from left (c + 1) (hands_to c w))
 
-  kept_hands_out : (w : World) → R w (hands_out w)
+  pub kept_hands_out : (w : World) → R w (hands_out w)
   kept_hands_out w = kept_hands_from (length w.children.all - 0) 0 w
 
   pub kept_sweeps_all : (news : News) (w : World) (k : World → Turn) → ((v : World) → From R v (k v)) → From R w (sweeps_all news w k)
@@ -344,7 +331,7 @@ module _ (R : World → World → Type 0) (s : Steps R) where
   kept_signals (Some Spawn) c w = s.same w
   kept_signals None c w = s.same w
 
-  kept_stops : (c : ℕ) (w : World) → R w (stops c w)
+  pub kept_stops : (c : ℕ) (w : World) → R w (stops c w)
   kept_stops c w =
       let answer = says (stimulus_of news_is.Stop) c w in
       let v = moves None c answer w in
@@ -356,7 +343,7 @@ module _ (R : World → World → Type 0) (s : Steps R) where
       let v = stops (from + left) w in
       s.follow w v (stops_from from left v) (kept_stops (from + left) w) (kept_stops_from from left v)
 
-  kept_stops_all : (span : Span) (w : World) → R w (stops_all span w)
+  pub kept_stops_all : (span : Span) (w : World) → R w (stops_all span w)
   kept_stops_all span w = kept_stops_from span.from (span.to - span.from) w
 
   kept_tells_group : (group : ℕ) (w : World) → R w (tells_group group w)
@@ -376,12 +363,12 @@ module _ (R : World → World → Type 0) (s : Steps R) where
       (s.follow told dropped (moves_on left dropped) (s.steered dropped.course told) (kept_moves_on left dropped)))
       (kept_tells_group left w)
 
-  kept_follows_plan : (w : World) → R w (follows_plan w)
+  pub kept_follows_plan : (w : World) → R w (follows_plan w)
   kept_follows_plan w = by_test (is_running w.course.mood) w w (moves_on w.course.left w) (s.same w) (kept_moves_on w.course.left w)
 
   -- ---- links
 
-  kept_closes_all : (links : List LinkId) (w : World) → R w (closes_all links w)
+  pub kept_closes_all : (links : List LinkId) (w : World) → R w (closes_all links w)
   kept_closes_all [] w = s.same w
   kept_closes_all (link ∷ links) w =
       let u = gives (order.Close link) w in
@@ -392,7 +379,7 @@ module _ (R : World → World → Type 0) (s : Steps R) where
   kept_welcome link true w = s.wanted link w
   kept_welcome link false w = s.closed link w
 
-  kept_opens : (link : LinkId) (guard : Option Guard) (w : World) → R w (opens_for link guard w)
+  pub kept_opens : (link : LinkId) (guard : Option Guard) (w : World) → R w (opens_for link guard w)
   kept_opens link None w = s.same w
   kept_opens link (Some guard) w =
       let u = record w { links = link_book.opened guard w.links } in
@@ -402,7 +389,7 @@ module _ (R : World → World → Type 0) (s : Steps R) where
   kept_behind true link w = s.closed link w
   kept_behind false link w = s.same w
 
-  kept_replies : (link : LinkId) (sent : Sent) (w : World) → R w (replies link sent w)
+  pub kept_replies : (link : LinkId) (sent : Sent) (w : World) → R w (replies link sent w)
   kept_replies link sent w =
       let u = record w { links = link_book.answered link sent.closes w.links } in
       let v = gives (order.Send link sent.text) u in
@@ -411,170 +398,8 @@ module _ (R : World → World → Type 0) (s : Steps R) where
       (s.follow u v (sends_reply link sent u) (s.replied link sent.text u) (kept_behind sent.closes link v)))
       (s.linked u.links w)
 
-  kept_more : (link : LinkId) (w : World) → R w (gives_more link w)
+  pub kept_more : (link : LinkId) (w : World) → R w (gives_more link w)
   kept_more link w =
       let u = record w { links = link_book.more_given link w.links } in
       by_test (link_book.more_is_due link w.links) w (gives (order.More link) u) u
       (s.follow w u (gives (order.More link) u) (s.linked u.links w) (s.wanted link u)) (s.linked u.links w)
-
-  kept_awaits : (link : LinkId) (reading : Reading) (w : World) (k : World → Turn) → ((v : World) → From R v (k v))
-      → From R w (awaits_read link reading w k)
-  unfolding awaits_read
-  kept_awaits link reading w k goes = (
-    s.same w,
-    λ v reply.
-        let u = replies link (reads_back reading (file_reply reply)) v in
-        leads v u (k u) (kept_replies link (reads_back reading (file_reply reply)) v) (goes u),
-  )
-
-  kept_comes_to : (link : LinkId) (served : Served) (w : World) (k : World → Turn) → ((v : World) → From R v (k v))
-      → From R w (comes_to link served w k)
-  kept_comes_to link (Replies sent) w k goes =
-      leads w (replies link sent w) (k (replies link sent w)) (kept_replies link sent w) (goes (replies link sent w))
-  kept_comes_to link (Reads reading) w k goes =
-      let u = asks_for reading w in
-      leads w u (awaits_read link reading u k) (s.read reading.file reading.span.start reading.span.length w)
-      (kept_awaits link reading u k goes)
-
-  kept_serves_ask : (link : LinkId) (ask : Option Request) (w : World) (k : World → Turn) → ((v : World) → From R v (k v))
-      → From R w (serves_ask link ask w k)
-  kept_serves_ask link None w k goes = goes w
-  kept_serves_ask link (Some ask) w k goes = kept_comes_to link (serves (scene_of w) w.moment ask) w k goes
-
-  kept_serves_next : (link : LinkId) (w : World) (k : World → Turn) → ((v : World) → From R v (k v)) → From R w (serves_next link w k)
-  kept_serves_next link w k goes =
-      let u = record w { links = link_book.taken link w.links } in
-      let ask = link_book.ask_at link w.links in
-      leads w u (serves_ask link ask u k) (s.linked u.links w) (kept_serves_ask link ask u k goes)
-
-  kept_serves_asks : (left : ℕ) (link : LinkId) (w : World) (k : World → Turn) → ((v : World) → From R v (k v))
-      → From R w (serves_asks left link w k)
-  kept_serves_asks zero link w k goes = goes w
-  kept_serves_asks (suc left) link w k goes =
-      kept_serves_next link w (λ v. serves_asks left link v k) (λ v. kept_serves_asks left link v k goes)
-
-  kept_serves_link : (link : LinkId) (w : World) (k : World → Turn) → ((v : World) → From R v (k v)) → From R w (serves_link link w k)
-  kept_serves_link link w k goes =
-      kept_serves_asks (link_book.left_at link w.links) link w (λ v. k (gives_more link v))
-      (λ v. leads v (gives_more link v) (k (gives_more link v)) (kept_more link v) (goes (gives_more link v)))
-
-  kept_serves_all : (links : List LinkId) (w : World) (k : World → Turn) → ((v : World) → From R v (k v)) → From R w (serves_all links w k)
-  kept_serves_all [] w k goes = goes w
-  kept_serves_all (link ∷ links) w k goes =
-      kept_serves_link link w (λ v. serves_all links v k) (λ v. kept_serves_all links v k goes)
-
-  kept_halts : (w : World) → R w (halts w)
-  kept_halts w = by_test (is_running w.course.mood) w w (halts_after w.course.left w) (s.same w) (kept_after_plan w.course.left w) where
-    kept_after_plan : (left : ℕ) (v : World) → R v (halts_after left v)
-    kept_after_plan zero v =
-        let closed = closes_links v in
-        let ended = record closed { given = closed.given ++ order.Halt ∷ [] } in
-        s.follow v closed (halts_after zero v) (kept_closes_all (link_book.open_links v.links) v)
-        (s.follow closed ended (halts_after zero v) (s.ended closed) (s.steered (record closed.course { halted = true }) ended))
-    kept_after_plan (suc left) v = s.same v
-
-  kept_heeds : (signal : Signal) (w : World) → R w (heeds signal w)
-  kept_heeds signal w =
-      let ending = in_mood mood_is.Shutdown w in
-      by_test (is_ending signal && is_running w.course.mood) w (offers_change kind.SupervisorStateChangeStopping ending) w
-      (s.follow w ending (offers_change kind.SupervisorStateChangeStopping ending) (s.steered (record w.course { mood = mood_is.Shutdown }) w)
-      (kept_change kind.SupervisorStateChangeStopping ending)) (s.same w)
-
-  kept_after_links : (w : World) → From R w (after_links w)
-  kept_after_links w =
-      let v = follows_plan w in (
-        s.follow w v (halts (hands_out v)) (kept_follows_plan w)
-            (s.follow v (hands_out v) (halts (hands_out v)) (kept_hands_out v) (kept_halts (hands_out v))),
-        tt,
-      )
-
-  kept_after_pass : (w : World) → From R w (after_pass w)
-  kept_after_pass w = kept_serves_all (link_book.busy_links w.links) w after_links kept_after_links
-
-  kept_after_stimulus : (w : World) → From R w (after_stimulus w)
-  kept_after_stimulus w =
-      leads w (ticks w) (after_stimulus w) (kept_ticks w) (kept_sweeps_all news_is.Time (ticks w) after_pass kept_after_pass)
-
-  kept_start : (b : Bool) (span : Span) (w : World)
-      → From R w (if b then sweeps_over news_is.Start span w after_stimulus else after_stimulus w)
-  kept_start true span w = kept_sweeps news_is.Start (span.to - span.from) span.from w after_stimulus kept_after_stimulus
-  kept_start false span w = kept_after_stimulus w
-
-  kept_applies : (cause : Cause) (w : World) → From R w (applies cause w after_stimulus)
-  kept_applies cause_is.Tick w = kept_after_stimulus w
-  kept_applies (cause_is.Exit run how) w =
-      leads w (exits run how w) (after_stimulus (exits run how w)) (kept_exits_of (living run w.runs) run how w)
-      (kept_after_stimulus (exits run how w))
-  kept_applies (cause_is.Heard run stream bytes) w =
-      let v = hears_on stream run bytes w in leads w v (after_stimulus v) (kept_hears_on stream run bytes w) (kept_after_stimulus v)
-  kept_applies (cause_is.PipeEnd run stream) w =
-      let v = ends_pipe run stream w in leads w v (after_stimulus v) (kept_ends_pipe run stream w) (kept_after_stimulus v)
-  kept_applies (cause_is.Opened link side) w =
-      let v = opens link side w in
-      leads w v (after_stimulus v) (kept_opens link (guard_at side w.config.servers) w) (kept_after_stimulus v)
-  kept_applies (cause_is.Brought link bytes) w =
-      let v = record w { links = link_book.fed link bytes w.links } in
-      leads w v (after_stimulus v) (s.linked v.links w) (kept_after_stimulus v)
-  kept_applies (cause_is.LinkEnd link) w =
-      let v = record w { links = link_book.ended link Ended w.links } in
-      leads w v (after_stimulus v) (s.linked v.links w) (kept_after_stimulus v)
-  kept_applies (cause_is.Start name) w = kept_start (is_running w.course.mood) (span_meant name w.children.roster) w
-  kept_applies (cause_is.Stop name) w =
-      let v = stops_all (span_meant name w.children.roster) w in
-      leads w v (after_stimulus v) (kept_stops_all (span_meant name w.children.roster) w) (kept_after_stimulus v)
-  kept_applies (cause_is.Signal signal) w =
-      leads w (heeds signal w) (after_stimulus (heeds signal w)) (kept_heeds signal w) (kept_after_stimulus (heeds signal w))
-
-  kept_turn : (cause : Cause) (at : ℕ) (w : World) → From R w (turn cause at w)
-  kept_turn cause at w =
-      let v = announces w in
-      leads w v (turn cause at w) (kept_announces w)
-      (leads v (rewinds at v) (turn cause at w) (s.rewound at v) (kept_applies cause (rewinds at v)))
-
-  pub kept_failure : (failure : Failure) (w : World) → R w (failed failure w)
-  kept_failure (LosesStdin run) w = kept_loses run w
-  kept_failure (LosesLink link) w = s.linked (link_book.ended link Lost w.links) w
-  kept_failure RefusesQuestion w = s.same w
-  kept_failure ChangesNothing w = s.same w
-  kept_failure NeverFails w = s.same w
-
-  kept_failed : (failure : Failure) (w : World) (q : Question) (k : World → Reply → Turn) → Onward R (Ask w q k)
-      → From R w (failed_at failure w q k)
-  kept_failed RefusesQuestion w q k goes = goes w (refusal q)
-  kept_failed ChangesNothing w q k goes = (s.same w, goes)
-  kept_failed (LosesStdin run) w q k goes = (kept_loses run w, goes)
-  kept_failed (LosesLink link) w q k goes = (s.linked (link_book.ended link Lost w.links) w, goes)
-  kept_failed NeverFails w q k goes = (s.same w, goes)
-
-  pub kept_come : (t : Turn) (f : Followed) → Onward R t → From R (world_of t) (come t f)
-  kept_come (Done w) (followed.Answered reply) goes = kept_done w
-  kept_come (Done w) (followed.Failed failure) goes = (kept_failure failure w, tt)
-  kept_come (Ask w q k) (followed.Answered reply) goes = goes w reply
-  kept_come (Ask w q k) (followed.Failed failure) goes = kept_failed failure w q k goes
-
-  kept_came : (t : Turn) (fs : List Followed) → Onward R t → From R (world_of t) (came t fs)
-  kept_came t [] goes = (s.same (world_of t), goes)
-  kept_came t (f ∷ fs) goes =
-      let step = kept_come t f goes in
-      leads (world_of t) (world_of (come t f)) (came (come t f) fs) step.0 (kept_came (come t f) fs step.1)
-
-  kept_part : (m : Model) (part : Part) → Onward R (hand m) → From R (now m) (hand (next_part m part))
-  kept_part m (Begins at cause) goes = kept_turn cause at (now m)
-  kept_part m (Answers reply) goes =
-      subst (λ t. From R (now m) t) (sym (came_more (turn_of m.begun m.base) m.followed (followed.Answered reply ∷ [])))
-      (kept_come (hand m) (followed.Answered reply) goes)
-  kept_part m (Fails number) goes =
-      let told = failures_told (failure_named m number) in
-      subst (λ t. From R (now m) t) (sym (came_more (turn_of m.begun m.base) m.followed told)) (kept_came (hand m) told goes)
-
-  pub kept_next : (m : Model) (input : Input) → Onward R (hand m) → From R (now m) (hand (next m input))
-  kept_next m input goes = kept_part m (part_of input) goes
-
-  pub kept_after : (m : Model) (inputs : List Input) → Onward R (hand m) → R (now m) (now (after m inputs))
-  kept_after m [] goes = s.same (now m)
-  kept_after m (i ∷ is) goes =
-      let step = kept_next m i goes in
-      by_acceptance (accepts m i) (s.follow (now m) (now (next m i)) (now (after (next m i) is)) step.0 (kept_after (next m i) is step.1)) (kept_after m is goes) where
-        by_acceptance : (b : Bool) → R (now m) (now (after (next m i) is)) → R (now m) (now (after m is)) → R (now m) (now (if b then after (next m i) is else after m is))
-        by_acceptance true taken left = taken
-        by_acceptance false taken left = left

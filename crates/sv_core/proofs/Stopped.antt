@@ -58,7 +58,7 @@ rests_there y older w group s = ap (has_come_to_rest group) s.is
 -- a group is done with
 pub dropped_there : (y : Machine) (older : List Order) (w : World) (left : ℕ) → Shows y older w
     → Shows (record y { course = record y.course { left = left; is_told = false } }) older (drops_group left w)
-dropped_there y older w left s = record { pools = s.pools; runs = s.runs; is = ap (drops_group left) s.is; pools_kept = s.pools_kept; runs_kept = s.runs_kept; streams = s.streams; streams_kept = s.streams_kept; links = s.links; links_kept = s.links_kept }
+dropped_there y older w left s = record { pools = s.pools; runs = s.runs; is = ap (drops_group left) s.is; pools_kept = s.pools_kept; runs_kept = s.runs_kept; streams = s.streams; streams_kept = s.streams_kept; links = s.links; links_kept = s.links_kept; calls = s.calls; calls_kept = s.calls_kept }
 
 -- while the daemon ends, the plan goes on
 pub plan_left : (x y : Machine) (older : List Order) (w u : World) → Shows x older w → is_running x.course.mood ≡ false

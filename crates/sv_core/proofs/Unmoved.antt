@@ -128,7 +128,7 @@ none_from (suc n) c w none =
 -- where no event waits, step 7 changes nothing
 pub none_out : (x : Machine) (wait : Bool) → ((pools : EventPools) → kept.StandsFor x.pools pools → wait ≡ some_wait pools)
     → wait ≡ false → Makes hands_out x x
-none_out x wait told none = made hands_out x x (λ older pools runs streams links kept_pools kept_runs kept_streams kept_links.
+none_out x wait told none = made hands_out x x (λ older pools runs streams links calls kept_pools kept_runs kept_streams kept_links kept_calls.
     subst (λ (v : World). Shows x older v)
-    (sym (none_from (length x.children.all - 0) 0 (shown x older pools runs streams links) (sym (told pools kept_pools) ∙ none)))
-    (record { pools = pools; runs = runs; is = refl; pools_kept = kept_pools; runs_kept = kept_runs; streams = streams; streams_kept = kept_streams; links = links; links_kept = kept_links }))
+    (sym (none_from (length x.children.all - 0) 0 (shown x older pools runs streams links calls) (sym (told pools kept_pools) ∙ none)))
+    (record { pools = pools; runs = runs; is = refl; pools_kept = kept_pools; runs_kept = kept_runs; streams = streams; streams_kept = kept_streams; links = links; links_kept = kept_links; calls = calls; calls_kept = kept_calls }))

@@ -72,15 +72,30 @@ ordered server (Handed run place) ps = hand_orders server run place ps
 ordered server (Acknowledged place) ps = []
 ordered server (Rejected place) ps = rejection_reports place ps
 
--- one after the other
-abbrev pub all_happened : List Happening → EventPools → EventPools
-all_happened [] ps = ps
-all_happened (h ∷ hs) ps = all_happened hs (happened h ps)
+-- an entry of the account: something happened to the pools, or bytes of a client are written to a run
+pub data Entry : Type 0 where
+  Happens : Happening → Entry
+  Writes : (run : Run) (bytes : List ℕ) → Entry
 
--- the orders of all that happened
-abbrev pub all_ordered : List ℕ → List Happening → EventPools → List Order
+-- the pools after it
+abbrev pub entered : Entry → EventPools → EventPools
+entered (Happens h) ps = happened h ps
+entered (Writes run bytes) ps = ps
+
+-- what it orders
+abbrev pub entry_ordered : List ℕ → Entry → EventPools → List Order
+entry_ordered server (Happens h) ps = ordered server h ps
+entry_ordered server (Writes run bytes) ps = order.Stdin run bytes ∷ []
+
+-- one after the other
+abbrev pub all_entered : List Entry → EventPools → EventPools
+all_entered [] ps = ps
+all_entered (e ∷ es) ps = all_entered es (entered e ps)
+
+-- the orders of all of them
+abbrev pub all_ordered : List ℕ → List Entry → EventPools → List Order
 all_ordered server [] ps = []
-all_ordered server (h ∷ hs) ps = ordered server h ps ++ all_ordered server hs (happened h ps)
+all_ordered server (e ∷ es) ps = entry_ordered server e ps ++ all_ordered server es (entered e ps)
 
 -- an order that writes an event or reports one that was dropped
 abbrev pub is_of_pools : Order → Bool
@@ -88,9 +103,9 @@ is_of_pools (order.Stdin run bytes) = true
 is_of_pools (order.Dropped group serial poolserial) = true
 is_of_pools other = false
 
--- the pools are what became of the opened ones, and what happened to them ordered, in order, all
--- that is written to a run or reported as dropped
+-- the pools are what became of the opened ones; and what happened to them, and clients wrote, is in order all that is written to
+-- a run or reported as dropped
 pub record PoolsHaveAHistory (config : Config) (m : Model) (given : List Order) : Type 0 where
-  pub all : List Happening
-  pub pools : (now m).pools ≡ all_happened all (opening config.groups)
+  pub all : List Entry
+  pub pools : (now m).pools ≡ all_entered all (opening config.groups)
   pub orders : filter is_of_pools given ≡ all_ordered config.identifier all (opening config.groups)

@@ -9,7 +9,7 @@ use Rattle.sv_core.specs.declared.part.Followed.TheVariants as followed
 use Rattle.sv_core.specs.declared.part.Question.{Question}
 use Rattle.sv_core.specs.declared.part.Question.TheVariants as question
 use Rattle.sv_core.specs.declared.part.Reply.{Reply}
-use Rattle.sv_core.specs.declared.part.Reply.TheVariants.{Refused, Unread}
+use Rattle.sv_core.specs.declared.part.Reply.TheVariants as reply_is
 use Rattle.sv_links.specs.LinkBook.{ended}
 use Rattle.sv_links.specs.LinkBook.Ending.{Failed as Lost}
 use Rattle.sv_out.specs.declared.order.Order.{Order}
@@ -44,13 +44,14 @@ can_fail other = false
 
 -- the answer of a question whose order couldn't be carried out
 abbrev pub refusal : Question → Reply
-refusal question.Spawn = Refused (codes "failed")
-refusal (question.Read most) = Unread
+refusal question.Spawn = reply_is.Refused (codes "failed")
+refusal (question.Read most) = reply_is.Failed
+refusal question.Clear = reply_is.Failed
 
 -- the refusal of the question that stands, if one stands
 abbrev pub refusal_of : Option Question → Reply
-refusal_of (Some (question.Read most)) = Unread
-refusal_of asked = Refused (codes "failed")
+refusal_of None = reply_is.Refused (codes "failed")
+refusal_of (Some asked) = refusal asked
 
 -- what the failure of an order that asks nothing changes
 abbrev pub failed : Failure → World → World

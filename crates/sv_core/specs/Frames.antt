@@ -56,6 +56,14 @@ abbrev pub ServesLinks : Machine → Machine → Type 0
 ServesLinks old new =
     new ≡ record old { links = new.links; hand = record old.hand { given = new.hand.given } }
 
+-- calls of links are answered
+abbrev pub AnswersCalls : Machine → Machine → Type 0
+AnswersCalls old new = new ≡ record old {
+  links = new.links;
+  calls = new.calls;
+  hand = record old.hand { given = new.hand.given };
+}
+
 -- the links are closed, and the daemon's course ends
 abbrev pub EndsCourse : Machine → Machine → Type 0
 EndsCourse old new = new ≡ record old {
@@ -84,6 +92,7 @@ MovesOn old new = new ≡ record old {
   runs = new.runs;
   streams = new.streams;
   links = new.links;
+  calls = new.calls;
   numbers = record old.numbers { next_run = new.numbers.next_run };
   hand = record old.hand { given = new.hand.given };
 }
@@ -99,6 +108,7 @@ GoesOn old new = new ≡ record old {
   runs = new.runs;
   streams = new.streams;
   links = new.links;
+  calls = new.calls;
   numbers = record old.numbers { next_run = new.numbers.next_run };
   hand = new.hand;
 }

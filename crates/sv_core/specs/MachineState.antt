@@ -7,10 +7,11 @@ use Rattle.sv_base.specs.declared.config.ServerSpec.{ServerSpec}
 use Rattle.sv_base.specs.declared.ids.LinkId.{LinkId}
 use Rattle.sv_base.specs.declared.ids.Run.{Run}
 use Rattle.sv_base.specs.declared.state.Mood.TheVariants as mood_is
+use Rattle.sv_calls.specs.CallBook.{no_calls}
 use Rattle.sv_children.specs.Crew.{new_crew}
 use Rattle.sv_core.specs.Failure.{behind, can_fail, failure_of, failures_told}
 use Rattle.sv_core.specs.Parts.{fits, part_of}
-use Rattle.sv_core.specs.Serving.{server_of}
+use Rattle.sv_core.specs.Openings.{server_of}
 use Rattle.sv_core.specs.Sweeps.{Turn}
 use Rattle.sv_core.specs.Sweeps.Turn.{Done}
 use Rattle.sv_core.specs.Turn.{turn, came, world_of, asked_of}
@@ -84,6 +85,7 @@ opening config sizes host = resting (record {
   runs = all_runs.opening (length (processes config.groups));
   streams = [];
   links = [];
+  calls = no_calls;
   given = [];
 })
 

@@ -1,5 +1,5 @@
 -- What an input is to the machine: it begins a turn, it answers a question, or it says that an order failed.
-use Rattle.std.specs.Prelude.{Bool, true, false, Option, Some, None, length, nat_le}
+use Rattle.std.specs.Prelude.{Bool, true, false, Option, Some, length, nat_le}
 use Rattle.sv_core.specs.declared.part.Cause.TheVariants as cause
 use Rattle.sv_core.specs.declared.part.Part.{Part}
 use Rattle.sv_core.specs.declared.part.Part.TheVariants.{Begins, Answers, Fails}
@@ -31,8 +31,8 @@ part_of Done = Answers reply.Done
 part_of Missing = Answers reply.Missing
 part_of (Failed number) = Fails number
 
--- an answer fits the question that stands: these four fit a spawn; and no more bytes than were asked for, or that there is no
--- such file, a read
+-- an answer fits the question that stands: these four fit a spawn; no more bytes than were asked for, or that there is no such
+-- file, a read; and that it is empty now, or that there is no such file, the clear of a file
 abbrev pub fits : Option Question → Reply → Bool
 fits (Some question.Spawn) (reply.Started pid) = true
 fits (Some question.Spawn) reply.NoFile = true
@@ -40,6 +40,8 @@ fits (Some question.Spawn) reply.NotExecutable = true
 fits (Some question.Spawn) (reply.Refused text) = true
 fits (Some (question.Read most)) (reply.Read bytes) = nat_le (length bytes) most
 fits (Some (question.Read most)) reply.Missing = true
+fits (Some question.Clear) reply.Done = true
+fits (Some question.Clear) reply.Missing = true
 fits asked reply = false
 
 -- an input answers the question that stands, if one stands

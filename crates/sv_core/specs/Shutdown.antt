@@ -1,6 +1,6 @@
 -- The end of the daemon (the manual's chapter on running supervisord, its signals): a signal begins it, the groups are
 -- stopped one after the other, and when all are at rest the daemon halts.
-use Rattle.std.specs.Prelude.{ℕ, zero, suc, [], ◌∷◌, ◌++◌, Bool, true, false, ◌||◌, ◌&&◌, if◌then◌else◌}
+use Rattle.std.specs.Prelude.{ℕ, zero, suc, [], ◌∷◌, ◌++◌, Bool, true, false, ◌||◌, if◌then◌else◌}
 use Rattle.sv_base.specs.declared.kind.Kind.TheVariants.{SupervisorStateChangeStopping}
 use Rattle.sv_base.specs.declared.signal.Signal.{Signal}
 use Rattle.sv_base.specs.declared.signal.Signal.TheVariants.{Term, Int, Quit}
@@ -9,7 +9,7 @@ use Rattle.sv_base.specs.declared.state.Mood.TheVariants as mood_is
 use Rattle.sv_child.specs.Moves.{is_running}
 use Rattle.sv_children.specs.Spans.{are_at_rest}
 use Rattle.sv_core.specs.Events.{offers_change}
-use Rattle.sv_core.specs.Serving.{closes_links}
+use Rattle.sv_core.specs.Openings.{closes_links}
 use Rattle.sv_core.specs.Stops.{stops_all}
 use Rattle.sv_core.specs.World.{World}
 use Rattle.sv_groups.specs.StartOrder.{span_of}
@@ -26,11 +26,15 @@ is_ending signal = false
 abbrev pub in_mood : Mood → World → World
 in_mood mood w = record w { course = record w.course { mood = mood } }
 
--- the first such signal begins the shutdown, and the daemon says that it is about to stop
-abbrev pub heeds : Signal → World → World
-heeds signal w =
-    if is_ending signal && is_running w.course.mood
+-- the shutdown begins, unless it has: the daemon says that it is about to stop
+abbrev pub begins_shutdown : World → World
+begins_shutdown w =
+    if is_running w.course.mood
     then offers_change SupervisorStateChangeStopping (in_mood mood_is.Shutdown w) else w
+
+-- such a signal begins the shutdown
+abbrev pub heeds : Signal → World → World
+heeds signal w = if is_ending signal then begins_shutdown w else w
 
 -- no child of the group at this place has a process or gets one by itself
 abbrev pub has_come_to_rest : ℕ → World → Bool

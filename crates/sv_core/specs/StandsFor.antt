@@ -1,13 +1,13 @@
 -- What the machine keeps, and which state of the model it stands for.
 use Rattle.std.specs.Prelude.{◌≡◌, ◌≤◌, ℕ, List, [], ◌++◌, Option, Some, None, Bool, true, false, not, ◌&&◌, if◌then◌else◌, nat_lt, length, drop, map, slice_get, ◌-◌, ◌+◌, ◌^◌, ◌%◌}
 use Rattle.std.specs.List.{list_all}
-use Rattle.sv_answers.specs.declared.served.Reading.{Reading}
-use Rattle.sv_base.specs.declared.ids.LinkId.{LinkId}
+use Rattle.sv_calls.specs.CallBook.{CallBook}
+use Rattle.sv_calls.specs.StandsFor as kept_calls
 use Rattle.sv_children.specs.declared.news.News.{News}
 use Rattle.sv_core.specs.Failure.{behind, can_fail, failure_of, failures_told}
 use Rattle.sv_core.specs.MachineState.{LinkTests, Model, hand, is_accepted, may_begin}
 use Rattle.sv_core.specs.Parts.{part_of}
-use Rattle.sv_core.specs.Serving.{awaits_read, gives_more, serves_all, serves_asks}
+use Rattle.sv_core.specs.Left.{question_called, serving}
 use Rattle.sv_core.specs.Sweeps.{Turn, asks, sweeps}
 use Rattle.sv_core.specs.Sweeps.Turn.{Done}
 use Rattle.sv_core.specs.Turn.{turn, come, came, world_of, after_links, after_pass, after_stimulus}
@@ -23,11 +23,9 @@ use Rattle.sv_core.specs.declared.part.Question.TheVariants as question
 use Rattle.sv_core.specs.declared.part.Cause.{Cause}
 use Rattle.sv_core.specs.declared.part.Cause.TheVariants as cause_is
 use Rattle.sv_core.specs.declared.place.Asked.{Asked}
-use Rattle.sv_core.specs.declared.place.Asking.{Asking}
 use Rattle.sv_core.specs.declared.place.Paused.{Paused}
 use Rattle.sv_core.specs.declared.place.Place.{Place}
 use Rattle.sv_core.specs.declared.place.Place.TheVariants.{Stimulus, Pass, Links as InLinks}
-use Rattle.sv_core.specs.declared.place.Serving.{Serving}
 use Rattle.sv_core.specs.declared.place.Stop.{Stop}
 use Rattle.sv_links.specs.LinkBook.{LinkRecord}
 use Rattle.sv_links.specs.StandsFor as kept_links
@@ -42,9 +40,9 @@ use Rattle.sv_runs.specs.StandsFor as kept_runs
 use Rattle.sv_streams.specs.StandsFor as kept_streams
 use Rattle.sv_streams.specs.StreamBook.{StreamRecord}
 
--- the world that the machine's fields show, after these older orders and with these pools, runs, output and links
-abbrev pub shown : Machine → List Order → EventPools → RunBook → List StreamRecord → List LinkRecord → World
-shown x older pools runs streams links = record {
+-- the world that the machine's fields show, after these older orders and with these pools, runs, output, links and calls
+abbrev pub shown : Machine → List Order → EventPools → RunBook → List StreamRecord → List LinkRecord → CallBook → World
+shown x older pools runs streams links calls = record {
   config = x.config;
   pid = x.pid;
   children = x.children;
@@ -57,22 +55,25 @@ shown x older pools runs streams links = record {
   runs = runs;
   streams = streams;
   links = links;
+  calls = calls;
   given = older ++ x.hand.given.items;
 }
 
 -- the machine shows this world, after these older orders: of its pools it keeps the events that wait or are held, of its
--- runs those that aren't over, of what these wrote what isn't decided, and of its links those that are open or have a request
--- in hand
+-- runs those that aren't over, of what these wrote what isn't decided, of its links those that are open or have a request in
+-- hand, and the calls in hand
 pub record Shows (x : Machine) (older : List Order) (w : World) : Type 0 where
   pub pools : EventPools
   pub runs : RunBook
   pub streams : List StreamRecord
   pub links : List LinkRecord
-  pub is : w ≡ shown x older pools runs streams links
+  pub calls : CallBook
+  pub is : w ≡ shown x older pools runs streams links calls
   pub pools_kept : kept_pools.StandsFor x.pools pools
   pub runs_kept : kept_runs.StandsFor x.runs runs
   pub streams_kept : kept_streams.StandsFor x.streams streams
   pub links_kept : kept_links.StandsFor x.links links
+  pub calls_kept : kept_calls.StandsFor x.calls calls
 
 -- a turn goes on from a world that the machine shows
 pub record At (x : Machine) (older : List Order) (t : Turn) (f : World → Turn) : Type 0 where
@@ -96,27 +97,6 @@ unfoldable pub paused : Option Paused → (World → Turn) → World → Turn
 paused None k w = k w
 paused (Some p) k w = swept p.news p.to (Some p.stop) k w
 
--- a request of a link that asked for a read, or that was answered
-unfoldable pub reading : LinkId → Option Reading → (World → Turn) → World → Turn
-reading link None k w = k w
-reading link (Some read) k w = awaits_read link read w k
-
--- what is left of the requests of a link, where one of them asked for a read; or of none
-unfoldable pub asking : LinkId → Option Asking → (World → Turn) → World → Turn
-asking link None k w = k w
-asking link (Some p) k w = awaits_read link p.reading w (λ v. serves_asks p.left link v k)
-
--- the same of a link, which gets More behind them
-unfoldable pub asking_of : LinkId → Option Asking → (World → Turn) → World → Turn
-asking_of link None k w = k w
-asking_of link (Some p) k w = asking link (Some p) (λ v. k (gives_more link v)) w
-
--- what is left of the links, where a request of one asked for a read; or of none
-unfoldable pub serving : Option Serving → (World → Turn) → World → Turn
-serving None k w = k w
-serving (Some p) k w =
-    asking_of p.link (Some p.asking) (λ v. serves_all (drop p.next p.links.items) v k) w
-
 -- what is left of the turn
 unfoldable pub rest : Option Place → World → Turn
 rest None w = Done w
@@ -124,12 +104,12 @@ rest (Some (Stimulus p)) w = paused (Some p) after_stimulus w
 rest (Some (Pass p)) w = paused (Some p) after_pass w
 rest (Some (InLinks p)) w = serving (Some p) after_links w
 
--- the question that stands: a spawn, or the read of a part of a log
+-- the question that stands
 abbrev pub question_of : Option Place → Option Question
 question_of None = None
 question_of (Some (Stimulus p)) = Some question.Spawn
 question_of (Some (Pass p)) = Some question.Spawn
-question_of (Some (InLinks p)) = Some (question.Read p.asking.reading.span.length)
+question_of (Some (InLinks p)) = Some (question_called p.asking.going.calling)
 
 -- the number is above the last one that failed
 abbrev pub is_above : Option ℕ → ℕ → Bool

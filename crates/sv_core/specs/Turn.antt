@@ -10,7 +10,8 @@ use Rattle.sv_core.specs.Failure.{failed, refusal}
 use Rattle.sv_core.specs.HandingOut.{hands_out}
 use Rattle.sv_core.specs.Listening.{exits}
 use Rattle.sv_core.specs.Output.{ends_pipe, hears_on}
-use Rattle.sv_core.specs.Serving.{opens, serves_links}
+use Rattle.sv_core.specs.Openings.{opens}
+use Rattle.sv_core.specs.Serving.{serves_links}
 use Rattle.sv_core.specs.Shutdown.{heeds, follows_plan, halts}
 use Rattle.sv_core.specs.Stops.{stops_all}
 use Rattle.sv_core.specs.Sweeps.{Turn, sweeps_all, sweeps_over}

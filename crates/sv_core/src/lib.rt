@@ -3,6 +3,7 @@
 //! and in the code; it stops at a question, and its answer goes on with it.
 #![tactic(auto)]
 
+mod calling;
 mod course;
 mod events;
 mod failure;
@@ -18,6 +19,7 @@ mod output;
 mod part;
 mod place;
 mod plan;
+mod requesting;
 mod serving;
 mod stimulus;
 mod sweeping;

@@ -14,6 +14,7 @@ use sv_base::config::{Config, Host};
 use sv_base::ids::{LinkId, Run};
 use sv_base::state::{Mood, Side};
 use sv_base::text::Text;
+use sv_calls::Calls;
 use sv_children::Children;
 use sv_events::Ticks;
 use sv_files::KnownSizes;
@@ -49,6 +50,8 @@ pub struct Machine {
     pub(crate) streams: Streams,
     /// The links that are open or have a request in hand.
     pub(crate) links: Links,
+    /// Their calls in hand.
+    pub(crate) calls: Calls,
     /// The known sizes of files, in bytes.
     pub(crate) sizes: KnownSizes,
     /// The turn in hand.
@@ -61,7 +64,7 @@ impl Machine {
     ghost use Rattle.sv_files.specs.Sizes.{rise};
     ghost use Rattle.sv_core.specs.MachineState.{Model, opening, accepts, next, orders, hand, is_issued_run, now};
     ghost use Rattle.sv_core.specs.Parts.{part_of};
-    ghost use Rattle.sv_core.specs.Serving.{server_of};
+    ghost use Rattle.sv_core.specs.Openings.{server_of};
     ghost use Rattle.sv_core.specs.StandsFor.{StandsFor, Takes, Notes, GoesOnWith, asked_by, has_halted, is_broken, is_fitting, is_sound_part};
     ghost use Rattle.sv_core.specs.Turn.{is_asking};
 
@@ -104,6 +107,7 @@ impl Machine {
             runs,
             streams: Streams::new(alloc),
             links: Links::new(alloc),
+            calls: Calls::new(alloc),
             sizes,
             hand: Hand {
                 moment: host.start,

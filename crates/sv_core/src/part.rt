@@ -22,6 +22,8 @@ pub enum Question {
     Spawn,
     /// The bytes of a part of a file, at most so many.
     Read(u64),
+    /// Whether a file was cleared.
+    Clear,
 }
 
 /// The answer of a question.
@@ -39,10 +41,10 @@ pub enum Reply {
     Read(Bytes),
     /// There is no such file.
     Missing,
-    /// The file is empty now. Nothing is cleared yet, so it fits no question.
+    /// The file is empty now.
     Done,
-    /// The file couldn't be read.
-    Unread,
+    /// The file couldn't be read, or cleared.
+    Failed,
 }
 
 /// What a child is told of this answer.
@@ -73,7 +75,7 @@ pub(crate) fn refusal_of(asked: Option<Question>) -> Reply
     ensures { result ≡ refusal_of asked }
 {
     match asked {
-        Some(Question::Read(_)) => Reply::Unread,
+        Some(Question::Read(_)) | Some(Question::Clear) => Reply::Failed,
         Some(Question::Spawn) | None => Reply::Refused(Text::fixed("failed")),
     }
 }
@@ -164,7 +166,8 @@ pub(crate) fn fits(asked: Option<Question>, input: &Input) -> bool
             Input::Pid(_) | Input::NoFile | Input::NotExecutable | Input::Refused(_),
         ) => true,
         (Some(Question::Read(most)), Input::Read(bytes)) => bytes.as_slice().len() as u64 <= most,
-        (Some(Question::Read(_)), Input::Missing) => true,
+        (Some(Question::Read(_)) | Some(Question::Clear), Input::Missing) => true,
+        (Some(Question::Clear), Input::Done) => true,
         _ => false,
     }
 }

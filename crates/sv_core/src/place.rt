@@ -1,10 +1,13 @@
 //! Where a turn was left at a question.
 ghost use Rattle.std.specs.Prelude.{◌≡◌};
+ghost use Rattle.sv_core.specs.Left.{question_called, question_wanted};
 ghost use Rattle.sv_core.specs.StandsFor.{question_of};
 
 use crate::part::Question;
 use sv_answers::Reading;
 use sv_base::ids::{LinkId, Run};
+use sv_base::items::Items;
+use sv_base::text::Text;
 use sv_children::News;
 
 /// A spawn that was asked for: of a child, as this run.
@@ -29,14 +32,54 @@ pub struct Paused {
     pub stop: Stop,
 }
 
-/// Where the requests of a link were left at a read: what was asked for, and how many of them are left after the one that asked.
+/// Where files that are cleared were left at the clear of this one: they go on in place `next`.
 #[derive(Debug, Drop)]
-pub struct Asking {
-    pub reading: Reading,
+pub struct Clearing {
+    pub file: Text,
+    pub files: Items<Text>,
+    pub next: usize,
+}
+
+/// A request of a call that asked a question.
+#[derive(Debug, Drop)]
+pub enum Wanting {
+    /// For the start of a process.
+    Start(Asked),
+    /// For the clear of a file.
+    Clear(Clearing),
+}
+
+/// Where the requests of a call were left at a question, and how many of them are left after the one that asked.
+#[derive(Debug, Drop)]
+pub struct Acting {
+    pub wanting: Wanting,
     pub left: usize,
 }
 
-/// Where the links were left at a read, which a request of this link asked for: they go on with it, and then in place `next`.
+/// A call that asked a question.
+#[derive(Debug, Drop)]
+pub enum Calling {
+    /// For one of its requests.
+    Act(Acting),
+    /// For a part of a log.
+    Read(Reading),
+}
+
+/// Where several calls in one were left at a question, and how many of them are left after the one that asked; of one call none.
+#[derive(Debug, Drop)]
+pub struct Going {
+    pub calling: Calling,
+    pub left: usize,
+}
+
+/// Where the requests of a link were left at a question, and how many of them are left after the one that asked.
+#[derive(Debug, Drop)]
+pub struct Asking {
+    pub going: Going,
+    pub left: usize,
+}
+
+/// Where the links were left at a question of this link: they go on with it, and then in place `next`.
 #[derive(Debug, Drop)]
 pub struct Serving {
     pub links: Vec<LinkId>,
@@ -63,6 +106,26 @@ pub(crate) fn question_of(place: &Option<Place>) -> Option<Question>
     match place {
         None => None,
         Some(Place::Stimulus(_)) | Some(Place::Pass(_)) => Some(Question::Spawn),
-        Some(Place::Links(serving)) => Some(Question::Read(serving.asking.reading.span.length)),
+        Some(Place::Links(serving)) => Some(question_called(&serving.asking.going.calling)),
+    }
+}
+
+/// The question of a call.
+fn question_called(calling: &Calling) -> Question
+    ensures { result ≡ question_called calling.now }
+{
+    match calling {
+        Calling::Act(acting) => question_wanted(&acting.wanting),
+        Calling::Read(reading) => Question::Read(reading.span.length),
+    }
+}
+
+/// The question of a request.
+fn question_wanted(wanting: &Wanting) -> Question
+    ensures { result ≡ question_wanted wanting.now }
+{
+    match wanting {
+        Wanting::Start(_) => Question::Spawn,
+        Wanting::Clear(_) => Question::Clear,
     }
 }

@@ -4,7 +4,7 @@ ghost use Rattle.std.specs.Prelude.{◌≡◌, OnOk};
 ghost use Rattle.sv_base.specs.declared.signal.Signal.{Signal};
 ghost use Rattle.sv_core.specs.Frames.{ChangesCourse, EndsCourse, GivesOrders, Makes, MovesChildren, MovesPlan};
 ghost use Rattle.sv_children.specs.Spans.{are_at_rest};
-ghost use Rattle.sv_core.specs.Shutdown.{is_ending, heeds, tells_group, follows_plan, halts};
+ghost use Rattle.sv_core.specs.Shutdown.{is_ending, begins_shutdown, heeds, tells_group, follows_plan, halts};
 ghost use Rattle.sv_core.specs.Stops.{signals, stops, stops_all};
 ghost use Rattle.sv_groups.specs.StartOrder.{span_of};
 
@@ -40,7 +40,7 @@ impl Machine {
     }
 
     /// Stops the child of one place.
-    fn stop(&mut self, child: usize) -> Result<(), AllocError>
+    pub(crate) fn stop(&mut self, child: usize) -> Result<(), AllocError>
         ensures kept { MovesChildren self.old self.new }
         ensures stops { OnOk result (Makes (stops child) self.old self.new) }
     {
@@ -62,14 +62,25 @@ impl Machine {
         Ok(())
     }
 
-    /// A signal came: the first that ends the daemon begins its shutdown, and the daemon says that it is about to stop.
+    /// The shutdown begins, unless it has: the daemon says that it is about to stop.
+    pub(crate) fn begin_shutdown(&mut self) -> Result<(), AllocError>
+        ensures kept { ChangesCourse self.old self.new }
+        ensures begins { OnOk result (Makes begins_shutdown self.old self.new) }
+    {
+        if self.course.mood == Mood::Running {
+            self.course.mood = Mood::Shutdown;
+            self.offer_change(Kind::SupervisorStateChangeStopping)?;
+        }
+        Ok(())
+    }
+
+    /// A signal came: one that ends the daemon begins its shutdown.
     pub(crate) fn heed(&mut self, signal: &DaemonSignal) -> Result<(), AllocError>
         ensures kept { ChangesCourse self.old self.new }
         ensures heeds { OnOk result (Makes (heeds signal.now) self.old self.new) }
     {
-        if is_ending(signal.get()) && self.course.mood == Mood::Running {
-            self.course.mood = Mood::Shutdown;
-            self.offer_change(Kind::SupervisorStateChangeStopping)?;
+        if is_ending(signal.get()) {
+            self.begin_shutdown()?;
         }
         Ok(())
     }

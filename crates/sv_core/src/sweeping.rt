@@ -33,7 +33,7 @@ fn is_time(news: &News) -> bool
 }
 
 /// The last number of a run.
-const LAST_RUN: u64 = 4_294_967_295;
+pub(crate) const LAST_RUN: u64 = 4_294_967_295;
 
 impl Machine {
     /// Reports the edges that a child took, if it took a step, with their events, and answers what is to be done for it.

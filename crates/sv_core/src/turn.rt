@@ -1,8 +1,7 @@
 //! A turn: its nine steps in order, up to a question, and what followed its input.
-ghost use Rattle.std.specs.Prelude.{◌≡◌, ◌-◌, IsTrue, List, OnOk, Some, drop};
-ghost use Rattle.sv_answers.specs.Served.{reads_back};
+ghost use Rattle.std.specs.Prelude.{◌≡◌, ◌-◌, IsTrue, List, OnOk, Some};
 ghost use Rattle.sv_core.specs.Frames.{GoesOn, Makes};
-ghost use Rattle.sv_core.specs.Serving.{file_reply, replies, serves_all, serves_left};
+ghost use Rattle.sv_core.specs.Left.{serving_answered};
 ghost use Rattle.sv_core.specs.Failure.{refusal_of};
 ghost use Rattle.sv_core.specs.StandsFor.{At, Shows, is_sound, question_of, rest};
 ghost use Rattle.sv_core.specs.Turn.{turn, come, after_links, after_pass, after_stimulus, rewinds, world_of};
@@ -229,19 +228,10 @@ impl Machine {
     fn go_on_in_links(&mut self, left: Serving, reply: Reply) -> Result<(), AllocError>
         ensures kept { GoesOn self.old self.new }
         ensures turn { OnOk result ((older : List Order) (w : World) → Shows self.old older w
-            → let back = reads_back left.asking.reading (file_reply reply) in
-            At self.new older (serves_left left.asking.left left.link (replies left.link back w)
-            (λ v. serves_all (drop left.next left.links.items) v after_links))
+            → At self.new older (serving_answered left reply w after_links)
             (rest self.new.hand.place)) }
     {
-        let Serving {
-            links,
-            next,
-            link,
-            asking,
-        } = left;
-        self.answer_read(link, &asking.reading, reply)?;
-        match self.go_on_serving(links, next, link, asking.left)? {
+        match self.go_on_serving(left, reply)? {
             Some(serving) => {
                 self.hand.place = Some(Place::Links(serving));
                 Ok(())

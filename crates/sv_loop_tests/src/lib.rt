@@ -3,6 +3,14 @@
 #![tactic(auto)]
 
 #[cfg(test)]
+mod act_tests;
+#[cfg(test)]
+mod clear_tests;
+#[cfg(test)]
+mod closing_tests;
+#[cfg(test)]
+mod group_tests;
+#[cfg(test)]
 mod link_tests;
 #[cfg(test)]
 mod listener_tests;
@@ -15,6 +23,18 @@ mod main_log_tests;
 #[cfg(test)]
 mod order_tests;
 #[cfg(test)]
+mod scripts;
+#[cfg(test)]
+mod several_tests;
+#[cfg(test)]
 mod shutdown_tests;
 #[cfg(test)]
+mod signal_tests;
+#[cfg(test)]
+mod start_tests;
+#[cfg(test)]
 mod tests;
+#[cfg(test)]
+mod turn_tests;
+#[cfg(test)]
+mod wait_tests;

@@ -386,10 +386,10 @@ const FAILURES: [Case; 8] = [
         written: "more 1\nsend 1 HTTP/1.1%20200%20OK%0D%0AContent-Type:%20text/xml%0D%0AContent-Length:%20262%0D%0A%0D%0A<?xml%20version='1.0'?><methodResponse><params><param><value><struct><member><name>statecode</name><value><int>1</int></value></member><member><name>statename</name><value><string>RUNNING</string></value></member></struct></value></param></params></methodResponse>\nmore 1\nclose 1\nhalt\n",
     },
     Case {
-        name: "what_does_something_is_unknown_yet",
+        name: "a_shutdown_and_no_calls_in_one",
         journal: "supervisor-journal 1\nhost h\nhere /\npid 1\nconf [supervisord]%0Alogfile=NONE%0A[inet_http_server]%0Aport=9001%0A[rpcinterface:supervisor]%0A\ngo 0\n0 open 1 inet\n0 piece 1 POST%20/RPC2%20HTTP/1.1%0D%0AHost:%20x%0D%0AContent-Length:%2069%0D%0A%0D%0A<methodCall><methodName>supervisor.shutdown</methodName></methodCall>POST%20/RPC2%20HTTP/1.1%0D%0AHost:%20x%0D%0AContent-Length:%20141%0D%0A%0D%0A<methodCall><methodName>system.multicall</methodName><params><param><value><array><data></data></array></value></param></params></methodCall>\n",
         status: 0,
-        written: "more 1\nsend 1 HTTP/1.1%20200%20OK%0D%0AContent-Type:%20text/xml%0D%0AContent-Length:%20254%0D%0A%0D%0A<?xml%20version='1.0'?><methodResponse><fault><value><struct><member><name>faultCode</name><value><int>1</int></value></member><member><name>faultString</name><value><string>UNKNOWN_METHOD</string></value></member></struct></value></fault></methodResponse>\nsend 1 HTTP/1.1%20200%20OK%0D%0AContent-Type:%20text/xml%0D%0AContent-Length:%20254%0D%0A%0D%0A<?xml%20version='1.0'?><methodResponse><fault><value><struct><member><name>faultCode</name><value><int>1</int></value></member><member><name>faultString</name><value><string>UNKNOWN_METHOD</string></value></member></struct></value></fault></methodResponse>\nmore 1\n",
+        written: "more 1\nsend 1 HTTP/1.1%20200%20OK%0D%0AContent-Type:%20text/xml%0D%0AContent-Length:%20121%0D%0A%0D%0A<?xml%20version='1.0'?><methodResponse><params><param><value><boolean>1</boolean></value></param></params></methodResponse>\nsend 1 HTTP/1.1%20200%20OK%0D%0AContent-Type:%20text/xml%0D%0AContent-Length:%20129%0D%0A%0D%0A<?xml%20version='1.0'?><methodResponse><params><param><value><array><data></data></array></value></param></params></methodResponse>\nmore 1\nclose 1\nhalt\n",
     },
 ];
 

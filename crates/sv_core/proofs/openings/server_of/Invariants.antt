@@ -1,5 +1,5 @@
 use Rattle.std.proofs.Common.{◌≡◌, length}
-use Rattle.sv_core.specs.Serving.{server_of}
+use Rattle.sv_core.specs.Openings.{server_of}
 use Rattle.sv_core.proofs.openings.server_of.Given as goal
 
 abbrev pub invariant-loop-left : goal.invariant-loop-left

@@ -1,7 +1,7 @@
 use Rattle.std.proofs.Common.{arith, rules, refl, ◌∙◌}
 use Rattle.sv_core.proofs.Served.{closes_next}
 use Rattle.sv_core.proofs.Shown.{links_there, order_there}
-use Rattle.sv_core.specs.Serving.{gives}
+use Rattle.sv_core.specs.World.{gives}
 use Rattle.sv_core.specs.declared.machine.Machine.{Machine}
 use Rattle.sv_links.specs.LinkBook.{ended}
 use Rattle.sv_links.specs.LinkBook.Ending.{Closed}

@@ -1,7 +1,7 @@
 use Rattle.std.proofs.Common.{List, drop}
 use Rattle.sv_core.proofs.Stopped.{Reaches}
 use Rattle.sv_core.specs.Frames.{ServesLinks}
-use Rattle.sv_core.specs.Serving.{closes_all}
+use Rattle.sv_core.specs.Openings.{closes_all}
 use Rattle.sv_core.specs.StandsFor.{Shows}
 use Rattle.sv_core.specs.World.{World}
 use Rattle.sv_out.specs.declared.order.Order.{Order}

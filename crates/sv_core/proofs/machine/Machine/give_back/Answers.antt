@@ -10,10 +10,10 @@ use Rattle.sv_pools.specs.StandsFor as kept_pools
 use Rattle.sv_core.proofs.machine.Machine.give_back.Goals as goal
 
 pub returns-clause-gives : goal.returns-clause-gives
-returns-clause-gives c = made (gives_back c.args.child) c.args.self.now c.tell_drops.new.self (λ older pools runs streams links kept alive written bound.
+returns-clause-gives c = made (gives_back c.args.child) c.args.self.now c.tell_drops.new.self (λ older pools runs streams links calls kept alive written bound called.
     let id = id_of c.args.child in
     let told = rejection_reports id pools in
-    let after : World = record (shown c.args.self.now older pools runs streams links) { pools = rejects id pools } in
+    let after : World = record (shown c.args.self.now older pools runs streams links calls) { pools = rejects id pools } in
     let reports : c.reject.new.given.items ≡ told =
     c.in_ok-reject.ensures.given pools kept
     ∙ ap (λ (i : ℕ). c.new-reports.result.items ++ rejection_reports i pools) c.id_of.ensures
@@ -30,4 +30,6 @@ returns-clause-gives c = made (gives_back c.args.child) c.args.self.now c.tell_d
       streams_kept = written;
       links = links;
       links_kept = bound;
+      calls = calls;
+      calls_kept = called;
     })))

@@ -5,10 +5,10 @@ use Rattle.sv_core.proofs.machine.Machine.go_on_in_links.Goals as goal
 pub returns-in-Some-clause-turn : goal.returns-in-Some-clause-turn
 returns-in-Some-clause-turn c = λ older w s.
     left_in_links c.go_on_serving.new.self older _ c.in_ok-serving.field-0 c.in-Some.serving c.in-Some.is
-    (c.in_ok-serving.ensures.serves older _ after_links (c.in_ok-answer_read.ensures.answered older w s))
+    (c.in_ok-serving.ensures.goes older w after_links s)
 
-pub returns-clause-turn : goal.returns-clause-turn
-returns-clause-turn c = λ older w s.
-    let at = c.in_ok-serving.ensures.serves older _ after_links (c.in_ok-answer_read.ensures.answered older w s) in
+pub returns-in_ok-after_links-in-None-clause-turn : goal.returns-in_ok-after_links-in-None-clause-turn
+returns-in_ok-after_links-in-None-clause-turn c = λ older w s.
+    let at = c.in_ok-serving.ensures.goes older w after_links s in
     gone_on_links c.go_on_serving.new.self c.after_links.new.self older _ c.in_ok-serving.field-0 after_links _ c.in-None.is at
     (c.in_ok-after_links-in-None.ensures.rest older at.world at.shows)

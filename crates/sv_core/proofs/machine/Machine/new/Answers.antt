@@ -1,6 +1,7 @@
 use Rattle.std.proofs.Common.{◌≡◌, ℕ, [], arith, length, List, refl, subst, ap, ◌∙◌}
 use Rattle.std.proofs.lemmas.List.{length-replicate}
 use Rattle.sv_base.specs.declared.spec.GroupSpec.{GroupSpec}
+use Rattle.sv_calls.specs.CallBook.{no_calls}
 use Rattle.sv_child.specs.Moves.{new_child}
 use Rattle.sv_children.specs.Crew.{Crew}
 use Rattle.sv_core.specs.MachineState.{opening}
@@ -25,20 +26,22 @@ returns c =
     c.len.ensures ∙ ap (λ (crew : Crew). length crew.all) c.in_ok-children.ensures ∙ length-replicate (length (processes groups)) new_child in
     record {
       whole = refl;
-      idle = c.new-9.ensures.items;
+      idle = c.new-10.ensures.items;
       older = [];
       hand_at = record {
         world = (opening c.args.config c.args.sizes.items c.args.host.now).base;
         shows = record {
           pools = all_pools.opening groups;
           runs = all_runs.opening (length (processes groups));
-          is = rw (c.in_ok-children.ensures, size, c.in_ok-sizes.ensures, c.new-6.ensures, c.new-9.ensures.items) refl;
+          is = rw (c.in_ok-children.ensures, size, c.in_ok-sizes.ensures, c.new-6.ensures, c.new-10.ensures.items) refl;
           pools_kept = subst (λ (gs : List GroupSpec). kept_pools.StandsFor c.in_ok-pools.pools (all_pools.opening gs)) roster c.in_ok-pools.ensures;
           runs_kept = subst (λ (n : ℕ). kept_runs.StandsFor c.in_ok-runs.runs (all_runs.opening n)) count c.in_ok-runs.ensures;
           streams = [];
           streams_kept = c.new-7.ensures;
           links = [];
           links_kept = c.new-8.ensures;
+          calls = no_calls;
+          calls_kept = c.new-9.ensures;
         };
         is = refl;
       };

@@ -9,9 +9,9 @@ use Rattle.sv_pools.specs.Offers.{offer_reports, offered}
 use Rattle.sv_core.proofs.machine.Machine.offer.Goals as goal
 
 pub returns-clause-offers : goal.returns-clause-offers
-returns-clause-offers c = made (offers c.args.kind c.args.fact.now) c.args.self.now c.tell_drops.new.self (λ older pools runs streams links kept alive written bound.
+returns-clause-offers c = made (offers c.args.kind c.args.fact.now) c.args.self.now c.tell_drops.new.self (λ older pools runs streams links calls kept alive written bound called.
     let told = offer_reports c.args.kind c.args.fact.now pools in
-    let after : World = record (shown c.args.self.now older pools runs streams links) { pools = offered c.args.kind c.args.fact.now pools } in
+    let after : World = record (shown c.args.self.now older pools runs streams links calls) { pools = offered c.args.kind c.args.fact.now pools } in
     let reports : c.offer.new.given.items ≡ told =
     c.in_ok-offer.ensures.given pools kept ∙ ap (λ (first : List Order). first ++ told) c.new-reports.ensures.items in
     subst (λ (all : List Order). Shows c.tell_drops.new.self older (tells_drops all after)) reports
@@ -26,4 +26,6 @@ returns-clause-offers c = made (offers c.args.kind c.args.fact.now) c.args.self.
       streams_kept = written;
       links = links;
       links_kept = bound;
+      calls = calls;
+      calls_kept = called;
     })))

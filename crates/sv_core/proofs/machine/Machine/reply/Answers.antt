@@ -1,11 +1,9 @@
-use Rattle.std.proofs.Common.{◌≡◌, true, false, List, ap, refl, sym, ◌∙◌}
+use Rattle.std.proofs.Common.{◌≡◌, true, false, ap, refl, sym, ◌∙◌}
 use Rattle.sv_core.proofs.Served.{behind_there, nothing_behind}
 use Rattle.sv_core.proofs.Shown.{links_there, order_there}
-use Rattle.sv_core.specs.Serving.{gives}
-use Rattle.sv_core.specs.StandsFor.{Shows}
-use Rattle.sv_core.specs.World.{World}
+use Rattle.sv_core.specs.World.{World, gives}
 use Rattle.sv_core.specs.declared.machine.Machine.{Machine}
-use Rattle.sv_links.specs.LinkBook.{LinkRecord, answered, is_sent}
+use Rattle.sv_links.specs.LinkBook.{answered, is_sent}
 use Rattle.sv_out.specs.declared.order.Order.TheVariants as order
 use Rattle.sv_core.proofs.machine.Machine.reply.Goals as goal
 

@@ -9,8 +9,8 @@ use Rattle.sv_runs.specs.RunBook.{sent}
 use Rattle.sv_core.proofs.machine.Machine.send_to.Goals as goal
 
 pub returns-then-is_sent-clause-sends : goal.returns-then-is_sent-clause-sends
-returns-then-is_sent-clause-sends c = made (sends_to c.args.run c.args.child) c.args.self.now _ (λ older pools runs streams links kept alive written bound.
-    let w = shown c.args.self.now older pools runs streams links in
+returns-then-is_sent-clause-sends c = made (sends_to c.args.run c.args.child) c.args.self.now _ (λ older pools runs streams links calls kept alive written bound called.
+    let w = shown c.args.self.now older pools runs streams links calls in
     let run = c.in-Some.run' in
     let id = c.id_of.ensures in
     let handing = c.in_ok-is_sent-in-Some.ensures in
@@ -30,11 +30,13 @@ returns-then-is_sent-clause-sends c = made (sends_to c.args.run c.args.child) c.
       streams_kept = written;
       links = links;
       links_kept = bound;
+      calls = calls;
+      calls_kept = called;
     })))
 
 pub returns-else-is_sent-clause-sends : goal.returns-else-is_sent-clause-sends
-returns-else-is_sent-clause-sends c = made (sends_to c.args.run c.args.child) c.args.self.now _ (λ older pools runs streams links kept alive written bound.
-    let w = shown c.args.self.now older pools runs streams links in
+returns-else-is_sent-clause-sends c = made (sends_to c.args.run c.args.child) c.args.self.now _ (λ older pools runs streams links calls kept alive written bound called.
+    let w = shown c.args.self.now older pools runs streams links calls in
     let run = c.in-Some.run' in
     let id = c.id_of.ensures in
     let handing = c.in_ok-is_sent-in-Some.ensures in
@@ -54,4 +56,6 @@ returns-else-is_sent-clause-sends c = made (sends_to c.args.run c.args.child) c.
       streams_kept = written;
       links = links;
       links_kept = bound;
+      calls = calls;
+      calls_kept = called;
     })))

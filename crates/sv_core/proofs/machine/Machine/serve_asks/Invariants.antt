@@ -1,5 +1,5 @@
 use Rattle.std.proofs.Common.{List}
-use Rattle.sv_core.specs.Frames.{ServesLinks}
+use Rattle.sv_core.specs.Frames.{MovesOn}
 use Rattle.sv_core.specs.Serving.{serves_asks}
 use Rattle.sv_core.specs.StandsFor.{At, Shows}
 use Rattle.sv_core.specs.Sweeps.{Turn}
@@ -9,7 +9,7 @@ use Rattle.sv_core.proofs.machine.Machine.serve_asks.Given as goal
 
 abbrev pub invariant-loop-left : goal.invariant-loop-left
 invariant-loop-left l = record {
-  kept : ServesLinks l.initial.self l.self;
+  kept : MovesOn l.initial.self l.self;
   goes : (older : List Order) (w : World) (k : World → Turn) → Shows l.initial.self older w →
       At l.self older (serves_asks l.count l.link w k) (λ v. serves_asks l.left l.link v k);
 }

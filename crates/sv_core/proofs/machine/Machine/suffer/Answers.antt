@@ -1,4 +1,4 @@
-use Rattle.std.proofs.Common.{List, Option, ℕ, ap, subst, sym, ◌∙◌}
+use Rattle.std.proofs.Common.{Option, ap, subst, sym, ◌∙◌}
 use Rattle.sv_core.proofs.Shown.{at_same, links_there}
 use Rattle.sv_core.proofs.Standing.{link_failed, refused_is, stdin_failed}
 use Rattle.sv_core.specs.Listening.{loses_stdin}

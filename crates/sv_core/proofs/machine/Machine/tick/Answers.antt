@@ -5,10 +5,10 @@ use Rattle.sv_core.specs.StandsFor.{Shows, shown}
 use Rattle.sv_core.proofs.machine.Machine.tick.Goals as goal
 
 pub returns-clause-ticked : goal.returns-clause-ticked
-returns-clause-ticked c = made ticks c.args.self.now c.offer_tick-3.new.self (λ older pools runs streams links kept alive written bound.
+returns-clause-ticked c = made ticks c.args.self.now c.offer_tick-3.new.self (λ older pools runs streams links calls kept alive written bound called.
     let x = c.args.self.now in
-    let w = record (shown x older pools runs streams links) { clock = x.hand.moment } in
-    let shows : Shows (record x { clock = c.at-due.new.self }) older w = record { pools = pools; runs = runs; is = rw c.at-due.ensures.clock refl; pools_kept = kept; runs_kept = alive; streams = streams; streams_kept = written; links = links; links_kept = bound } in
+    let w = record (shown x older pools runs streams links calls) { clock = x.hand.moment } in
+    let shows : Shows (record x { clock = c.at-due.new.self }) older w = record { pools = pools; runs = runs; is = rw c.at-due.ensures.clock refl; pools_kept = kept; runs_kept = alive; streams = streams; streams_kept = written; links = links; links_kept = bound; calls = calls; calls_kept = called } in
     rw c.at-due.ensures.ticks at
     (c.in_ok-offer_tick-3.ensures.offers older _
     (c.in_ok-offer_tick-2.ensures.offers older _

@@ -1,0 +1,2 @@
+pub mod CallBook
+pub mod StandsFor
