@@ -64,9 +64,18 @@ fn one_call_is_answered_at_once(rt: HostRuntime) {
     let end = calls.finish(LINK).ok().expect(&rt, "memory");
     assert!(&rt; end.is_none(), "it isn't answered");
     let answer = calls.answer(alloc, LINK, Answered::Value(Value::Int(1)));
-    is_text(&rt, alloc, answer.ok().expect(&rt, "memory"), true, "<int>1</int>");
+    is_text(
+        &rt,
+        alloc,
+        answer.ok().expect(&rt, "memory"),
+        true,
+        "<int>1</int>",
+    );
     let again = calls.answer(alloc, LINK, Answered::Value(Value::Int(1)));
-    assert!(&rt; again.ok().expect(&rt, "memory").is_none(), "it is done with");
+    assert!(&rt;
+        again.ok().expect(&rt, "memory").is_none(),
+        "it is done with"
+    );
 }
 
 /// The faults of the two rows of what the call waits for.
@@ -89,13 +98,22 @@ fn requests_have_their_rows(rt: HostRuntime) {
     let rows = list(&rt, alloc, rows);
     calls.act(LINK, list(&rt, alloc, requests), waiting(rows));
     let request = calls.take_request(LINK);
-    assert!(&rt; matches!(request, Some(Request::Start(ChildId(7)))), "the start first");
+    assert!(&rt;
+        matches!(request, Some(Request::Start(ChildId(7)))),
+        "the start first"
+    );
     calls.set_back(alloc, LINK, Setback::NoLog);
-    assert!(&rt; faults(&rt, &calls) == (None, None), "a process without a log");
+    assert!(&rt;
+        faults(&rt, &calls) == (None, None),
+        "a process without a log"
+    );
     calls.set_back(alloc, LINK, Setback::NotExecutable);
     assert!(&rt; faults(&rt, &calls) == (Some(21), None), "no program");
     let request = calls.take_request(LINK);
-    assert!(&rt; matches!(request, Some(Request::Clear(_))), "then the clear");
+    assert!(&rt;
+        matches!(request, Some(Request::Clear(_))),
+        "then the clear"
+    );
     calls.set_back(alloc, LINK, Setback::NoLog);
     assert!(&rt; faults(&rt, &calls) == (Some(21), Some(20)), "no main log");
     calls.set_back(alloc, LINK, Setback::NotCleared);
@@ -116,18 +134,31 @@ fn parts_are_answered_in_order(rt: HostRuntime) {
     let begun = calls.begin_several(alloc, LINK, false, parts);
     begun.ok().expect(&rt, "memory");
     assert_eq!(&rt; calls.parts_left(LINK), 2, "two parts");
-    assert!(&rt; matches!(calls.take_part(LINK), Some(Part::Call(_))), "the call first");
+    assert!(&rt;
+        matches!(calls.take_part(LINK), Some(Part::Call(_))),
+        "the call first"
+    );
     let rows = Items::new(alloc);
     calls.act(LINK, Items::new(alloc), waiting(rows));
     assert_eq!(&rt; calls.parts_left(LINK), 0, "it isn't answered");
     assert!(&rt; calls.take_part(LINK).is_none(), "nor begun");
     let added = calls.answer(alloc, LINK, Answered::Value(Value::Int(5)));
-    assert!(&rt; added.ok().expect(&rt, "memory").is_none(), "it is gathered");
-    assert!(&rt; matches!(calls.take_part(LINK), Some(Part::Fault(2, _))), "then the fault");
+    assert!(&rt;
+        added.ok().expect(&rt, "memory").is_none(),
+        "it is gathered"
+    );
+    assert!(&rt;
+        matches!(calls.take_part(LINK), Some(Part::Fault(2, _))),
+        "then the fault"
+    );
     let added = calls.answer(alloc, LINK, Answered::Fault(2, Text::fixed("B")));
-    assert!(&rt; added.ok().expect(&rt, "memory").is_none(), "it is gathered");
+    assert!(&rt;
+        added.ok().expect(&rt, "memory").is_none(),
+        "it is gathered"
+    );
     let end = calls.finish(LINK).ok().expect(&rt, "memory");
     is_text(&rt, alloc, end, false, RESULTS);
 }
 
-const RESULTS: &str = "<array><data><value><array><data><value><int>5</int></value></data></array></value><value><struct><member><name>faultCode</name><value><int>2</int></value></member><member><name>faultString</name><value><string>B</string></value></member></struct></value></data></array>";
+const RESULTS: &str =
+    "<array><data><value><array><data><value><int>5</int></value></data></array></value><value><struct><member><name>faultCode</name><value><int>2</int></value></member><member><name>faultString</name><value><string>B</string></value></member></struct></value></data></array>";
