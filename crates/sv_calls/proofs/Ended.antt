@@ -1,8 +1,8 @@
 -- Calls in hand that are done with, and those that aren't.
-use Rattle.std.proofs.Common.{◌≡◌, ℕ, ◌==◌, Bool, true, false, Option, Some, None, if◌then◌else◌, refl, sym, subst}
+use Rattle.std.proofs.Common.{◌≡◌, ℕ, ◌==◌, Bool, true, false, None, if◌then◌else◌, refl, sym, subst}
 use Rattle.std.proofs.lemmas.Bool.{eqb-true}
 use Rattle.sv_base.specs.declared.ids.LinkId.{LinkId}
-use Rattle.sv_calls.specs.CallBook.{CallBook, CallRecord, call_at, ended, ends, is_over}
+use Rattle.sv_calls.specs.CallBook.{CallBook, call_at, ended, ends, is_over}
 
 -- a call that isn't over stays in hand
 pub others_stay : (link : LinkId) (book : CallBook) (number : ℕ) → is_over (call_at link book) ≡ false → ended link book number ≡ book number

@@ -14,14 +14,6 @@ use sv_xmlcall::{Answered, Call, Value, write_reply};
 
 const LINK: LinkId = LinkId(3);
 
-fn list<T: Drop>(rt: &impl Abort, alloc: Global, items: [T; 2]) -> Items<T> {
-    let mut list = Items::new(alloc);
-    for item in items {
-        list.push(item).ok().expect(rt, "memory");
-    }
-    list
-}
-
 fn row(child: Option<ChildId>, aim: Aim) -> Asked {
     Asked {
         child,
@@ -93,10 +85,11 @@ fn requests_have_their_rows(rt: HostRuntime) {
     let mut calls = Calls::new(alloc);
     calls.begin(LINK, false).ok().expect(&rt, "memory");
     let first = ChildId(7);
-    let requests = [Request::Start(first), Request::Clear(Items::new(alloc))];
-    let rows = [row(Some(first), Aim::Started), row(None, Aim::Cleared)];
-    let rows = list(&rt, alloc, rows);
-    calls.act(LINK, list(&rt, alloc, requests), waiting(rows));
+    let requests = vec![in alloc; Request::Start(first), Request::Clear(Items::new(alloc))];
+    let requests = Items::from_vec(requests.ok().expect(&rt, "memory"));
+    let rows = vec![in alloc; row(Some(first), Aim::Started), row(None, Aim::Cleared)];
+    let rows = Items::from_vec(rows.ok().expect(&rt, "memory"));
+    calls.act(LINK, requests, waiting(rows));
     let request = calls.take_request(LINK);
     assert!(&rt;
         matches!(request, Some(Request::Start(ChildId(7)))),
@@ -129,8 +122,8 @@ fn parts_are_answered_in_order(rt: HostRuntime) {
         method: Text::fixed("a"),
         params: Vec::new(alloc),
     };
-    let parts = [Part::Call(call), Part::Fault(2, Text::fixed("B"))];
-    let parts = list(&rt, alloc, parts).into_vec();
+    let parts = vec![in alloc; Part::Call(call), Part::Fault(2, Text::fixed("B"))];
+    let parts = parts.ok().expect(&rt, "memory");
     let begun = calls.begin_several(alloc, LINK, false, parts);
     begun.ok().expect(&rt, "memory");
     assert_eq!(&rt; calls.parts_left(LINK), 2, "two parts");
