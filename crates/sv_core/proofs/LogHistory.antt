@@ -29,14 +29,15 @@ use Rattle.sv_core.proofs.Told.{AreDrops, is_drop, offer_drops, rejection_drops}
 use Rattle.sv_core.specs.Deeds.{after, deeds}
 use Rattle.sv_core.specs.Events.{offers, offers_if}
 use Rattle.sv_core.specs.Listening.{gives_back, id_of}
-use Rattle.sv_core.specs.LogHistory.{LogDeed, LogsHaveAHistory, all_log_orders, all_sizes, is_of_logs, orders_of_deed, sizes_after}
-use Rattle.sv_core.specs.LogHistory.LogDeed.{Adds, Empties}
+use Rattle.sv_core.specs.LogHistory.{LogsHaveAHistory, is_of_logs}
 use Rattle.sv_core.specs.Logging.{drop_line, logs, logs_if, notes_if, tells_drop, tells_drops}
 use Rattle.sv_core.specs.MachineState.{now, opening}
 use Rattle.sv_core.specs.Moves.{changed, goes_edge, goes_edge_if, goes_edges, moves, reported, says}
 use Rattle.sv_core.specs.World.{World}
 use Rattle.sv_events.specs.declared.fact.Fact.{Fact}
 use Rattle.sv_facts.specs.EdgeFacts.{fact_at, kind_of, pid_at}
+use Rattle.sv_files.specs.LogDeeds.{LogDeed, all_orders, all_sizes, deed_orders, sizes_after}
+use Rattle.sv_files.specs.LogDeeds.LogDeed.{Adds, Empties}
 use Rattle.sv_files.specs.Logging.{log_orders, order_of, orders_if, plan_as}
 use Rattle.sv_files.specs.Sizes.{Sizes, size_in}
 use Rattle.sv_groups.specs.StartOrder.{pairs_of}
@@ -58,18 +59,18 @@ pub record Keeps (w v : World) : Type 0 where
   pub sizes : v.sizes ≡ all_sizes all w.sizes
   pub more : List Order
   pub added : v.given ≡ w.given ++ more
-  pub told : filter is_of_logs more ≡ all_log_orders all w.sizes
+  pub told : filter is_of_logs more ≡ all_orders all w.sizes
 
 logged_on : (one other : List LogDeed) (sizes : Sizes) → all_sizes (one ++ other) sizes ≡ all_sizes other (all_sizes one sizes)
 logged_on [] other sizes = refl
 logged_on (deed ∷ one) other sizes = logged_on one other (sizes_after deed sizes)
 
 orders_on : (one other : List LogDeed) (sizes : Sizes)
-    → all_log_orders (one ++ other) sizes ≡ all_log_orders one sizes ++ all_log_orders other (all_sizes one sizes)
+    → all_orders (one ++ other) sizes ≡ all_orders one sizes ++ all_orders other (all_sizes one sizes)
 orders_on [] other sizes = refl
 orders_on (deed ∷ one) other sizes =
-    ap (λ (rest : List Order). orders_of_deed deed sizes ++ rest) (orders_on one other (sizes_after deed sizes))
-    ∙ sym (append_assoc (orders_of_deed deed sizes) (all_log_orders one (sizes_after deed sizes)) (all_log_orders other (all_sizes one (sizes_after deed sizes))))
+    ap (λ (rest : List Order). deed_orders deed sizes ++ rest) (orders_on one other (sizes_after deed sizes))
+    ∙ sym (append_assoc (deed_orders deed sizes) (all_orders one (sizes_after deed sizes)) (all_orders other (all_sizes one (sizes_after deed sizes))))
 
 -- nothing is logged
 quiet : (w v : World) (more : List Order) → v.sizes ≡ w.sizes → v.given ≡ w.given ++ more → filter is_of_logs more ≡ [] → Keeps w v
@@ -89,8 +90,8 @@ follow u v w a b = record {
   added = b.added ∙ ap (λ (given : List Order). given ++ b.more) a.added ∙ append_assoc u.given a.more b.more;
   told = filter-append is_of_logs a.more b.more
       ∙ ap (λ (orders : List Order). orders ++ filter is_of_logs b.more) a.told
-      ∙ ap (λ (orders : List Order). all_log_orders a.all u.sizes ++ orders) b.told
-      ∙ ap (λ (sizes : Sizes). all_log_orders a.all u.sizes ++ all_log_orders b.all sizes) a.sizes
+      ∙ ap (λ (orders : List Order). all_orders a.all u.sizes ++ orders) b.told
+      ∙ ap (λ (sizes : Sizes). all_orders a.all u.sizes ++ all_orders b.all sizes) a.sizes
       ∙ sym (orders_on a.all b.all u.sizes);
 }
 

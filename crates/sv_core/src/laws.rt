@@ -39,9 +39,9 @@ pub fn each_event_is_accounted_for(config: &Config)
     have_room(config.groups.as_slice());
 }
 
-/// Whatever the machine is told, its orders about files are those of pieces that were logged one after the other, each to its
-/// log, where the first known sizes are those that were told, and 0 for each further log file of the configuration.
-/// `sv_files` says what these orders make of the files.
+/// Whatever the machine is told, its orders about files are those of pieces that were logged, each to its log, and of files that
+/// were cleared for a client or weren't there, one after the other, where the first known sizes are those that were told, and 0
+/// for each further log file of the configuration. `sv_files` says what these make of the files.
 pub fn each_log_has_a_history()
     ensures { (config : Config) (sizes : List (List ℕ × ℕ)) (host : Host) (inputs : List Input) →
         LogsHaveAHistory config sizes (after (opening config sizes host) inputs)

@@ -1,14 +1,17 @@
--- What becomes of the files as pieces are logged one after the other: of a log's file and its backups, what the appends of
--- the pieces that are logged to it make of them.
-use Rattle.std.specs.Prelude.{◌≡◌, ◌≢◌, ℕ, suc, ◌-◌, ◌^◌, ◌<◌, ◌≤◌, List, [], ◌∷◌, Option, Some, None, Bool, false, length, min, if◌then◌else◌}
+-- What becomes of the files as pieces are logged and files cleared one after the other: of a log's file and its backups, what the
+-- appends of the pieces that are logged to it, and its clears, make of them.
+use Rattle.std.specs.Prelude.{◌≡◌, ◌≢◌, ℕ, suc, ◌-◌, ◌^◌, ◌<◌, ◌≤◌, List, [], ◌∷◌, Option, Some, None, Bool, false, length, min, filter}
 use Rattle.std.specs.List.{All}
+use Rattle.std.specs.Option.{option_map}
 use Rattle.std.specs.Str.{bytes_eq}
 use Rattle.sv_base.specs.declared.config.FileOrder.{FileOrder}
 use Rattle.sv_base.specs.declared.config.FileOrder.TheVariants as file
 use Rattle.sv_base.specs.declared.spec.LogSpec.{LogSpec}
-use Rattle.sv_files.specs.Logging.{all_logged, all_orders, plan_as}
+use Rattle.sv_files.specs.LogDeeds.{LogDeed, all_sizes, sizes_after}
+use Rattle.sv_files.specs.LogDeeds.LogDeed.{Adds, Empties}
+use Rattle.sv_files.specs.Logging.{log_orders, plan_as}
 use Rattle.sv_files.specs.Sizes.{Sizes, size_in}
-use Rattle.sv_logs.specs.Rotation.{Files, IsAppended, bytes_of, carried, kept}
+use Rattle.sv_logs.specs.Rotation.{Files, IsAppended, bytes_of, carried, kept, put}
 use Rattle.sv_out.specs.declared.order.Order.{Order}
 use Rattle.sv_out.specs.declared.order.Order.TheVariants.{Append, Shift, Fresh}
 
@@ -34,11 +37,28 @@ abbrev pub is_file : List ℕ → Option (List ℕ) → Bool
 is_file name None = false
 is_file name (Some own) = bytes_eq own name
 
--- of pieces with their logs those that are logged to this file
-abbrev pub logged_to : List ℕ → List (LogSpec × List ℕ) → List (LogSpec × List ℕ)
-logged_to name [] = []
-logged_to name ((log, piece) ∷ pieces) =
-    if is_file name log.file then (log, piece) ∷ logged_to name pieces else logged_to name pieces
+-- a file was made empty; one that isn't there stays missing
+abbrev pub emptied : List ℕ → Files → Files
+emptied name files = put name (option_map (λ bytes. []) (files name)) files
+
+-- the files after a deed was carried out
+abbrev pub deed_done : LogDeed → Sizes → Files → Files
+deed_done (Adds log piece) sizes files = done (log_orders log piece sizes) files
+deed_done (Empties name) sizes files = emptied name files
+
+-- and after all of these, one after the other
+abbrev pub all_done : List LogDeed → Sizes → Files → Files
+all_done [] sizes files = files
+all_done (deed ∷ deeds) sizes files = all_done deeds (sizes_after deed sizes) (deed_done deed sizes files)
+
+-- this deed is of the file of this name
+abbrev pub is_of_file : List ℕ → LogDeed → Bool
+is_of_file name (Adds log piece) = is_file name log.file
+is_of_file name (Empties own) = bytes_eq own name
+
+-- of these deeds those of the file of this name
+abbrev pub deeds_of : List ℕ → List LogDeed → List LogDeed
+deeds_of name deeds = filter (is_of_file name) deeds
 
 -- the piece was appended to this file of the log, and what followed holds of the files behind it
 pub record IsFollowed (name : List ℕ) (log : LogSpec) (piece : List ℕ) (before : Files) (follows : Files → Type 0) : Type 0 where
@@ -46,11 +66,13 @@ pub record IsFollowed (name : List ℕ) (log : LogSpec) (piece : List ℕ) (befo
   pub appended : IsAppended (plan_as name (length (bytes_of before name)) log) piece before between
   pub rest : follows between
 
--- the pieces were appended to this file one after the other, each as its log has it
-abbrev pub AreAppended : List ℕ → List (LogSpec × List ℕ) → Files → Files → Type 0
-AreAppended name [] before after = (other : List ℕ) → after other ≡ before other
-AreAppended name ((log, piece) ∷ pieces) before after =
-    IsFollowed name log piece before (λ between. AreAppended name pieces between after)
+-- these are the files after the deeds of this file, one after the other: pieces were appended to it, each as its log has it, and
+-- it was made empty
+abbrev pub AreCarriedOut : List ℕ → List LogDeed → Files → Files → Type 0
+AreCarriedOut name [] before after = (other : List ℕ) → after other ≡ before other
+AreCarriedOut name (Adds log piece ∷ deeds) before after =
+    IsFollowed name log piece before (λ between. AreCarriedOut name deeds between after)
+AreCarriedOut name (Empties own ∷ deeds) before after = AreCarriedOut name deeds (emptied name before) after
 
 -- the known size of a file is its size; it stops at the greatest number
 abbrev pub IsSize : List ℕ → Sizes → Files → Type 0
@@ -67,21 +89,26 @@ pub record IsBeside (log other : LogSpec) : Type 0 where
   pub maxbytes : other.maxbytes < 2 ^ 64
   pub backups : other.backups ≤ 1000
 
--- of the log's file and its backups the files hold what the appends of the pieces that were logged to it, and nothing else,
--- made of them, one after the other; and its known size is its size
-pub record HasLogged (name : List ℕ) (log : LogSpec) (pieces : List (LogSpec × List ℕ)) (sizes : Sizes) (before after : Files) : Type 0 where
-  pub alone : Files
-  pub appended : AreAppended name (logged_to name pieces) before alone
-  pub same : (number : ℕ) → number ≤ log.backups → after (kept name number) ≡ alone (kept name number)
-  pub known : IsSize name (all_logged pieces sizes) after
+-- so it is of what is done to another log; a file that is made empty is none of the log's backups
+abbrev pub IsBesideDeed : LogSpec → LogDeed → Type 0
+IsBesideDeed log (Adds other piece) = IsBeside log other
+IsBesideDeed log (Empties name) = IsNoBackup name log
 
--- No logged byte is lost but by rotation: where pieces are logged one after the other, each to its log, and the orders for that
--- are carried out, each log's file has what was logged to it. In the beginning its known size is its size.
+-- of the log's file and its backups the files hold what the deeds of this file, and no others, made of them, one after the other;
+-- and its known size is its size
+pub record HasLogged (name : List ℕ) (log : LogSpec) (deeds : List LogDeed) (sizes : Sizes) (before after : Files) : Type 0 where
+  pub alone : Files
+  pub carried : AreCarriedOut name (deeds_of name deeds) before alone
+  pub same : (number : ℕ) → number ≤ log.backups → after (kept name number) ≡ alone (kept name number)
+  pub known : IsSize name (all_sizes deeds sizes) after
+
+-- No logged byte is lost but by rotation and by a clear: where pieces are logged and files are cleared one after the other, and the
+-- orders for that are carried out, each log's file has what was logged to it since. In the beginning its known size is its size.
 abbrev pub EachFileHasWhatWasLogged : Type 0
 EachFileHasWhatWasLogged =
-    (log : LogSpec) (name : List ℕ) (pieces : List (LogSpec × List ℕ)) (sizes : Sizes) (files : Files)
+    (log : LogSpec) (name : List ℕ) (deeds : List LogDeed) (sizes : Sizes) (files : Files)
     → log.file ≡ Some name
     → log.backups ≤ 1000
-    → All (λ (logged : LogSpec × List ℕ). IsBeside log logged.0) pieces
+    → All (IsBesideDeed log) deeds
     → IsSize name sizes files
-    → HasLogged name log pieces sizes files (done (all_orders pieces sizes) files)
+    → HasLogged name log deeds sizes files (all_done deeds sizes files)

@@ -1,4 +1,5 @@
 pub mod Carrying
+pub mod LogDeeds
 pub mod Logging
 pub mod Opening
 pub mod Places

@@ -45,13 +45,3 @@ log_orders log piece sizes = orders_if log.file log piece sizes
 -- the sizes that are known behind them
 abbrev pub logged : LogSpec → List ℕ → Sizes → Sizes
 logged log piece sizes = logged_if log.file log piece sizes
-
--- the orders of pieces that are logged one after the other, each to its log
-abbrev pub all_orders : List (LogSpec × List ℕ) → Sizes → List Order
-all_orders [] sizes = []
-all_orders ((log, piece) ∷ pieces) sizes = log_orders log piece sizes ++ all_orders pieces (logged log piece sizes)
-
--- the sizes that are known behind all of them
-abbrev pub all_logged : List (LogSpec × List ℕ) → Sizes → Sizes
-all_logged [] sizes = sizes
-all_logged ((log, piece) ∷ pieces) sizes = all_logged pieces (logged log piece sizes)
