@@ -25,6 +25,7 @@ use Rattle.sv_children.specs.News.{step_of}
 use Rattle.sv_children.specs.Orders.{kill, kill_at, kill_of, reports_at, reports_of}
 use Rattle.sv_core.proofs.Accounts.{all_dropped, entries_happened, entries_told, found_after, happenings, happenings_ordered, fresh_at, in_order, only_of_roster, some_at}
 use Rattle.sv_core.proofs.Reported.{all_given}
+use Rattle.sv_core.proofs.LinkOrders.{each_link_order}
 use Rattle.sv_core.proofs.Steps.{Steps}
 use Rattle.sv_core.proofs.Walk.{kept_after}
 use Rattle.sv_core.proofs.Told.{AreDrops, is_drop, offer_drops, rejection_drops}
@@ -35,6 +36,7 @@ use Rattle.sv_core.specs.Deeds.{after, deeds}
 use Rattle.sv_core.specs.Events.{offers, offers_if}
 use Rattle.sv_core.specs.HandingOut.{sends}
 use Rattle.sv_core.specs.Listening.{gives_back, id_of, is_done_with}
+use Rattle.sv_core.specs.LinkHistory.{LinkEntry, entry_orders}
 use Rattle.sv_core.specs.Logging.{drop_line, logs, logs_if, notes_if, tells_drop, tells_drops}
 use Rattle.sv_core.specs.MachineState.{now, opening}
 use Rattle.sv_core.specs.Moves.{changed, goes_edge, goes_edge_if, goes_edges, moves, reported, says}
@@ -48,6 +50,7 @@ use Rattle.sv_lines.specs.EdgeLines.{line_at}
 use Rattle.sv_lines.specs.Written.{written}
 use Rattle.sv_lines.specs.declared.line.Line.{Line}
 use Rattle.sv_logs.specs.Rotation.{orders_of}
+use Rattle.sv_links.specs.LinkBook.{LinkRecord}
 use Rattle.sv_out.specs.declared.input.Input.{Input}
 use Rattle.sv_out.specs.declared.order.Order.{Order}
 use Rattle.sv_out.specs.declared.order.Order.TheVariants as order
@@ -321,6 +324,11 @@ no_pools_kill crew c signal group = by_child (slice_get crew.all c) where
   by_child None = refl
   by_child (Some child) = by_run child.run
 
+no_pools_link : (entry : LinkEntry) (book : List LinkRecord) → filter is_of_pools (entry_orders entry book) ≡ []
+no_pools_link entry book =
+    each_link_order (λ (orders : List Order). filter is_of_pools orders ≡ []) refl
+    (λ link bytes rest none. none) (λ link rest none. none) (λ link rest none. none) entry.deed entry.bytes book
+
 pub deals_steps : Steps Deals
 deals_steps = record {
   same = same;
@@ -338,10 +346,7 @@ deals_steps = record {
   ordered = λ spawning w. record { server = refl; all = []; pools = refl; more = order.Spawn spawning ∷ []; added = refl; told = refl };
   steered = λ course w. record { server = refl; all = []; pools = refl; more = []; added = sym (append-nil w.given); told = refl };
   ended = λ w. record { server = refl; all = []; pools = refl; more = order.Halt ∷ []; added = refl; told = refl };
-  linked = λ links w. record { server = refl; all = []; pools = refl; more = []; added = sym (append-nil w.given); told = refl };
-  replied = λ link bytes w. record { server = refl; all = []; pools = refl; more = order.Send link bytes ∷ []; added = refl; told = refl };
-  wanted = λ link w. record { server = refl; all = []; pools = refl; more = order.More link ∷ []; added = refl; told = refl };
-  closed = λ link w. record { server = refl; all = []; pools = refl; more = order.Close link ∷ []; added = refl; told = refl };
+  linked = λ entry w. record { server = refl; all = []; pools = refl; more = entry_orders entry w.links; added = refl; told = no_pools_link entry w.links };
   read = λ file start length w. record { server = refl; all = []; pools = refl; more = order.ReadFile file start length ∷ []; added = refl; told = refl };
   called = λ calls w. record { server = refl; all = []; pools = refl; more = []; added = sym (append-nil w.given); told = refl };
   told = λ run bytes w. record {

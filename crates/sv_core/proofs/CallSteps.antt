@@ -1,5 +1,5 @@
 -- The walk through step 5 of a turn: the requests of methods, the calls and the links.
-use Rattle.std.proofs.Common.{ℕ, pos, zero, suc, List, [], ◌∷◌, Bool, true, false, Option, Some, None, if◌then◌else◌}
+use Rattle.std.proofs.Common.{ℕ, pos, zero, suc, List, [], ◌∷◌, Bool, true, false, Option, Some, None, if◌then◌else◌, refl}
 use Rattle.std.specs.Prelude.{length, nat_le, codes, slice_get}
 use Rattle.sv_answers.specs.Served.{Request as Asked, Refuses as Refused_by, Calls as Asks, heard as ask_heard, is_several, no_parts, parts_in, reads_back, said, subject_of}
 use Rattle.sv_answers.specs.declared.read.Reading.{Reading}
@@ -31,6 +31,7 @@ use Rattle.sv_core.specs.declared.part.Reply.TheVariants.{Refused}
 use Rattle.sv_events.specs.declared.fact.Fact.TheVariants as fact
 use Rattle.sv_http.specs.declared.ask.Ask.{Ask as Request}
 use Rattle.sv_links.specs.LinkBook as link_book
+use Rattle.sv_links.specs.LinkDeeds.Deed.{Take}
 use Rattle.sv_methods.specs.MethodTable.{planned}
 use Rattle.sv_methods.specs.Outcomes as planned_is
 use Rattle.sv_methods.specs.declared.planned.Request.{Request as Wish}
@@ -40,7 +41,7 @@ use Rattle.sv_multi.specs.Views.{PartTree, Calls, Refuses}
 use Rattle.sv_out.specs.declared.order.Order.TheVariants as order
 use Rattle.sv_out.specs.declared.order.SpawnOrder.{SpawnOrder}
 use Rattle.sv_xmlcall.specs.Trees.{CallTree, Reply as Answer, Returns, Faults}
-use Rattle.sv_core.proofs.Steps.{Steps, From, leads, by_test, kept_answered, kept_change, kept_stops, kept_replies, kept_more}
+use Rattle.sv_core.proofs.Steps.{Steps, From, leads, by_test, kept_answered, kept_change, kept_stops, kept_replies, kept_more, kept_untold}
 
 module _ (R : World → World → Type 0) (s : Steps R) where
   -- ---- requests
@@ -288,7 +289,7 @@ module _ (R : World → World → Type 0) (s : Steps R) where
   kept_serves_next link w k goes =
       let u = record w { links = link_book.taken link w.links } in
       let ask = link_book.ask_at link w.links in
-      leads R s w u (serves_ask link ask u k) (s.linked u.links w) (kept_serves_ask link ask u k goes)
+      leads R s w u (serves_ask link ask u k) (kept_untold R s (Take link) w refl) (kept_serves_ask link ask u k goes)
 
   kept_serves_asks : (left : ℕ) (link : LinkId) (w : World) (k : World → Turn) → ((v : World) → From R v (k v)) → From R w (serves_asks left link w k)
   kept_serves_asks zero link w k goes = goes w

@@ -2,11 +2,14 @@ mod Account
 mod Accounts
 mod CallSteps
 mod Left
+mod LinkHistory
+mod LinkOrders
 mod LinkTests
 mod LogHistory
 mod Logged
 mod Moved
 mod Named
+mod NextLink
 mod NumbersBegin
 mod Reported
 mod Served

@@ -23,12 +23,14 @@ use Rattle.sv_children.specs.Crew.{Crew}
 use Rattle.sv_children.specs.News.{step_of}
 use Rattle.sv_children.specs.Orders.{kill, kill_at, kill_of, reports_at, reports_of}
 use Rattle.sv_core.proofs.Reported.{all_given}
+use Rattle.sv_core.proofs.LinkOrders.{each_link_order}
 use Rattle.sv_core.proofs.Steps.{Steps}
 use Rattle.sv_core.proofs.Walk.{kept_after}
 use Rattle.sv_core.proofs.Told.{AreDrops, is_drop, offer_drops, rejection_drops}
 use Rattle.sv_core.specs.Deeds.{after, deeds}
 use Rattle.sv_core.specs.Events.{offers, offers_if}
 use Rattle.sv_core.specs.Listening.{gives_back, id_of}
+use Rattle.sv_core.specs.LinkHistory.{LinkEntry, entry_orders}
 use Rattle.sv_core.specs.LogHistory.{LogsHaveAHistory, is_of_logs}
 use Rattle.sv_core.specs.Logging.{drop_line, logs, logs_if, notes_if, tells_drop, tells_drops}
 use Rattle.sv_core.specs.MachineState.{now, opening}
@@ -45,6 +47,7 @@ use Rattle.sv_lines.specs.EdgeLines.{line_at}
 use Rattle.sv_lines.specs.Written.{written}
 use Rattle.sv_lines.specs.declared.line.Line.{Line}
 use Rattle.sv_logs.specs.Rotation.{orders_of}
+use Rattle.sv_links.specs.LinkBook.{LinkRecord}
 use Rattle.sv_out.specs.declared.input.Input.{Input}
 use Rattle.sv_out.specs.declared.order.Order.{Order}
 use Rattle.sv_out.specs.declared.order.Order.TheVariants as order
@@ -233,6 +236,11 @@ no_hand server run place (p ∷ ps) =
     (none_if (may_get place p) (front_written server run p) (no_front server run p.group (slice_get p.lists.waiting 0)))
     ∙ no_hand server run place ps
 
+no_link : (entry : LinkEntry) (book : List LinkRecord) → filter is_of_logs (entry_orders entry book) ≡ []
+no_link entry book =
+    each_link_order (λ (orders : List Order). filter is_of_logs orders ≡ []) refl
+    (λ link bytes rest none. none) (λ link rest none. none) (λ link rest none. none) entry.deed entry.bytes book
+
 pub keeps_steps : Steps Keeps
 keeps_steps = record {
   same = same;
@@ -249,10 +257,7 @@ keeps_steps = record {
   ordered = λ spawning w. record { all = []; sizes = refl; more = order.Spawn spawning ∷ []; added = refl; told = refl };
   steered = λ course w. record { all = []; sizes = refl; more = []; added = sym (append-nil w.given); told = refl };
   ended = λ w. record { all = []; sizes = refl; more = order.Halt ∷ []; added = refl; told = refl };
-  linked = λ links w. record { all = []; sizes = refl; more = []; added = sym (append-nil w.given); told = refl };
-  replied = λ link bytes w. record { all = []; sizes = refl; more = order.Send link bytes ∷ []; added = refl; told = refl };
-  wanted = λ link w. record { all = []; sizes = refl; more = order.More link ∷ []; added = refl; told = refl };
-  closed = λ link w. record { all = []; sizes = refl; more = order.Close link ∷ []; added = refl; told = refl };
+  linked = λ entry w. record { all = []; sizes = refl; more = entry_orders entry w.links; added = refl; told = no_link entry w.links };
   read = λ file start length w. record { all = []; sizes = refl; more = order.ReadFile file start length ∷ []; added = refl; told = refl };
   called = λ calls w. record { all = []; sizes = refl; more = []; added = sym (append-nil w.given); told = refl };
   told = λ run bytes w. record { all = []; sizes = refl; more = order.Stdin run bytes ∷ []; added = refl; told = refl };

@@ -26,10 +26,12 @@ use Rattle.sv_core.proofs.Steps.{Steps, Onward}
 use Rattle.sv_core.proofs.Walk.{kept_next, kept_after}
 use Rattle.sv_core.specs.Deeds.{after, deeds}
 use Rattle.sv_core.specs.MachineState.{Model, accepts, hand, next, now, opening, orders}
+use Rattle.sv_core.proofs.LinkOrders.{each_link_order}
 use Rattle.sv_core.proofs.Told.{AreDrops, IsSilent, is_drop, offer_drops, parted, rejection_drops, reports_more, reports_skip, silent_both, silent_drop, silent_hand, silent_log, silent_none}
 use Rattle.sv_core.specs.Events.{offers, offers_if}
 use Rattle.sv_core.specs.HandingOut.{sends}
 use Rattle.sv_core.specs.Listening.{gives_back, id_of, is_done_with}
+use Rattle.sv_core.specs.LinkHistory.{LinkEntry, entry_orders}
 use Rattle.sv_core.specs.Logging.{drop_line, logs, logs_if, notes_if, tells_drop, tells_drops}
 use Rattle.sv_core.specs.Moves.{changed, goes_edges, moves, says}
 use Rattle.sv_core.specs.Path.{ChildrenWalk}
@@ -41,6 +43,7 @@ use Rattle.sv_groups.specs.StartOrder.{pairs_of, processes}
 use Rattle.sv_lines.specs.EdgeLines.{line_at}
 use Rattle.sv_lines.specs.Written.{written}
 use Rattle.sv_lines.specs.declared.line.Line.{Line}
+use Rattle.sv_links.specs.LinkBook.{LinkRecord}
 use Rattle.sv_out.specs.declared.input.Input.{Input}
 use Rattle.sv_out.specs.declared.order.Order.{Order}
 use Rattle.sv_out.specs.declared.order.Order.TheVariants as order
@@ -222,6 +225,11 @@ moved how stimulus c w (Some answer) is =
           (moved_walk stimulus w.course.mood w.moment w.children c place answer p is roster at));
     }
 
+silent_link : (entry : LinkEntry) (book : List LinkRecord) → IsSilent (entry_orders entry book)
+silent_link entry book = λ group name state.
+    each_link_order (λ (orders : List Order). IsWalk state (edges_told group name orders) state) refl
+    (λ link bytes rest silent. silent) (λ link rest silent. silent) (λ link rest silent. silent) entry.deed entry.bytes book
+
 pub goes_steps : Steps Goes
 goes_steps = record {
   same = same;
@@ -247,10 +255,12 @@ goes_steps = record {
   };
   steered = λ course w. record { kept = refl; more = []; added = sym (append-nil w.given); walk = λ place p roster is. refl };
   ended = λ w. record { kept = refl; more = order.Halt ∷ []; added = refl; walk = λ place p roster is. refl };
-  linked = λ links w. record { kept = refl; more = []; added = sym (append-nil w.given); walk = λ place p roster is. refl };
-  replied = λ link bytes w. record { kept = refl; more = order.Send link bytes ∷ []; added = refl; walk = λ place p roster is. refl };
-  wanted = λ link w. record { kept = refl; more = order.More link ∷ []; added = refl; walk = λ place p roster is. refl };
-  closed = λ link w. record { kept = refl; more = order.Close link ∷ []; added = refl; walk = λ place p roster is. refl };
+  linked = λ entry w. record {
+    kept = refl;
+    more = entry_orders entry w.links;
+    added = refl;
+    walk = λ place p roster is. silent_link entry w.links p.0.name p.1.name (state_at w.children place);
+  };
   read = λ file start length w. record { kept = refl; more = order.ReadFile file start length ∷ []; added = refl; walk = λ place p roster is. refl };
   called = λ calls w. record { kept = refl; more = []; added = sym (append-nil w.given); walk = λ place p roster is. refl };
   told = λ run bytes w. record { kept = refl; more = order.Stdin run bytes ∷ []; added = refl; walk = λ place p roster is. refl };
@@ -280,18 +290,17 @@ orders_added given later more added =
 -- what was given in the end is what was given before, and the deeds
 joined : (m : Model) (inputs : List Input) → Onward Goes (hand m) → (now (after m inputs)).given ≡ (now m).given ++ deeds m inputs
 joined m [] goes = sym (append-nil (now m).given)
-joined m (i ∷ is) goes =
-    let step = kept_next Goes goes_steps m i goes in
-    by_test (accepts m i)
-    (joined (next m i) is step.1
-    ∙ ap (λ given. given ++ deeds (next m i) is) (sym (orders_added (now m).given (now (next m i)).given step.0.more step.0.added))
-    ∙ append_assoc (now m).given (orders m i) (deeds (next m i) is))
-    (joined m is goes) where
-      by_test : (b : Bool) → (now (after (next m i) is)).given ≡ (now m).given ++ (orders m i ++ deeds (next m i) is)
-          → (now (after m is)).given ≡ (now m).given ++ deeds m is
-          → (now (if b then after (next m i) is else after m is)).given ≡ (now m).given ++ (if b then orders m i ++ deeds (next m i) is else deeds m is)
-      by_test true taken left = taken
-      by_test false taken left = left
+joined m (i ∷ is) goes = by_test (accepts m i) refl (λ onward. joined (next m i) is onward) (joined m is goes) where
+  by_test : (b : Bool) → accepts m i ≡ b
+      → (Onward Goes (hand (next m i)) → (now (after (next m i) is)).given ≡ (now (next m i)).given ++ deeds (next m i) is)
+      → (now (after m is)).given ≡ (now m).given ++ deeds m is
+      → (now (if b then after (next m i) is else after m is)).given ≡ (now m).given ++ (if b then orders m i ++ deeds (next m i) is else deeds m is)
+  by_test true accepted rest left =
+      let step = kept_next Goes goes_steps m i accepted goes in
+      rest step.1
+      ∙ ap (λ given. given ++ deeds (next m i) is) (sym (orders_added (now m).given (now (next m i)).given step.0.more step.0.added))
+      ∙ append_assoc (now m).given (orders m i) (deeds (next m i) is)
+  by_test false accepted rest left = left
 
 pub all_given : (config : Config) (sizes : List (List ℕ × ℕ)) (host : Host) (inputs : List Input)
     → (now (after (opening config sizes host) inputs)).given ≡ deeds (opening config sizes host) inputs

@@ -1,6 +1,6 @@
 -- One walk through the turn, for a relation between two worlds that each of its small steps keeps: the steps, and what is made of
 -- them for children, listeners and links.
-use Rattle.std.proofs.Common.{ℕ, zero, suc, ◌+◌, ◌++◌, List, [], ◌∷◌, Bool, true, false, ◌||◌, Option, Some, None, if◌then◌else◌}
+use Rattle.std.proofs.Common.{ℕ, zero, suc, ◌+◌, ◌++◌, List, [], ◌∷◌, Bool, true, false, ◌||◌, Option, Some, None, if◌then◌else◌, ◌≡◌, ◌∙◌, refl, sym, ap, subst, append-nil, append_assoc}
 use Rattle.std.specs.Prelude.{◌-◌, length, nat_le, codes, slice_get}
 use Rattle.std.specs.Str.{bytes_eq}
 use Rattle.sv_answers.specs.declared.sent.Sent.{Sent}
@@ -30,8 +30,9 @@ use Rattle.sv_core.specs.Output.{ends_pipe, hears_on, log_fact, log_kind, log_of
 use Rattle.sv_core.specs.HandingOut.{hands_from, hands_out, hands_to, ready_of, sends, sends_to}
 use Rattle.sv_core.specs.Listening.{exits_of, gives_back, hears, id_of, is_done_with, loses_of, loses_stdin, takes_result, tells, tells_all, tells_by}
 use Rattle.sv_core.specs.Moves.{answered, begins_as, begins_output, begins_output_of, comes, fails, is_listener_of, kills, moves, orders_spawn, says, started_as, told_of}
-use Rattle.sv_core.specs.Calling.{closes_behind, replies, sends_reply}
-use Rattle.sv_core.specs.Openings.{closes_all, opens_for, welcome}
+use Rattle.sv_core.specs.Calling.{closes_behind, replies}
+use Rattle.sv_core.specs.LinkHistory.{LinkEntry, deed_orders, entry_orders, next_link, reply_orders}
+use Rattle.sv_core.specs.Openings.{closes, closes_all, opens_for}
 use Rattle.sv_core.specs.Serving.{gives_more}
 use Rattle.sv_core.specs.Shutdown.{drops_group, follows_plan, has_come_to_rest, moves_on, tells_group}
 use Rattle.sv_core.specs.Stops.{signals, stops, stops_from, stops_all}
@@ -50,8 +51,10 @@ use Rattle.sv_groups.specs.StartOrder.{span_of}
 use Rattle.sv_groups.specs.declared.order.Span.{Span}
 use Rattle.sv_http.specs.declared.guard.Guard.{Guard}
 use Rattle.sv_links.specs.LinkBook as link_book
-use Rattle.sv_links.specs.LinkBook.{LinkRecord}
 use Rattle.sv_links.specs.LinkBook.Ending.{Closed}
+use Rattle.sv_links.specs.LinkDeeds.{Deed, after as after_deed}
+use Rattle.sv_links.specs.LinkDeeds.Deed.{Open, End, Answer, GiveMore}
+use Rattle.sv_out.specs.declared.order.Order.{Order}
 use Rattle.sv_out.specs.declared.order.Order.TheVariants as order
 use Rattle.sv_out.specs.declared.order.SpawnOrder.{SpawnOrder}
 use Rattle.sv_lines.specs.EdgeLines.{how_of, killing_at, spawned_at}
@@ -76,6 +79,10 @@ Onward R (Ask w q k) = (v : World) (reply : Reply) → R v (world_of (k v reply)
 abbrev pub From : (World → World → Type 0) → World → Turn → Type 0
 From R w t = R w (world_of t) × Onward R t
 
+-- something is done with a link, and told it
+abbrev pub does_with_link : LinkEntry → World → World
+does_with_link entry w = record w { links = after_deed entry.deed w.links; given = w.given ++ entry_orders entry w.links }
+
 -- the small steps of a turn, each of which the relation keeps
 pub record Steps (R : World → World → Type 0) : Type 0 where
   pub same : (w : World) → R w w
@@ -94,10 +101,7 @@ pub record Steps (R : World → World → Type 0) : Type 0 where
   pub sent : (run : Run) (c : ℕ) (w : World) → R w (sends run c w)
   pub logged : (log : LogSpec) (piece : List ℕ) (w : World) → R w (logs log piece w)
   pub written : (streams : List StreamRecord) (w : World) → R w (record w { streams = streams })
-  pub linked : (links : List LinkRecord) (w : World) → R w (record w { links = links })
-  pub replied : (link : LinkId) (bytes : List ℕ) (w : World) → R w (gives (order.Send link bytes) w)
-  pub wanted : (link : LinkId) (w : World) → R w (gives (order.More link) w)
-  pub closed : (link : LinkId) (w : World) → R w (gives (order.Close link) w)
+  pub linked : (entry : LinkEntry) (w : World) → R w (does_with_link entry w)
   pub read : (file : List ℕ) (start length : ℕ) (w : World) → R w (gives (order.ReadFile file start length) w)
   pub called : (calls : CallBook) (w : World) → R w (record w { calls = calls })
   pub told : (run : Run) (bytes : List ℕ) (w : World) → R w (gives (order.Stdin run bytes) w)
@@ -368,38 +372,49 @@ module _ (R : World → World → Type 0) (s : Steps R) where
 
   -- ---- links
 
+  -- something is done with a link, which leads to this world
+  kept_linked : (entry : LinkEntry) (w v : World) → does_with_link entry w ≡ v → R w v
+  kept_linked entry w v is = subst (λ u. R w u) is (s.linked entry w)
+
+  -- it is told nothing
+  pub kept_untold : (deed : Deed) (w : World) → deed_orders deed [] w.links ≡ [] → R w (record w { links = after_deed deed w.links })
+  kept_untold deed w none =
+      kept_linked (record { deed = deed; bytes = [] }) w (record w { links = after_deed deed w.links })
+      (ap (λ (given : List Order). record w { links = after_deed deed w.links; given = given })
+      (ap (λ (more : List Order). w.given ++ more) none ∙ append-nil w.given))
+
   pub kept_closes_all : (links : List LinkId) (w : World) → R w (closes_all links w)
   kept_closes_all [] w = s.same w
   kept_closes_all (link ∷ links) w =
-      let u = gives (order.Close link) w in
-      let v = record u { links = link_book.ended link Closed w.links } in
-      s.follow w u (closes_all links v) (s.closed link w) (s.follow u v (closes_all links v) (s.linked v.links u) (kept_closes_all links v))
+      let v = closes link w in
+      s.follow w v (closes_all links v) (s.linked (record { deed = End link Closed; bytes = [] }) w) (kept_closes_all links v)
 
-  kept_welcome : (link : LinkId) (b : Bool) (w : World) → R w (gives (welcome link b) w)
-  kept_welcome link true w = s.wanted link w
-  kept_welcome link false w = s.closed link w
-
-  pub kept_opens : (link : LinkId) (guard : Option Guard) (w : World) → R w (opens_for link guard w)
-  kept_opens link None w = s.same w
-  kept_opens link (Some guard) w =
-      let u = record w { links = link_book.opened guard w.links } in
-      s.follow w u (opens_for link (Some guard) w) (s.linked u.links w) (kept_welcome link (link_book.has_room w.links) u)
-
-  kept_behind : (closes : Bool) (link : LinkId) (w : World) → R w (closes_behind closes link w)
-  kept_behind true link w = s.closed link w
-  kept_behind false link w = s.same w
+  pub kept_opens : (link : LinkId) (guard : Option Guard) (w : World) → link ≡ next_link w.links → R w (opens_for link guard w)
+  kept_opens link None w is = s.same w
+  kept_opens link (Some guard) w is =
+      subst (λ (number : LinkId). R w (opens_for number (Some guard) w)) (sym is) (s.linked (record { deed = Open guard; bytes = [] }) w)
 
   pub kept_replies : (link : LinkId) (sent : Sent) (w : World) → R w (replies link sent w)
   kept_replies link sent w =
-      let u = record w { links = link_book.answered link sent.closes w.links } in
-      let v = gives (order.Send link sent.text) u in
-      by_test (link_book.is_sent link w.links) w (sends_reply link sent u) u
-      (s.follow w u (sends_reply link sent u) (s.linked u.links w)
-      (s.follow u v (sends_reply link sent u) (s.replied link sent.text u) (kept_behind sent.closes link v)))
-      (s.linked u.links w)
+      kept_linked (record { deed = Answer link sent.closes; bytes = sent.text }) w (replies link sent w) (by_sent (link_book.is_sent link w.links) sent.closes) where
+        by_sent : (b closes : Bool)
+            → record w { links = link_book.answered link sent.closes w.links; given = w.given ++ (if b then reply_orders link closes sent.text else []) }
+            ≡ (if b then closes_behind closes link (gives (order.Send link sent.text) (record w { links = link_book.answered link sent.closes w.links }))
+            else record w { links = link_book.answered link sent.closes w.links })
+        by_sent true true =
+            ap (λ (given : List Order). record w { links = link_book.answered link sent.closes w.links; given = given })
+            (sym (append_assoc w.given (order.Send link sent.text ∷ []) (order.Close link ∷ [])))
+        by_sent true false = refl
+        by_sent false closes =
+            ap (λ (given : List Order). record w { links = link_book.answered link sent.closes w.links; given = given }) (append-nil w.given)
 
   pub kept_more : (link : LinkId) (w : World) → R w (gives_more link w)
   kept_more link w =
-      let u = record w { links = link_book.more_given link w.links } in
-      by_test (link_book.more_is_due link w.links) w (gives (order.More link) u) u
-      (s.follow w u (gives (order.More link) u) (s.linked u.links w) (s.wanted link u)) (s.linked u.links w)
+      kept_linked (record { deed = GiveMore link; bytes = [] }) w (gives_more link w) (by_due (link_book.more_is_due link w.links)) where
+        by_due : (b : Bool)
+            → record w { links = link_book.more_given link w.links; given = w.given ++ (if b then order.More link ∷ [] else []) }
+            ≡ (if b then gives (order.More link) (record w { links = link_book.more_given link w.links })
+            else record w { links = link_book.more_given link w.links })
+        by_due true = refl
+        by_due false =
+            ap (λ (given : List Order). record w { links = link_book.more_given link w.links; given = given }) (append-nil w.given)

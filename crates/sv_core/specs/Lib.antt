@@ -23,4 +23,5 @@ pub mod Frames
 pub mod Path
 pub mod Account
 pub mod LogHistory
+pub mod LinkHistory
 pub mod WorkedJournals

@@ -4,6 +4,7 @@ ghost use Rattle.sv_base.specs.declared.config.Config.{Config};
 ghost use Rattle.sv_base.specs.declared.config.Host.{Host};
 ghost use Rattle.sv_core.specs.Account.{HoldSome, PoolsAreAccountedFor, PoolsHaveAHistory};
 ghost use Rattle.sv_core.specs.Deeds.{after, deeds};
+ghost use Rattle.sv_core.specs.LinkHistory.{LinksHaveAHistory};
 ghost use Rattle.sv_core.specs.LogHistory.{LogsHaveAHistory};
 ghost use Rattle.sv_core.specs.MachineState.{now, opening};
 ghost use Rattle.sv_core.specs.Path.{ChildrenWalk};
@@ -46,6 +47,14 @@ pub fn each_log_has_a_history()
     ensures { (config : Config) (sizes : List (List ℕ × ℕ)) (host : Host) (inputs : List Input) →
         LogsHaveAHistory config sizes (after (opening config sizes host) inputs)
         (deeds (opening config sizes host) inputs) }
+{}
+
+/// Whatever the machine is told, each of its orders to links tells of what was done with a link, in order: that it was
+/// opened, by the next number, that its request in hand was answered, that it got More where that was due, and that the
+/// daemon ended it. What becomes of the links is what these deeds make of them, and nothing else is sent to a client.
+pub fn each_link_has_a_history()
+    ensures { (config : Config) (sizes : List (List ℕ × ℕ)) (host : Host) (inputs : List Input) →
+        LinksHaveAHistory (after (opening config sizes host) inputs) (deeds (opening config sizes host) inputs) }
 {}
 
 /// The pool of each of these groups has room for an event.
