@@ -4,6 +4,7 @@ mod CallSteps
 mod Left
 mod LinkHistory
 mod LinkOrders
+mod LinkReplies
 mod LinkTests
 mod LogHistory
 mod Logged

@@ -2,14 +2,12 @@
 use Rattle.std.proofs.Common.{◌≡◌, ◌+◌, ℕ, List, [], ◌∷◌, ◌++◌, Bool, true, false, ◌&&◌, Option, Some, None, ap, ◌∙◌, refl, if◌then◌else◌}
 use Rattle.std.specs.Prelude.{length}
 use Rattle.std.proofs.lemmas.Bool.{eqb-true, false≢true}
-use Rattle.sv_base.specs.declared.ids.LinkId.{LinkId}
 use Rattle.sv_base.specs.declared.kind.Kind.TheVariants as kind
 use Rattle.sv_base.specs.declared.spec.LogSpec.{LogSpec}
 use Rattle.sv_core.specs.Events.{announces, offers_change}
 use Rattle.sv_core.specs.LinkHistory.{next_link}
 use Rattle.sv_core.specs.Logging.{drop_line, logs_if, notes_if, tells_drop, tells_drops}
 use Rattle.sv_core.specs.MachineState.{may_begin_in}
-use Rattle.sv_core.specs.Openings.{server_of}
 use Rattle.sv_core.specs.World.{World}
 use Rattle.sv_core.specs.declared.part.Cause.{Cause}
 use Rattle.sv_core.specs.declared.part.Cause.TheVariants as cause_is

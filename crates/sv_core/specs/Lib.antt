@@ -24,4 +24,5 @@ pub mod Path
 pub mod Account
 pub mod LogHistory
 pub mod LinkHistory
+pub mod LinkReplies
 pub mod WorkedJournals

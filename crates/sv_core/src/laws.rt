@@ -5,6 +5,7 @@ ghost use Rattle.sv_base.specs.declared.config.Host.{Host};
 ghost use Rattle.sv_core.specs.Account.{HoldSome, PoolsAreAccountedFor, PoolsHaveAHistory};
 ghost use Rattle.sv_core.specs.Deeds.{after, deeds};
 ghost use Rattle.sv_core.specs.LinkHistory.{LinksHaveAHistory};
+ghost use Rattle.sv_core.specs.LinkReplies.{RequestsGetReplies};
 ghost use Rattle.sv_core.specs.LogHistory.{LogsHaveAHistory};
 ghost use Rattle.sv_core.specs.MachineState.{now, opening};
 ghost use Rattle.sv_core.specs.Path.{ChildrenWalk};
@@ -55,6 +56,15 @@ pub fn each_log_has_a_history()
 pub fn each_link_has_a_history()
     ensures { (config : Config) (sizes : List (List ℕ × ℕ)) (host : Host) (inputs : List Input) →
         LinksHaveAHistory (after (opening config sizes host) inputs) (deeds (opening config sizes host) inputs) }
+{}
+
+/// Whatever the machine is told, what it sends on a link are the replies to the first requests of the link, in order, one to
+/// each; while the link is open, to all that were begun but the one in hand. None is sent behind one that closes the link,
+/// and none by a number that no link has.
+pub fn each_request_gets_one_reply()
+    ensures { (config : Config) (sizes : List (List ℕ × ℕ)) (host : Host) (inputs : List Input) (number : ℕ) →
+        RequestsGetReplies number (after (opening config sizes host) inputs)
+        (deeds (opening config sizes host) inputs) }
 {}
 
 /// The pool of each of these groups has room for an event.
