@@ -1,0 +1,8 @@
+//! The words of the daemon (the manual's chapter on running Supervisor): its configuration file, and whether it keeps a journal.
+#![tactic(auto)]
+
+pub mod arguments;
+#[cfg(test)]
+mod tests;
+
+pub use arguments::{Arguments, arguments_of};
