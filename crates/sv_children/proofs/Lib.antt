@@ -1,5 +1,5 @@
 mod Members
 mod Reports
 mod Rewinding
-mod Apart
+pub mod Apart
 pub mod Walks

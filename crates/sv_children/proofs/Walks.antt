@@ -29,12 +29,12 @@ use Rattle.sv_groups.specs.StartOrder.{pairs_of}
 
 -- ---- reports of one child and of another
 
-both_not : (a b : Bool) → (a ≡ true → b ≡ true → ⊥) → (a && b) ≡ false
+pub both_not : (a b : Bool) → (a ≡ true → b ≡ true → ⊥) → (a && b) ≡ false
 both_not true true not_both = absurd (not_both refl refl)
 both_not true false not_both = refl
 both_not false b not_both = refl
 
-same_bytes : (bytes : List ℕ) → bytes_eq bytes bytes ≡ true
+pub same_bytes : (bytes : List ℕ) → bytes_eq bytes bytes ≡ true
 same_bytes bytes = (bytes_eq-Decides bytes bytes).1 refl
 
 -- what is reported of a child is a walk where its edges are
@@ -72,12 +72,12 @@ told_kill crew c signal all group name state = told_by_run (slice_get crew.all c
 
 -- ---- one child is written
 
-set_here : (cs : List Child) (c : ℕ) (m n : Child) → slice_get cs c ≡ Some m → slice_get (slice_set cs c n) c ≡ Some n
+pub set_here : (cs : List Child) (c : ℕ) (m n : Child) → slice_get cs c ≡ Some m → slice_get (slice_set cs c n) c ≡ Some n
 set_here [] c m n there = cc
 set_here (x ∷ xs) zero m n there = refl
 set_here (x ∷ xs) (suc c) m n there = set_here xs c m n there
 
-set_elsewhere : (cs : List Child) (c place : ℕ) (n : Child) → (c ≡ place → ⊥) → slice_get (slice_set cs c n) place ≡ slice_get cs place
+pub set_elsewhere : (cs : List Child) (c place : ℕ) (n : Child) → (c ≡ place → ⊥) → slice_get (slice_set cs c n) place ≡ slice_get cs place
 set_elsewhere [] c place n other = refl
 set_elsewhere (x ∷ xs) zero zero n other = absurd (other refl)
 set_elsewhere (x ∷ xs) zero (suc place) n other = refl

@@ -1,24 +1,11 @@
-mod Account
-mod Accounts
-mod CallSteps
 mod Left
-mod LinkHistory
-mod LinkOrders
-mod LinkReplies
 mod LinkTests
-mod LogHistory
 mod Logged
 mod Moved
 mod Named
-mod NextLink
-mod NumbersBegin
-mod Reported
 mod Served
 mod Shown
-mod Standing
-mod Steps
+pub mod Standing
 mod Stopped
 mod Sweeps
-mod Told
 mod Unmoved
-mod Walk

@@ -20,9 +20,3 @@ pub mod Deeds
 pub mod Left
 pub mod StandsFor
 pub mod Frames
-pub mod Path
-pub mod Account
-pub mod LogHistory
-pub mod LinkHistory
-pub mod LinkReplies
-pub mod WorkedJournals

@@ -9,7 +9,6 @@ mod events;
 mod failure;
 mod hand;
 mod handing_out;
-pub mod laws;
 mod listening;
 mod logging;
 pub mod machine;

@@ -2,7 +2,6 @@
 #![tactic(auto)]
 
 mod judge;
-pub mod laws;
 mod long;
 mod orders;
 mod replaying;

@@ -1,5 +1,0 @@
-use Rattle.sv_core.proofs.LinkHistory.{history}
-use Rattle.sv_core.proofs.laws.each_link_has_a_history.Goals as goal
-
-pub returns : goal.returns
-returns c = λ config sizes host inputs. history config sizes host inputs

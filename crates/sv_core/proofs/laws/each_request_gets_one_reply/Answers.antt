@@ -1,5 +1,0 @@
-use Rattle.sv_core.proofs.LinkReplies.{answered}
-use Rattle.sv_core.proofs.laws.each_request_gets_one_reply.Goals as goal
-
-pub returns : goal.returns
-returns c = λ config sizes host inputs number. answered number config sizes host inputs

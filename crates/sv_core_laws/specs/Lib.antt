@@ -1,0 +1,9 @@
+pub mod Path
+pub mod Account
+pub mod LogHistory
+pub mod LinkHistory
+pub mod LinkReplies
+pub mod CallHistory
+pub mod Stretch
+pub mod Starts
+pub mod WorkedJournals
