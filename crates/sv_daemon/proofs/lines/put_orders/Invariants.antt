@@ -1,0 +1,6 @@
+use Rattle.std.proofs.Common.{◌≡◌, ◌++◌, take}
+use Rattle.sv_daemon.specs.Journal.{orders_text}
+use Rattle.sv_daemon.proofs.lines.put_orders.Given as goal
+
+abbrev pub invariant-loop-order : goal.invariant-loop-order
+invariant-loop-order g l = l.text.items ≡ l.initial.text.items ++ orders_text (g.L.Lines.texts l.lines) (take l.order-index l.orders)

@@ -1,0 +1,5 @@
+pub mod Rules
+pub mod Journal
+pub mod Telling
+pub mod Course
+pub mod Working
