@@ -46,4 +46,13 @@ impl<J: Job, G: Gate<J> + Drop> Ready<J, G> {
     {
         self.gate.start(job)
     }
+
+    /// Gives the gate back.
+    pub fn into_gate(self) -> G
+        ensures value { (G.kept result, G.faults result) ≡ self }
+        ensures ready { G.ready result }
+    {
+        let Ready { gate, of: _ } = self;
+        gate
+    }
 }
