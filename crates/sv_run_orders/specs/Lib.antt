@@ -1,0 +1,4 @@
+pub mod Lives
+pub mod Writing
+pub mod Killing
+pub mod Noting
