@@ -1,0 +1,5 @@
+pub mod Links
+pub mod Opening
+pub mod Sending
+pub mod Closing
+pub mod Noting
