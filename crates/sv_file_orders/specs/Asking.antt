@@ -1,0 +1,43 @@
+-- What an order that asks for something of a file comes to.
+use Rattle.std.specs.Prelude.{◌≡◌, ℕ, List, Option, None, Some, Result, Ok, Err}
+use Rattle.std.specs.Option.{ForSome}
+use Rattle.sv_file_orders.specs.declared.asking.FileAnswer.{FileAnswer}
+use Rattle.sv_file_orders.specs.declared.asking.FileAnswer.TheVariants.{Read, Done, Missing, Failed}
+use Rattle.sv_out.specs.Files.{Becomes, Files, emptied, part_of}
+
+-- a told map has the file, with these bytes of it
+abbrev pub HasPart : Option Files → List ℕ → ℕ → ℕ → List ℕ → Type 0
+HasPart told name start most part =
+    ForSome told (λ files. (bytes : List ℕ) × (files name ≡ Some bytes) × (part ≡ part_of start most bytes))
+
+-- a told map has no such file
+abbrev pub HasNo : Option Files → List ℕ → Type 0
+HasNo told name = ForSome told (λ files. files name ≡ None)
+
+-- a told map has such a file
+abbrev pub Has : Option Files → List ℕ → Type 0
+Has told name = ForSome told (λ files. (bytes : List ℕ) × (files name ≡ Some bytes))
+
+-- a part of a file is answered by the shelf's
+abbrev pub Parts : {E : Type 0} → Option Files → List ℕ → ℕ → ℕ → Result FileAnswer E → Type 0
+Parts told name start most (Ok (Read part)) = HasPart told name start most part
+Parts told name start most (Ok Done) = ⊥
+Parts told name start most (Ok Missing) = HasNo told name
+Parts told name start most (Ok Failed) = Unit {0}
+Parts told name start most (Err error) = Unit {0}
+
+-- a file that is there becomes empty; a missing one, and one of which a call failed, stays as it is
+abbrev pub Clears : {E : Type 0} → Option Files → Option Files → List ℕ → Result FileAnswer E → Type 0
+Clears old new name (Ok (Read part)) = ⊥
+Clears old new name (Ok Done) = Has old name × Becomes old new (emptied name)
+Clears old new name (Ok Missing) = HasNo old name × (new ≡ old)
+Clears old new name (Ok Failed) = Becomes old new (λ files. files)
+Clears old new name (Err error) = Unit {0}
+
+-- there is no answer
+abbrev pub IsUnanswered : {E : Type 0} → Result FileAnswer E → Type 0
+IsUnanswered (Ok (Read part)) = ⊥
+IsUnanswered (Ok Done) = ⊥
+IsUnanswered (Ok Missing) = ⊥
+IsUnanswered (Ok Failed) = Unit {0}
+IsUnanswered (Err error) = ⊥
