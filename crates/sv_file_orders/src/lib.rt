@@ -6,4 +6,6 @@ pub use asking::{FileAnswer, clear_file, read_file};
 pub use writing::{append, fresh, shift};
 
 mod asking;
+#[cfg(test)]
+mod tests;
 mod writing;
