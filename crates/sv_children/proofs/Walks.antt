@@ -1,5 +1,5 @@
 -- What the step of one child reports of each child is a walk through the diagram.
-use Rattle.std.proofs.Common.{◌≡◌, ℕ, zero, suc, List, [], ◌∷◌, Bool, true, false, ◌&&◌, Option, Some, None, refl, subst, sym, ap, ◌∙◌}
+use Rattle.std.proofs.Common.{◌≡◌, ℕ, zero, suc, List, [], ◌∷◌, Bool, true, false, ◌&&◌, Option, Some, None, refl, subst, sym, ◌∙◌}
 use Rattle.std.specs.Prelude.{nat_eq, replicate, slice_get, slice_set}
 use Rattle.std.specs.Str.{bytes_eq}
 use Rattle.std.proofs.lemmas.Bool.{eqb-true, eqb-false}
@@ -20,6 +20,7 @@ use Rattle.sv_child.specs.Moves.{Answer, new_child}
 use Rattle.sv_child.specs.declared.child.Child.{Child}
 use Rattle.sv_child.specs.declared.step.Edge.{Edge}
 use Rattle.sv_children.proofs.Apart.{only_in_roster}
+use Rattle.sv_children.proofs.Places.{set_elsewhere, set_here}
 use Rattle.sv_children.specs.Crew.{Crew, member_of}
 use Rattle.sv_children.specs.News.{moved, said, said_at, said_to}
 use Rattle.sv_children.specs.Orders.{kill, kill_at, kill_of, reports, reports_at}
@@ -71,18 +72,6 @@ pub told_kill : (crew : Crew) (c : ℕ) (signal : Signal) (all : Bool) (group na
 told_kill crew c signal all group name state = told_by_run (slice_get crew.all c) signal all group name state
 
 -- ---- one child is written
-
-pub set_here : (cs : List Child) (c : ℕ) (m n : Child) → slice_get cs c ≡ Some m → slice_get (slice_set cs c n) c ≡ Some n
-set_here [] c m n there = cc
-set_here (x ∷ xs) zero m n there = refl
-set_here (x ∷ xs) (suc c) m n there = set_here xs c m n there
-
-pub set_elsewhere : (cs : List Child) (c place : ℕ) (n : Child) → (c ≡ place → ⊥) → slice_get (slice_set cs c n) place ≡ slice_get cs place
-set_elsewhere [] c place n other = refl
-set_elsewhere (x ∷ xs) zero zero n other = absurd (other refl)
-set_elsewhere (x ∷ xs) zero (suc place) n other = refl
-set_elsewhere (x ∷ xs) (suc c) zero n other = refl
-set_elsewhere (x ∷ xs) (suc c) (suc place) n other = set_elsewhere xs c place n (λ same. other (ap suc same))
 
 -- what is known of a child to which the table said something
 record Known (crew : Crew) (c : ℕ) (answer : Answer) : Type 0 where

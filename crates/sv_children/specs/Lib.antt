@@ -1,6 +1,9 @@
+pub mod Awake
 pub mod Crew
 pub mod News
 pub mod Orders
 pub mod Reported
 pub mod Rewound
 pub mod Spans
+pub mod Wake
+pub mod Watch

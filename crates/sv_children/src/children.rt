@@ -1,19 +1,22 @@
 //! The children in start order, and what comes to the one of a place.
-ghost use Rattle.std.specs.Prelude.{◌≡◌, IfOk, MatchOption, None, OnOk, Some, length, replicate};
+ghost use Rattle.std.specs.Prelude.{◌≡◌, ℕ, IfOk, MatchOption, None, OnOk, Some, length, replicate};
 ghost use Rattle.sv_base.specs.declared.state.Mood.{Mood};
 ghost use Rattle.sv_child.specs.Moves.{new_child};
+ghost use Rattle.sv_children.specs.Awake.{IsNextAwake, NoneAwake, place_of};
 ghost use Rattle.sv_children.specs.Crew.{member_at, new_crew};
 ghost use Rattle.sv_children.specs.News.{moved, said_at, step_of, stimulus_of, stimulus_told};
-ghost use Rattle.sv_children.specs.Rewound.{crew_rewound};
+ghost use Rattle.sv_children.specs.Rewound.{all_rewound, crew_rewound};
 ghost use Rattle.sv_children.specs.Spans.{are_at_rest, span_meant};
-ghost use Rattle.sv_groups.specs.StartOrder.{span_of};
+ghost use Rattle.sv_children.specs.Watch.{Watches};
+ghost use Rattle.sv_groups.specs.StartOrder.{pairs_of, processes, span_of};
 
 use crate::news::{News, Told, tell};
 use crate::rewind::rewind_all;
+use crate::watch::Watch;
 use std::alloc::{AllocError, Global};
 use std::marker::Model;
 use sv_base::config::Config;
-use sv_base::ids::Run;
+use sv_base::ids::{ChildId, Run};
 use sv_base::moment::Moment;
 use sv_base::spec::{GroupSpec, Spec};
 use sv_base::state::Mood;
@@ -27,14 +30,22 @@ use sv_groups::{Found, Roster, Span};
 pub struct Children {
     pub(crate) roster: Roster,
     pub(crate) all: Vec<Child>,
+    /// What is known of them without looking at them.
+    watch: Watch,
+    /// How often one was looked at as time passed.
+    looks: u64,
 }
 
 impl Model for Children {
     ghost use Rattle.sv_children.specs.Crew.{Crew};
+    ghost use Rattle.sv_children.specs.Watch.{Watches};
+    ghost use Rattle.sv_groups.specs.StartOrder.{pairs_of};
 
     ghost Value = { Crew };
 
     ghost view = { λ c. record { roster = c.roster; all = c.all.items } };
+
+    ghost invariant = { λ c. Watches (pairs_of c.roster) c.all.items c.watch };
 }
 
 /// A child as the roster has it.
@@ -55,7 +66,13 @@ impl Children {
     {
         let roster = Roster::new(alloc, config)?;
         let all = new_children(alloc, roster.count())?;
-        Ok(Children { roster, all })
+        let watch = Watch::new(alloc, &roster, all.as_slice())?;
+        Ok(Children {
+            roster,
+            all,
+            watch,
+            looks: 0,
+        })
     }
 
     /// The groups with their processes.
@@ -126,11 +143,31 @@ impl Children {
         are_at_rest(self.all.as_slice(), span)
     }
 
-    /// Rewinds each child to this moment.
+    /// Rewinds each child to this moment. Where the clock doesn't go back it looks at none.
     pub fn rewind(&mut self, at: Moment)
         ensures { self.new ≡ crew_rewound at self.old }
     {
-        rewind_all(self.roster.groups(), self.all.as_mut_slice(), at);
+        if !self.watch.stays(at) {
+            rewind(&self.roster, self.all.as_mut_slice(), &mut self.watch, at);
+        }
+    }
+
+    /// The first child from this place on that has woken at this moment. It takes no memory; all that have woken are looked
+    /// at once in a pass, and no other child.
+    pub fn next_awake(&mut self, from: usize, now: Moment) -> Option<usize>
+        ensures kept { self.new ≡ self.old }
+        ensures next { MatchOption result
+            ((to : ℕ) → NoneAwake now self.old from to)
+            (λ place. IsNextAwake now self.old from place) }
+    {
+        let next = self.watch.agenda.next(from, now);
+        self.looks = self.looks.wrapping_add(next.looks as u64);
+        place_of(next.child)
+    }
+
+    /// How many children were looked at so far to find those that had woken, modulo 2^64.
+    pub fn looks(&self) -> u64 {
+        self.looks
     }
 
     /// Brings news to the child of a place, in this mood and at this moment, and answers the step that it took; `None`
@@ -146,7 +183,12 @@ impl Children {
         }
         match self.roster.process(place) {
             None => None,
-            Some(process) => news.bring(process.1, &mut self.all[place], mood, now),
+            Some(process) => {
+                let child = &mut self.all[place];
+                let step = news.bring(process.1, child, mood, now);
+                self.watch.change(place, process.1, child, now);
+                step
+            }
         }
     }
 
@@ -163,10 +205,32 @@ impl Children {
         match self.roster.process(place) {
             None => None,
             Some(process) => {
-                let step = tell(process.1, &mut self.all[place], run, told, now);
+                let child = &mut self.all[place];
+                let step = tell(process.1, child, run, told, now);
+                self.watch.change(place, process.1, child, now);
                 Some(step)
             }
         }
+    }
+}
+
+/// Rewinds each child to this moment.
+fn rewind(roster: &Roster, children: &mut [Child], watch: &mut Watch, at: Moment)
+    requires { Watches (pairs_of roster.now) children.old watch.old }
+    ensures all { children.new ≡ all_rewound at (processes roster.now) children.old }
+    ensures watch { Watches (pairs_of roster.now) children.new watch.new }
+{
+    rewind_all(roster.groups(), children, at);
+    watch.rewound(roster, children, at);
+}
+
+/// The place of a child, if there is one.
+fn place_of(child: Option<ChildId>) -> Option<usize>
+    ensures { result ≡ place_of child }
+{
+    match child {
+        None => None,
+        Some(child) => Some(child.0 as usize),
     }
 }
 

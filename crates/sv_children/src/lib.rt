@@ -8,6 +8,8 @@ pub mod laws;
 mod news;
 mod orders;
 mod rewind;
+mod wake;
+mod watch;
 
 pub use crate::children::{Children, Member};
 pub use crate::news::{News, Told};

@@ -179,3 +179,24 @@ fn is_signal(order: &Order) -> bool {
         _ => false,
     }
 }
+
+/// All four are to be started: one settle tells them, also while they start, and another where it begins again.
+#[test]
+fn the_awake_are_told_in_start_order(rt: HostRuntime) {
+    let alloc = rt.alloc();
+    let mut children = one_and_three(&rt, alloc);
+    let now = Moment::zero();
+    for place in 0..4usize {
+        assert!(rt; children.next_awake(place, now) == Some(place));
+        let step = children
+            .bring(place, &News::Time, Mood::Running, now)
+            .expect(&rt, "a step");
+        assert!(rt; step.deed == Some(ChildDeed::Spawn));
+        let pid = Pid::new(12).expect(&rt, "a pid");
+        let _told = children.answer(place, Run(7), Told::Started(pid), now);
+    }
+    assert!(rt; children.next_awake(4, now).is_none());
+    assert!(rt; children.looks() == 4);
+    assert!(rt; children.next_awake(3, now) == Some(3));
+    assert!(rt; children.looks() == 8);
+}

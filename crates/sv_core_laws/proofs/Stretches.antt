@@ -23,7 +23,8 @@ use Rattle.sv_child.specs.Moves.{Answer, new_child}
 use Rattle.sv_child.specs.declared.child.Child.{Child}
 use Rattle.sv_child.specs.declared.step.Edge.{Edge}
 use Rattle.sv_children.proofs.Apart.{only_in_roster}
-use Rattle.sv_children.proofs.Walks.{both_not, same_bytes, set_elsewhere, set_here}
+use Rattle.sv_children.proofs.Places.{set_elsewhere, set_here}
+use Rattle.sv_children.proofs.Walks.{both_not, same_bytes}
 use Rattle.sv_children.specs.Crew.{Crew, member_of}
 use Rattle.sv_children.specs.News.{moved, said, said_to}
 use Rattle.sv_children.specs.Orders.{kill, kill_at, kill_of, reports, reports_at}

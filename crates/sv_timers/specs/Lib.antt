@@ -1,3 +1,4 @@
 pub mod DeadlineTree
 pub mod Deadlines
 pub mod Looks
+pub mod NextDue

@@ -41,6 +41,16 @@ impl Due {
         Ok(Due { tree })
     }
 
+    /// Sets the deadline of the child in this place of the start order, or clears it. It takes no memory.
+    pub fn put(&mut self, place: usize, deadline: Option<Deadline>)
+        requires { place < length self.old }
+        ensures { self.new ≡ slice_set self.old place deadline }
+    {
+        if let Some(tree) = &mut self.tree {
+            tree.put(place as u32, deadline);
+        }
+    }
+
     /// Sets the deadline of this child, in the place of the one that it had. It takes no memory.
     pub fn set(&mut self, child: ChildId, at: Deadline)
         requires { child.0 < length self.old }

@@ -2,13 +2,16 @@
 //! clearing a deadline takes no memory, and as many steps as the tree of deadlines is high.
 #![tactic(auto)]
 
+pub mod agenda;
 pub mod due;
+mod list;
 mod looked;
 mod row;
 #[cfg(test)]
 mod tests;
 mod tree;
 
+pub use crate::agenda::{Agenda, Next};
 pub use crate::due::Due;
 pub use crate::looked::Looked;
 pub use crate::row::Rows;

@@ -1,5 +1,6 @@
 //! Deadlines that were set and cleared, with who is due, worked out by hand.
 
+use crate::agenda::Agenda;
 use crate::due::Due;
 use crate::looked::Looked;
 use std::alloc::{AllocError, Global};
@@ -71,5 +72,27 @@ fn no_children_are_never_due(rt: HostRuntime) -> Result<(), AllocError> {
     let due = Due::new(rt.alloc(), 0)?;
     assert!(rt; due.earliest().is_none());
     assert!(rt; due_at(rt.alloc(), &due, 255)?.is_empty());
+    Ok(())
+}
+
+/// The number of the child that is next, and how many were looked at for it.
+fn told(agenda: &mut Agenda, from: usize, now: Moment) -> (Option<u32>, usize) {
+    let next = agenda.next(from, now);
+    (next.child.map(|child| child.0), next.looks)
+}
+
+#[test]
+fn the_due_are_told_one_by_one(rt: HostRuntime) -> Result<(), AllocError> {
+    let mut agenda = Agenda::new(rt.alloc(), 5)?;
+    let now = Moment::zero();
+    agenda.put(0, Some(at(0)));
+    agenda.put(2, Some(at(0)));
+    agenda.put(3, Some(at(0)));
+    assert!(rt; told(&mut agenda, 0, now) == (Some(0), 3));
+    agenda.put(0, None);
+    assert!(rt; told(&mut agenda, 1, now) == (Some(2), 0));
+    agenda.put(4, Some(at(250)));
+    assert!(rt; told(&mut agenda, 3, now) == (Some(3), 2));
+    assert!(rt; told(&mut agenda, 4, now) == (None, 0));
     Ok(())
 }
