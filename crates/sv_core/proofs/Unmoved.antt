@@ -1,27 +1,29 @@
--- Time passes by a child that is up, and nothing is handed out where no event waits.
-use Rattle.std.proofs.Common.{◌≡◌, ℕ, zero, suc, ◌+◌, ◌-◌, true, false, Bool, ◌&&◌, ◌||◌, List, [], ◌∷◌, Option, Some, None, is_none, is_some, length, ap, sym, ◌∙◌, refl, subst, append-nil}
+-- Time passes by a child that hasn't woken, and nothing is handed out where no event waits.
+use Rattle.std.proofs.Common.{◌≡◌, ℕ, zero, suc, ◌+◌, ◌-◌, ◌<◌, ◌≤◌, true, false, Bool, ◌&&◌, ◌||◌, List, [], ◌∷◌, Option, Some, None, is_none, is_some, length, arith, ap, sym, ◌∙◌, refl, subst, append-nil}
 use Rattle.std.specs.List.{flat_map, list_any}
-use Rattle.std.specs.Prelude.{map, nat_le, nat_lt, slice_get, slice_set}
+use Rattle.std.proofs.lemmas.Bool.{not-true}
+use Rattle.std.specs.Prelude.{MatchOption, map, nat_le, nat_lt, slice_get, slice_set}
 use Rattle.sv_base.specs.declared.ids.Run.{Run}
 use Rattle.sv_base.specs.declared.spec.GroupSpec.{GroupSpec}
 use Rattle.sv_base.specs.declared.spec.Spec.{Spec}
 use Rattle.sv_base.specs.declared.state.Mood.{Mood}
-use Rattle.sv_base.specs.declared.state.State.{State}
-use Rattle.sv_base.specs.declared.state.State.TheVariants.{Stopped, Starting, Running, Backoff, Stopping, Exited, Fatal, Unknown}
 use Rattle.sv_child.specs.ChildTable.{row}
 use Rattle.sv_child.specs.ChildTable.Stimulus.{Time as Time_passes}
 use Rattle.sv_child.specs.Moves.{nothing}
 use Rattle.sv_child.specs.declared.child.Child.{Child}
-use Rattle.sv_children.specs.Crew.{member_of}
+use Rattle.sv_children.proofs.Waking.{not_awake}
+use Rattle.sv_children.specs.Awake.{IsNextAwake, NoneAwake}
+use Rattle.sv_children.specs.Crew.{Crew, member_at, member_of}
 use Rattle.sv_children.specs.News.{deed_of, said_to, step_of, stimulus_of}
+use Rattle.sv_children.specs.Wake.{is_awake}
 use Rattle.sv_children.specs.declared.news.News.{News}
 use Rattle.sv_children.specs.declared.news.News.TheVariants as news_is
 use Rattle.sv_core.proofs.Shown.{made}
 use Rattle.sv_core.specs.Frames.{Makes}
-use Rattle.sv_core.specs.HandingOut.{hands_from, hands_out, is_up, ready_of, sends_to}
+use Rattle.sv_core.specs.HandingOut.{hands_from, hands_out, ready_of, sends_to}
 use Rattle.sv_core.specs.Listening.{id_of}
 use Rattle.sv_core.specs.Moves.{moves}
-use Rattle.sv_core.specs.Sweeps.{Turn, does_noted, is_unmoved, meets}
+use Rattle.sv_core.specs.Sweeps.{PassBy, Turn, does_noted, meets, passes_by}
 use Rattle.sv_core.specs.StandsFor.{Shows, shown}
 use Rattle.sv_core.specs.World.{World}
 use Rattle.sv_core.specs.declared.machine.Machine.{Machine}
@@ -40,37 +42,43 @@ set_there (y ∷ ys) zero x at = ap (λ (z : Child). z ∷ ys) (cc)
 set_there (y ∷ ys) (suc i) x at = ap (λ (zs : List Child). y ∷ zs) (set_there ys i x at)
 
 -- the table has no row for it
-no_row : (state : State) (spec : Spec) (child : Child) (mood : Mood) (now : ℕ) → is_up state ≡ true
-    → row Time_passes state spec child mood now ≡ nothing child
-no_row Running spec child mood now up = refl
-no_row Stopped spec child mood now up = cc
-no_row Starting spec child mood now up = cc
-no_row Backoff spec child mood now up = cc
-no_row Stopping spec child mood now up = cc
-no_row Exited spec child mood now up = cc
-no_row Fatal spec child mood now up = cc
-no_row Unknown spec child mood now up = cc
+no_row : (spec : Spec) (child : Child) (mood : Mood) (now : ℕ) → is_awake spec child now ≡ false
+    → row Time_passes child.state spec child mood now ≡ nothing child
+no_row spec child mood now asleep = not_awake spec child mood now asleep
 
 -- time passes by it
-unmoved_there : (c : ℕ) (w : World) (k : World → Turn) (pair : Option (GroupSpec × Spec)) (found : Option Child) (news : News)
-    → slice_get w.children.all c ≡ found → is_unmoved news found ≡ true
+passed_there : (c : ℕ) (w : World) (k : World → Turn) (pair : Option (GroupSpec × Spec)) (found : Option Child) (news : News)
+    → slice_get w.children.all c ≡ found → passes_by news (member_of pair found) w.moment ≡ true
     → let answer = said_to (stimulus_of news) (member_of pair found) w.course.mood w.moment in
     does_noted news (deed_of (step_of answer)) c (moves (how_of news) c answer w) k ≡ k w
-unmoved_there c w k pair None news at up = cc
-unmoved_there c w k None (Some child) news_is.Time at up = refl
-unmoved_there c w k None (Some child) (news_is.Exit run how) at up = cc
-unmoved_there c w k None (Some child) news_is.Start at up = cc
-unmoved_there c w k None (Some child) news_is.Stop at up = cc
-unmoved_there c w k (Some pair) (Some child) news_is.Time at up =
-    rw (no_row child.state pair.1 child w.course.mood w.moment up, set_there w.children.all c child at) refl
-unmoved_there c w k (Some pair) (Some child) (news_is.Exit run how) at up = cc
-unmoved_there c w k (Some pair) (Some child) news_is.Start at up = cc
-unmoved_there c w k (Some pair) (Some child) news_is.Stop at up = cc
+passed_there c w k None found news_is.Time at by = refl
+passed_there c w k (Some pair) None news_is.Time at by = refl
+passed_there c w k (Some pair) (Some child) news_is.Time at by =
+    rw (no_row pair.1 child w.course.mood w.moment (not-true (is_awake pair.1 child w.moment) by), set_there w.children.all c child at) refl
+passed_there c w k pair found (news_is.Exit run how) at by = cc
+passed_there c w k pair found news_is.Start at by = cc
+passed_there c w k pair found news_is.Stop at by = cc
 
-pub unmoved : (news : News) (c : ℕ) (w : World) (k : World → Turn) → is_unmoved news (slice_get w.children.all c) ≡ true
+pub passed : (news : News) (c : ℕ) (w : World) (k : World → Turn) → passes_by news (member_at w.children c) w.moment ≡ true
     → meets news c w k ≡ k w
-unmoved news c w k up =
-    unmoved_there c w k (slice_get (pairs_of w.children.roster) c) (slice_get w.children.all c) news refl up
+passed news c w k by =
+    passed_there c w k (slice_get (pairs_of w.children.roster) c) (slice_get w.children.all c) news refl by
+
+-- the next child that has woken is the next that time doesn't pass by
+pub time_passes : (now : ℕ) (crew : Crew) (from : ℕ) (found : Option ℕ)
+    → MatchOption found ((to : ℕ) → NoneAwake now crew from to) (λ place. IsNextAwake now crew from place)
+    → MatchOption found ((to : ℕ) → PassBy news_is.Time now crew from to) (λ place. (from ≤ place) × PassBy news_is.Time now crew from place)
+time_passes now crew from None none = λ to place after before. rw (none to place after before) refl
+time_passes now crew from (Some found) next = (next.after, λ place after before. rw (next.before place after before) refl)
+
+-- nobody is between a place and itself
+pub passed_none : (news : News) (now : ℕ) (crew : Crew) (from : ℕ) → PassBy news now crew from from
+passed_none news now crew from place after before = absurd (omega (arith, after, before))
+
+-- the place found lies after those that are asked for
+pub passed_before : (news : News) (now : ℕ) (crew : Crew) (from to place : ℕ) → to ≤ place → PassBy news now crew from place
+    → PassBy news now crew from to
+passed_before news now crew from to place order by other after before = by other after (omega (arith, order, before))
 
 none_first : (waiting : List Taken) (free held : Bool) → is_some (slice_get waiting 0) ≡ false
     → (nat_lt 0 (length waiting) && free && held) ≡ false

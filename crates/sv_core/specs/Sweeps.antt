@@ -1,14 +1,14 @@
 -- News on their way over children that are side by side, in start order. A spawn is a question, at which the turn stops.
-use Rattle.std.specs.Prelude.{ℕ, zero, suc, Option, Some, None, Bool, true, false, ◌&&◌, ◌+◌, ◌-◌, length, nat_le, if◌then◌else◌}
+use Rattle.std.specs.Prelude.{◌≡◌, ◌≤◌, ◌<◌, ℕ, zero, suc, Option, Some, None, Bool, true, false, not, ◌+◌, ◌-◌, length, nat_le, if◌then◌else◌}
 use Rattle.sv_base.specs.declared.ids.Run.{Run}
-use Rattle.sv_child.specs.declared.child.Child.{Child}
 use Rattle.sv_child.specs.declared.step.ChildDeed.{ChildDeed}
 use Rattle.sv_child.specs.declared.step.ChildDeed.TheVariants.{Spawn, Kill}
+use Rattle.sv_children.specs.Awake.{is_member_awake}
+use Rattle.sv_children.specs.Crew.{Crew, Member, member_at}
 use Rattle.sv_children.specs.News.{deed_of, step_of, stimulus_of}
 use Rattle.sv_children.specs.Orders.{spawn_at}
 use Rattle.sv_children.specs.declared.news.News.{News}
 use Rattle.sv_children.specs.declared.news.News.TheVariants as news_is
-use Rattle.sv_core.specs.HandingOut.{is_up}
 use Rattle.sv_core.specs.Logging.{notes_if}
 use Rattle.sv_core.specs.Moves.{says, moves, kills, orders_spawn, answered, fails}
 use Rattle.sv_core.specs.World.{World}
@@ -58,16 +58,6 @@ meets news c w k =
     let answer = says (stimulus_of news) c w in
     does_noted news (deed_of (step_of answer)) c (moves (how_of news) c answer w) k
 
--- the news are that time passes
-abbrev pub is_time : News → Bool
-is_time news_is.Time = true
-is_time news = false
-
--- time passes by a child that is up: it has no deadline
-abbrev pub is_unmoved : News → Option Child → Bool
-is_unmoved news None = false
-is_unmoved news (Some child) = is_time news && is_up child.state
-
 -- and so over the places that are left
 abbrev pub sweeps : News → ℕ → ℕ → World → (World → Turn) → Turn
 sweeps news zero c w k = k w
@@ -80,3 +70,19 @@ sweeps_over news span w k = sweeps news (span.to - span.from) span.from w k
 -- over all children
 abbrev pub sweeps_all : News → World → (World → Turn) → Turn
 sweeps_all news w k = sweeps news (length w.children.all - 0) 0 w k
+
+-- the news pass by a child: time does so where it hasn't woken
+abbrev pub passes_by : News → Option Member → ℕ → Bool
+passes_by news_is.Time member now = not (is_member_awake member now)
+passes_by news member now = false
+
+-- they pass by each child from the one place to before the other
+abbrev pub PassBy : News → ℕ → Crew → ℕ → ℕ → Type 0
+PassBy news now crew from to =
+    (place : ℕ) → from ≤ place → place < to → passes_by news (member_at crew place) now ≡ true
+
+-- they may not pass by the child of this place, but do so by those before it
+pub record IsMet (news : News) (now : ℕ) (crew : Crew) (from to place : ℕ) : Type 0 where
+  pub after : from ≤ place
+  pub within : place < to
+  pub before : PassBy news now crew from place

@@ -13,7 +13,7 @@ use sv_base::ids::Run;
 use sv_base::state::State;
 
 /// Whether a process of this state is up.
-pub(crate) fn is_up(state: State) -> bool
+fn is_up(state: State) -> bool
     ensures { result ≡ is_up state }
 {
     matches!(state, State::Running)

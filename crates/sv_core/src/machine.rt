@@ -172,6 +172,11 @@ impl Machine {
         self.broken
     }
 
+    /// How often a child was looked at so far as time passed, modulo 2^64: each pass looks at those that have woken.
+    pub fn looks(&self) -> u64 {
+        self.children.looks()
+    }
+
     fn asked_by(&self) -> Option<Question>
         ensures { result ≡ asked_by self.now }
     {

@@ -1,16 +1,15 @@
 //! News on their way over children, up to a question.
-ghost use Rattle.std.specs.Prelude.{◌≡◌, ◌-◌, List, None, IfOk, OnOk, slice_get};
+ghost use Rattle.std.specs.Prelude.{◌≡◌, ◌≤◌, ◌-◌, ℕ, List, MatchOption, None, IfOk, OnOk};
 ghost use Rattle.sv_children.specs.Crew.{member_at};
 ghost use Rattle.sv_children.specs.News.{deed_of, step_of, stimulus_of, stimulus_told};
 ghost use Rattle.sv_core.specs.Frames.{GivesOrders, HearsListeners, Makes, MovesChildren, StartsRuns, Stops};
 ghost use Rattle.sv_core.specs.Moves.{answered, begins_as, begins_output, comes, is_listener_of, kills, reported, says};
 ghost use Rattle.sv_core.specs.StandsFor.{Shows, paused, stopped, swept};
-ghost use Rattle.sv_core.specs.Sweeps.{carries_out, spawns, does, does_noted, is_time, is_unmoved, meets, sweeps};
+ghost use Rattle.sv_core.specs.Sweeps.{IsMet, PassBy, carries_out, spawns, does, does_noted, meets, sweeps};
 ghost use Rattle.sv_core.specs.World.{World};
 ghost use Rattle.sv_lines.specs.EdgeLines.{how_of};
 ghost use Rattle.sv_out.specs.declared.order.Order.{Order};
 
-use crate::handing_out::is_up;
 use crate::machine::Machine;
 use crate::part::{Reply, started_as, told_of};
 use crate::place::{Asked, Paused, Stop};
@@ -24,13 +23,6 @@ use sv_children::{News, Told};
 use sv_facts::pid_at;
 use sv_lines::{how_of, killing_at, spawned_at};
 use sv_out::order::Order;
-
-/// Whether the news are that time passes.
-fn is_time(news: &News) -> bool
-    ensures { result ≡ is_time news.now }
-{
-    matches!(news, News::Time)
-}
 
 /// The last number of a run.
 pub(crate) const LAST_RUN: u64 = 4_294_967_295;
@@ -234,9 +226,6 @@ impl Machine {
         ensures meets { IfOk result (λ asked.
             Stops (meets news.now child) (stopped asked) self.old self.new) }
     {
-        if self.is_unmoved(news, child) {
-            return Ok(None);
-        }
         let deed = self.bring(news, child)?;
         let asked = self.act_noted(news, child, deed)?;
         Ok(asked)
@@ -259,28 +248,47 @@ impl Machine {
         Ok(asked)
     }
 
-    /// Whether the news are that time passes, and the child of a place is up: it has no deadline.
-    fn is_unmoved(&self, news: &News, child: usize) -> bool
-        ensures { result ≡ is_unmoved news.now (slice_get self.now.children.all child) }
+    /// The first place from this one on that the news don't pass by: time passes by each child that hasn't woken.
+    #[tactic(auto, using(crate::proofs::Unmoved::time_passes, crate::proofs::Unmoved::passed_none))]
+    fn next_place(&mut self, news: &News, from: usize) -> Option<usize>
+        ensures kept { self.new ≡ self.old }
+        ensures next { MatchOption result
+            ((to : ℕ) → PassBy news.now self.old.hand.moment self.old.children from to)
+            (λ place. (from ≤ place)
+            × PassBy news.now self.old.hand.moment self.old.children from place) }
     {
-        match self.children.as_slice().get(child) {
-            None => false,
-            Some(child) => is_time(news) && is_up(child.state),
+        match news {
+            News::Time => self.children.next_awake(from, self.hand.moment),
+            _ => Some(from),
         }
     }
 
-    /// News go over the places from the one to before the other, up to a question.
+    /// The first place from the one to before the other that the news don't pass by.
+    #[tactic(auto, using(crate::proofs::Unmoved::passed_before))]
+    fn next_met(&mut self, news: &News, from: usize, to: usize) -> Option<usize>
+        ensures kept { self.new ≡ self.old }
+        ensures next { MatchOption result
+            (PassBy news.now self.old.hand.moment self.old.children from to)
+            (λ place. IsMet news.now self.old.hand.moment self.old.children from to place) }
+    {
+        match self.next_place(news, from) {
+            None => None,
+            Some(place) if place >= to => None,
+            Some(place) => Some(place),
+        }
+    }
+
+    /// News go over the places from the one to before the other, up to a question. Those that they pass by aren't looked at.
     fn sweep(&mut self, news: &News, from: usize, to: usize) -> Result<Option<Stop>, AllocError>
         ensures kept { StartsRuns self.old self.new }
         ensures sweeps { IfOk result (λ stop.
             Stops (sweeps news.now (to - from) from) (swept news.now to stop) self.old self.new) }
     {
-        for place in from..to {
+        let mut next = from;
+        while let Some(place) = self.next_met(news, next, to) {
+            next = place + 1;
             match self.meet(news, place)? {
-                Some(asked) => {
-                    let next = place + 1;
-                    return Ok(Some(Stop { next, asked }));
-                }
+                Some(asked) => return Ok(Some(Stop { next, asked })),
                 None => {}
             }
         }

@@ -23,6 +23,7 @@ enum Line {
     Pid(u32),
     Code(u64, u32, u8),
     Signalled(u64, u32, u32),
+    Start(u64, &'static str),
     Stop(u64, &'static str),
     Told(u64, Signal),
     Fails(u64),
@@ -113,6 +114,28 @@ fn one_and_three(rt: &impl Abort, alloc: Global) -> Groups {
     Groups::new(groups).expect(rt, "a roster")
 }
 
+/// The group p of a thousand programs, 1000 to 1999, of which none is started with the daemon.
+fn a_thousand(rt: &impl Abort, alloc: Global) -> Groups {
+    let mut members = Items::new(alloc);
+    for number in 1_000..2_000u32 {
+        let mut member = program(rt, alloc, "p", "");
+        let name = format!(in alloc; "{number}").expect(rt, "memory");
+        member.name = Text::from_string(name);
+        member.autostart = false;
+        members.push(member).expect(rt, "memory");
+    }
+    let mut groups = Vec::new(alloc);
+    groups
+        .push(GroupSpec {
+            name: Text::fixed("p"),
+            priority: 999,
+            members,
+            pool: None,
+        })
+        .expect(rt, "memory");
+    Groups::new(groups).expect(rt, "a roster")
+}
+
 fn config(alloc: Global, groups: Groups) -> Config {
     Config {
         identifier: Text::fixed("supervisor"),
@@ -158,6 +181,10 @@ fn input(rt: &impl Abort, line: Line) -> Input {
             run: Run(run),
             how: How::Signal(ExitSignal::new(signal).expect(rt, "a signal")),
         },
+        Line::Start(at, name) => Input::Start {
+            at: moment(rt, at),
+            name: Text::fixed(name),
+        },
         Line::Stop(at, name) => Input::Stop {
             at: moment(rt, at),
             name: Text::fixed(name),
@@ -183,6 +210,7 @@ fn is_wanted(order: &Order, wanted: Wanted) -> bool {
         ) => {
             let group_wanted = match wanted {
                 "a" | "b" | "c" => "g",
+                "1000" => "p",
                 alone => alone,
             };
             group.as_str() == group_wanted
@@ -451,4 +479,38 @@ fn groups_stop(rt: HostRuntime) {
     check(&rt, alloc, &mut ended, &SHUTDOWN_OF_GROUPS);
     assert!(rt; ended.halted());
     assert!(rt; !ended.accepts(&input(&rt, Line::Tick(4_000))));
+}
+
+/// One of a thousand is started, and stays up for its second.
+const START_OF_ONE: [(Line, &[Wanted]); 3] = [
+    (
+        Line::Start(0, "p:1000"),
+        &[
+            Wanted::Goes("1000", State::Stopped, State::Starting),
+            Wanted::Spawns(1),
+        ],
+    ),
+    (Line::Pid(5), &[]),
+    (
+        Line::Tick(1_000),
+        &[Wanted::Goes("1000", State::Starting, State::Running)],
+    ),
+];
+
+const IDLE_TICK: [(Line, &[Wanted]); 1] = [(Line::Tick(0), &[])];
+
+/// Of a thousand idle children a tick looks at none, and then at the one that was started.
+#[test]
+fn only_the_awake_are_looked_at(rt: HostRuntime) {
+    let alloc = rt.alloc();
+    let groups = a_thousand(&rt, alloc);
+    let mut machine = machine(&rt, alloc, groups);
+    for _ in 0..100 {
+        check(&rt, alloc, &mut machine, &IDLE_TICK);
+    }
+    let idle = machine.looks();
+    assert!(rt; idle <= 100);
+    check(&rt, alloc, &mut machine, &START_OF_ONE);
+    let more = machine.looks().wrapping_sub(idle);
+    assert!(rt; 1 <= more && more <= 3);
 }
