@@ -329,8 +329,12 @@ no_pools_link entry book =
     each_link_order (λ (orders : List Order). filter is_of_pools orders ≡ []) refl
     (λ link bytes rest none. none) (λ link rest none. none) (λ link rest none. none) entry.deed entry.bytes book
 
+halted : (w : World) → Deals w (record w { course = record w.course { halted = true } })
+halted w = record { server = refl; all = []; pools = refl; more = []; added = sym (append-nil w.given); told = refl }
+
 pub deals_steps : PlainSteps Deals
 deals_steps = record {
+  may = λ deed. true;
   same = same;
   follow = follow;
   rewound = λ at w. record { server = refl; all = []; pools = refl; more = []; added = sym (append-nil w.given); told = refl };
@@ -344,9 +348,9 @@ deals_steps = record {
     told = no_pools_kill w.children c signal group;
   };
   ordered = λ spawning w. record { server = refl; all = []; pools = refl; more = order.Spawn spawning ∷ []; added = refl; told = refl };
-  steered = λ course w. record { server = refl; all = []; pools = refl; more = []; added = sym (append-nil w.given); told = refl };
+  steered = λ course w same. record { server = refl; all = []; pools = refl; more = []; added = sym (append-nil w.given); told = refl };
   ended = λ w. record { server = refl; all = []; pools = refl; more = order.Halt ∷ []; added = refl; told = refl };
-  linked = λ entry w. record { server = refl; all = []; pools = refl; more = entry_orders entry w.links; added = refl; told = no_pools_link entry w.links };
+  linked = λ entry w ok. record { server = refl; all = []; pools = refl; more = entry_orders entry w.links; added = refl; told = no_pools_link entry w.links };
   read = λ file start length w. record { server = refl; all = []; pools = refl; more = order.ReadFile file start length ∷ []; added = refl; told = refl };
   called = λ calls w. record { server = refl; all = []; pools = refl; more = []; added = sym (append-nil w.given); told = refl };
   told = λ run bytes w. record {
@@ -373,9 +377,10 @@ deals_steps = record {
 
 pub history : (config : Config) (sizes : List (List ℕ × ℕ)) (host : Host) (inputs : List Input)
     → PoolsHaveAHistory config (after (opening config sizes host) inputs) (deeds (opening config sizes host) inputs)
+unfolding deals_steps
 history config sizes host inputs =
     let m = opening config sizes host in
-    let deals : Deals (now m) (now (after m inputs)) = kept_after Deals (plainly Deals deals_steps) m inputs tt in
+    let deals : Deals (now m) (now (after m inputs)) = kept_after Deals (plainly Deals deals_steps) (λ deed. refl) halted m inputs tt in
     record {
       all = deals.all;
       pools = deals.pools;

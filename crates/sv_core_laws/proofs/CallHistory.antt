@@ -37,8 +37,8 @@ use Rattle.sv_core.specs.Moves.{comes, kills, says}
 use Rattle.sv_core.specs.Openings.{welcome}
 use Rattle.sv_core.specs.World.{World, gives}
 use Rattle.sv_core_laws.proofs.Moving.{Moving, kept_met, kept_start_met}
-use Rattle.sv_core_laws.proofs.Reported.{Goes, all_given, goes_plainly, goes_steps}
-use Rattle.sv_core_laws.proofs.Silent.{Silent, added_log, is_apart, moved, no_hand, no_kill, offered, returned, same as silent_same, still}
+use Rattle.sv_core_laws.proofs.Reported.{goes_halted, Goes, all_given, goes_plainly, goes_steps}
+use Rattle.sv_core_laws.proofs.Silent.{Silent, added_log, is_apart, moved, no_hand, no_kill, offered, returned, same as silent_same}
 use Rattle.sv_core_laws.proofs.Steps.{Steps, is_answer}
 use Rattle.sv_core_laws.proofs.Told.{parted}
 use Rattle.sv_core_laws.proofs.Walk.{kept_after}
@@ -161,7 +161,7 @@ silent : (w v : World) → Goes w v → Silent w v → Keeps w v
 silent w v goes s = quiet w v s.more goes s.calls s.added (no_send s.more s.none)
 
 still_so : (w v : World) → Goes w v → v.links ≡ w.links → v.calls ≡ w.calls → v.next_run ≡ w.next_run → v.given ≡ w.given → Keeps w v
-still_so w v goes links calls run given = silent w v goes (still w v links calls run given)
+still_so w v goes links calls run given = quiet w v [] goes calls (given ∙ sym (append-nil w.given)) refl
 
 -- a deed with a link that isn't an answer sends nothing
 of_welcome : (link : LinkId) (room : Bool) → filter is_send (welcome link room ∷ []) ≡ []
@@ -337,7 +337,9 @@ moving = record {
 }
 
 pub keeps_steps : Steps Keeps
+unfolding goes_plainly
 keeps_steps = record {
+  may = λ deed. true;
   same = λ w. silent w w (goes_steps.same w) (silent_same w);
   follow = follow;
   rewound = λ at w. still_so w _ (goes_steps.rewound at w) refl refl refl refl;
@@ -345,7 +347,7 @@ keeps_steps = record {
   meeting = kept_met Keeps moving;
   starting = kept_start_met Keeps moving;
   killed = killed_so;
-  steered = λ course w. still_so w _ (goes_steps.steered course w) refl refl refl refl;
+  steered = λ course w same. still_so w _ (goes_steps.steered course w same) refl refl refl refl;
   ended = λ w. quiet w _ (order.Halt ∷ []) (goes_steps.ended w) refl refl refl;
   offered = λ kind fact w. silent w _ (goes_steps.offered kind fact w) (offered kind fact w);
   clocked = λ clock w. still_so w _ (goes_steps.clocked clock w) refl refl refl refl;
@@ -357,12 +359,12 @@ keeps_steps = record {
       (no_send (hand_orders w.config.identifier run (id_of c) w.pools) (no_hand w.config.identifier run (id_of c) w.pools.each));
   logged = logged_so;
   written = λ streams w. still_so w _ (goes_steps.written streams w) refl refl refl refl;
-  linked = λ entry w other.
-      quiet w _ (entry_orders entry w.links) (goes_steps.linked entry w other) refl refl (no_answer entry.deed entry.bytes w.links other);
+  linked = λ entry w other ok.
+      quiet w _ (entry_orders entry w.links) (goes_steps.linked entry w other ok) refl refl (no_answer entry.deed entry.bytes w.links other);
   read = λ file start length w. quiet w _ (order.ReadFile file start length ∷ []) (goes_steps.read file start length w) refl refl refl;
   called = called_so;
-  answered = λ link reply w may. record {
-    goes = goes_steps.answered link reply w may;
+  answered = λ link reply w ok may. record {
+    goes = goes_steps.answered link reply w ok may;
     all = Answers link reply (link_book.is_sent link w.links) ∷ [];
     calls = answer_calls link (call_book.answer_at link reply w.calls) (record w { calls = call_book.answered link reply w.calls });
     added = answer_given link (call_book.answer_at link reply w.calls) (record w { calls = call_book.answered link reply w.calls })
@@ -370,8 +372,8 @@ keeps_steps = record {
         (sym (append-nil (sends_if (link_book.is_sent link w.links) link (said_of (call_book.answer_at link reply w.calls)))));
     hold = λ roster walked. (λ waiting is. starts_ended w waiting walked (may waiting is), tt);
   };
-  whole = λ link w. record {
-    goes = goes_steps.whole link w;
+  whole = λ link w ok. record {
+    goes = goes_steps.whole link w ok;
     all = Ends link (link_book.is_sent link w.links) ∷ [];
     calls = answer_calls link (call_book.end_at link w.calls) (record w { calls = call_book.ended link w.calls });
     added = answer_given link (call_book.end_at link w.calls) (record w { calls = call_book.ended link w.calls })
@@ -379,8 +381,8 @@ keeps_steps = record {
         (sym (append-nil (sends_if (link_book.is_sent link w.links) link (said_of (call_book.end_at link w.calls)))));
     hold = λ roster walked. (tt, tt);
   };
-  replied = λ link sent w. record {
-    goes = goes_steps.replied link sent w;
+  replied = λ link sent w ok. record {
+    goes = goes_steps.replied link sent w ok;
     all = Replies link sent (link_book.is_sent link w.links) ∷ [];
     calls = reply_calls link sent w;
     added = reply_given link sent w
@@ -396,9 +398,10 @@ keeps_steps = record {
 
 pub history : (config : Config) (sizes : List (List ℕ × ℕ)) (host : Host) (inputs : List Input) → is_roster config.groups ≡ true
     → CallsHaveAHistory config (after (opening config sizes host) inputs) (deeds (opening config sizes host) inputs)
+unfolding keeps_steps
 history config sizes host inputs roster =
     let m = opening config sizes host in
-    let keeps : Keeps (now m) (now (after m inputs)) = kept_after Keeps keeps_steps m inputs tt in
+    let keeps : Keeps (now m) (now (after m inputs)) = kept_after Keeps keeps_steps (λ deed. refl) (λ w. still_so w _ (goes_halted w) refl refl refl refl) m inputs tt in
     record {
       all = keeps.all;
       calls = keeps.calls;

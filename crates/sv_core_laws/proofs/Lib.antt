@@ -3,9 +3,14 @@ mod Accounts
 mod Answering
 mod CallHistory
 mod CallSteps
+mod Closings
+mod HaltReplies
+mod Halting
 mod LinkHistory
+mod LinkKept
 mod LinkOrders
 mod LinkReplies
+mod LinkTells
 mod LogHistory
 mod Moving
 mod NextLink

@@ -5,7 +5,8 @@ use Rattle.std.proofs.lemmas.List.{map-append}
 use Rattle.sv_base.specs.declared.config.Config.{Config}
 use Rattle.sv_base.specs.declared.config.Host.{Host}
 use Rattle.sv_base.specs.declared.ids.LinkId.{LinkId}
-use Rattle.sv_core_laws.proofs.LinkHistory.{after_both, history}
+use Rattle.sv_core_laws.proofs.LinkHistory.{history}
+use Rattle.sv_core_laws.proofs.LinkTells.{after_both}
 use Rattle.sv_core_laws.proofs.NextLink.{both_parts}
 use Rattle.sv_core.specs.Deeds.{after, deeds}
 use Rattle.sv_core_laws.specs.LinkHistory.{LinkEntry, all_link_orders, deed_orders, deeds_of, entry_orders, is_to_link, next_link, reply_orders}
@@ -24,15 +25,15 @@ use Rattle.sv_out.specs.declared.order.Order.TheVariants as order
 
 -- ---- the replies of a history, with their bytes
 
-abbrev sent_to : Bool → List ℕ → Option Ask → List SentReply
+abbrev pub sent_to : Bool → List ℕ → Option Ask → List SentReply
 sent_to closes bytes None = []
 sent_to closes bytes (Some ask) = record { reply = record { ask = ask; closes = closes }; bytes = bytes } ∷ []
 
-abbrev sent_of : Bool → List ℕ → Option LinkRecord → List SentReply
+abbrev pub sent_of : Bool → List ℕ → Option LinkRecord → List SentReply
 sent_of closes bytes None = []
 sent_of closes bytes (Some r) = if sends r then sent_to closes bytes (slice_get (asks r) (r.begun - 1)) else []
 
-abbrev sent_for : ℕ → Deed → List ℕ → List LinkRecord → List SentReply
+abbrev pub sent_for : ℕ → Deed → List ℕ → List LinkRecord → List SentReply
 sent_for number (Answer link closes) bytes book = if link.0 == number then sent_of closes bytes (link_at number book) else []
 sent_for number (Open guard) bytes book = []
 sent_for number (Feed link piece) bytes book = []
@@ -40,7 +41,7 @@ sent_for number (End link ending) bytes book = []
 sent_for number (Take link) bytes book = []
 sent_for number (GiveMore link) bytes book = []
 
-abbrev all_sent : ℕ → List LinkEntry → List LinkRecord → List SentReply
+abbrev pub all_sent : ℕ → List LinkEntry → List LinkRecord → List SentReply
 all_sent number [] book = []
 all_sent number (entry ∷ entries) book =
     sent_for number entry.deed entry.bytes book ++ all_sent number entries (after_deed entry.deed book)
@@ -72,7 +73,7 @@ same_by number (End link ending) bytes book = refl
 same_by number (Take link) bytes book = refl
 same_by number (GiveMore link) bytes book = refl
 
-all_same : (number : ℕ) (entries : List LinkEntry) (book : List LinkRecord)
+pub all_same : (number : ℕ) (entries : List LinkEntry) (book : List LinkRecord)
     → replies_in (all_sent number entries book) ≡ replies number (deeds_of entries) book
 all_same number [] book = refl
 all_same number (entry ∷ entries) book =
@@ -84,7 +85,7 @@ all_same number (entry ∷ entries) book =
 
 -- ---- the orders send their bytes
 
-sent_both : (number : ℕ) (one other : List Order) → sent_on number (one ++ other) ≡ sent_on number one ++ sent_on number other
+pub sent_both : (number : ℕ) (one other : List Order) → sent_on number (one ++ other) ≡ sent_on number one ++ sent_on number other
 sent_both number [] other = refl
 sent_both number (given ∷ one) other =
     ap (λ (rest : List (List ℕ)). sent_by number given ++ rest) (sent_both number one other)
@@ -97,7 +98,7 @@ ask_within (x ∷ xs) zero fits = (x, refl)
 ask_within (x ∷ xs) (suc n) fits = ask_within xs n (omega arith)
 
 -- what is answered was asked
-asked : (told : List Reply) (r : LinkRecord) → Account told r → sends r ≡ true → (x : Ask) × (slice_get (asks r) (r.begun - 1) ≡ Some x)
+pub asked : (told : List Reply) (r : LinkRecord) → Account told r → sends r ≡ true → (x : Ask) × (slice_get (asks r) (r.begun - 1) ≡ Some x)
 asked told r a e =
     let parts = both_parts (is_open r) r.in_hand e in
     let begun : length told + 1 ≡ r.begun = rw parts.1 at (a.begun parts.0) in
@@ -165,7 +166,7 @@ deed_bytes number (Answer link closes) bytes told book a = answer_bytes number l
 deed_bytes number (GiveMore link) bytes told book a = no_more number link (more_is_due link book)
 
 -- behind these deeds
-all_bytes : (number : ℕ) (before : List Deed) (book : List LinkRecord) (entries : List LinkEntry) → book ≡ links_after before
+pub all_bytes : (number : ℕ) (before : List Deed) (book : List LinkRecord) (entries : List LinkEntry) → book ≡ links_after before
     → sent_on number (all_link_orders entries book) ≡ bytes_in (all_sent number entries book)
 all_bytes number before book [] is = refl
 all_bytes number before book (entry ∷ entries) is =
@@ -182,7 +183,7 @@ all_bytes number before book (entry ∷ entries) is =
     ∙ sym (map-append (λ (one : SentReply). one.bytes) own (all_sent number entries next))
 
 -- what is to no link sends nothing
-sent_to_links : (number : ℕ) (orders : List Order) → sent_on number (filter is_to_link orders) ≡ sent_on number orders
+pub sent_to_links : (number : ℕ) (orders : List Order) → sent_on number (filter is_to_link orders) ≡ sent_on number orders
 sent_to_links number [] = refl
 sent_to_links number (order.Send link bytes ∷ orders) =
     ap (λ (rest : List (List ℕ)). sent_by number (order.Send link bytes) ++ rest) (sent_to_links number orders)

@@ -241,8 +241,12 @@ no_link entry book =
     each_link_order (λ (orders : List Order). filter is_of_logs orders ≡ []) refl
     (λ link bytes rest none. none) (λ link rest none. none) (λ link rest none. none) entry.deed entry.bytes book
 
+halted : (w : World) → Keeps w (record w { course = record w.course { halted = true } })
+halted w = record { all = []; sizes = refl; more = []; added = sym (append-nil w.given); told = refl }
+
 pub keeps_steps : PlainSteps Keeps
 keeps_steps = record {
+  may = λ deed. true;
   same = same;
   follow = follow;
   rewound = λ at w. record { all = []; sizes = refl; more = []; added = sym (append-nil w.given); told = refl };
@@ -255,9 +259,9 @@ keeps_steps = record {
     told = no_kill w.children c signal group;
   };
   ordered = λ spawning w. record { all = []; sizes = refl; more = order.Spawn spawning ∷ []; added = refl; told = refl };
-  steered = λ course w. record { all = []; sizes = refl; more = []; added = sym (append-nil w.given); told = refl };
+  steered = λ course w same. record { all = []; sizes = refl; more = []; added = sym (append-nil w.given); told = refl };
   ended = λ w. record { all = []; sizes = refl; more = order.Halt ∷ []; added = refl; told = refl };
-  linked = λ entry w. record { all = []; sizes = refl; more = entry_orders entry w.links; added = refl; told = no_link entry w.links };
+  linked = λ entry w ok. record { all = []; sizes = refl; more = entry_orders entry w.links; added = refl; told = no_link entry w.links };
   read = λ file start length w. record { all = []; sizes = refl; more = order.ReadFile file start length ∷ []; added = refl; told = refl };
   called = λ calls w. record { all = []; sizes = refl; more = []; added = sym (append-nil w.given); told = refl };
   told = λ run bytes w. record { all = []; sizes = refl; more = order.Stdin run bytes ∷ []; added = refl; told = refl };
@@ -283,9 +287,10 @@ keeps_steps = record {
 
 pub history : (config : Config) (sizes : List (List ℕ × ℕ)) (host : Host) (inputs : List Input)
     → LogsHaveAHistory config sizes (after (opening config sizes host) inputs) (deeds (opening config sizes host) inputs)
+unfolding keeps_steps
 history config sizes host inputs =
     let m = opening config sizes host in
-    let keeps : Keeps (now m) (now (after m inputs)) = kept_after Keeps (plainly Keeps keeps_steps) m inputs tt in
+    let keeps : Keeps (now m) (now (after m inputs)) = kept_after Keeps (plainly Keeps keeps_steps) (λ deed. refl) halted m inputs tt in
     record {
       all = keeps.all;
       sizes = keeps.sizes;

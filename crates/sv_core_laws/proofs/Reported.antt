@@ -63,10 +63,10 @@ pub record Goes (w v : World) : Type 0 where
 
 -- ---- each small step
 
-same : (w : World) → Goes w w
+pub same : (w : World) → Goes w w
 same w = record { kept = refl; more = []; added = sym (append-nil w.given); walk = λ place p roster is. refl }
 
-follow : (u v w : World) → Goes u v → Goes v w → Goes u w
+pub follow : (u v w : World) → Goes u v → Goes v w → Goes u w
 follow u v w a b = record {
   kept = b.kept ∙ a.kept;
   more = a.more ++ b.more;
@@ -85,7 +85,7 @@ pub record Adds (w v : World) : Type 0 where
   pub added : v.given ≡ w.given ++ more
   pub silent : IsSilent more
 
-adds_goes : (w v : World) → Adds w v → Goes w v
+pub adds_goes : (w v : World) → Adds w v → Goes w v
 adds_goes w v a = record {
   kept = ap (λ (crew : Crew). crew.roster) a.crew;
   more = a.more;
@@ -209,7 +209,7 @@ told_edges how c pid (Some edge ∷ edges) w =
     }
 
 -- the table says something to a child, or nothing
-moved : (how : Option How) (stimulus : Child → Option Stimulus) (c : ℕ) (w : World) (answer : Option Answer) → says stimulus c w ≡ answer
+pub moved : (how : Option How) (stimulus : Child → Option Stimulus) (c : ℕ) (w : World) (answer : Option Answer) → says stimulus c w ≡ answer
     → Goes w (moves how c answer w)
 moved how stimulus c w None is = same w
 moved how stimulus c w (Some answer) is =
@@ -226,13 +226,14 @@ moved how stimulus c w (Some answer) is =
           (moved_walk stimulus w.course.mood w.moment w.children c place answer p is roster at));
     }
 
-silent_link : (entry : LinkEntry) (book : List LinkRecord) → IsSilent (entry_orders entry book)
+pub silent_link : (entry : LinkEntry) (book : List LinkRecord) → IsSilent (entry_orders entry book)
 silent_link entry book = λ group name state.
     each_link_order (λ (orders : List Order). IsWalk state (edges_told group name orders) state) refl
     (λ link bytes rest silent. silent) (λ link rest silent. silent) (λ link rest silent. silent) entry.deed entry.bytes book
 
-pub goes_plainly : PlainSteps Goes
+unfoldable pub goes_plainly : PlainSteps Goes
 goes_plainly = record {
+  may = λ deed. true;
   same = same;
   follow = follow;
   rewound = λ at w. record {
@@ -254,9 +255,9 @@ goes_plainly = record {
     added = refl;
     walk = λ place p roster is. refl;
   };
-  steered = λ course w. record { kept = refl; more = []; added = sym (append-nil w.given); walk = λ place p roster is. refl };
+  steered = λ course w same. record { kept = refl; more = []; added = sym (append-nil w.given); walk = λ place p roster is. refl };
   ended = λ w. record { kept = refl; more = order.Halt ∷ []; added = refl; walk = λ place p roster is. refl };
-  linked = λ entry w. record {
+  linked = λ entry w ok. record {
     kept = refl;
     more = entry_orders entry w.links;
     added = refl;
@@ -282,7 +283,10 @@ goes_plainly = record {
   written = λ streams w. adds_goes w (record w { streams = streams }) (adds_nothing w (record w { streams = streams }) refl refl);
 }
 
-pub goes_steps : Steps Goes
+pub goes_halted : (w : World) → Goes w (record w { course = record w.course { halted = true } })
+goes_halted w = record { kept = refl; more = []; added = sym (append-nil w.given); walk = λ place p roster is. refl }
+
+abbrev pub goes_steps : Steps Goes
 goes_steps = plainly Goes goes_plainly
 
 -- ---- all inputs
@@ -293,6 +297,7 @@ orders_added given later more added =
 
 -- what was given in the end is what was given before, and the deeds
 joined : (m : Model) (inputs : List Input) → Onward Goes (hand m) → (now (after m inputs)).given ≡ (now m).given ++ deeds m inputs
+unfolding goes_plainly
 joined m [] goes = sym (append-nil (now m).given)
 joined m (i ∷ is) goes = by_test (accepts m i) refl (λ onward. joined (next m i) is onward) (joined m is goes) where
   by_test : (b : Bool) → accepts m i ≡ b
@@ -300,7 +305,7 @@ joined m (i ∷ is) goes = by_test (accepts m i) refl (λ onward. joined (next m
       → (now (after m is)).given ≡ (now m).given ++ deeds m is
       → (now (if b then after (next m i) is else after m is)).given ≡ (now m).given ++ (if b then orders m i ++ deeds (next m i) is else deeds m is)
   by_test true accepted rest left =
-      let step = kept_next Goes goes_steps m i accepted goes in
+      let step = kept_next Goes goes_steps (λ deed. refl) goes_halted m i accepted goes in
       rest step.1
       ∙ ap (λ given. given ++ deeds (next m i) is) (sym (orders_added (now m).given (now (next m i)).given step.0.more step.0.added))
       ∙ append_assoc (now m).given (orders m i) (deeds (next m i) is)
@@ -312,9 +317,10 @@ all_given config sizes host inputs = joined (opening config sizes host) inputs t
 
 pub path : (config : Config) (sizes : List (List ℕ × ℕ)) (host : Host) (inputs : List Input) → is_roster config.groups ≡ true
     → ChildrenWalk config (after (opening config sizes host) inputs) (deeds (opening config sizes host) inputs)
+unfolding goes_plainly
 path config sizes host inputs roster = λ place group spec is.
     let goes : Goes (now (opening config sizes host)) (now (after (opening config sizes host) inputs)) =
-    kept_after Goes goes_steps (opening config sizes host) inputs tt in
+    kept_after Goes goes_steps (λ deed. refl) goes_halted (opening config sizes host) inputs tt in
     let told : goes.more ≡ deeds (opening config sizes host) inputs = sym goes.added ∙ all_given config sizes host inputs in
     let walk = goes.walk place (group, spec) roster is in
     subst (λ from. IsWalk from (edges_told group.name spec.name (deeds (opening config sizes host) inputs)) (state_at (now (after (opening config sizes host) inputs)).children place))

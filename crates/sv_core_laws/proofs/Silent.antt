@@ -42,10 +42,7 @@ use Rattle.sv_pool.specs.declared.taken.Taken.{Taken}
 use Rattle.sv_pools.specs.EventPools.{EventPool}
 use Rattle.sv_pools.specs.Listeners.{front_written, may_get, orders_to, rejection_reports, rejects, written as order_written}
 use Rattle.sv_pools.specs.Offers.{offer_reports, offered as pools_after}
-use Rattle.sv_core.specs.Failure.{failed}
-use Rattle.sv_core.specs.Listening.{loses_of}
-use Rattle.sv_core.specs.declared.failure.Failure.{Failure}
-use Rattle.sv_core.specs.declared.failure.Failure.TheVariants.{NeverFails, ChangesNothing, LosesStdin, LosesLink, RefusesQuestion}
+use Rattle.sv_core.specs.Listening.{loses_of, loses_stdin}
 use Rattle.sv_pools.specs.Listeners.{holds}
 use Rattle.sv_runs.specs.RunBook.{living, lost, stdin_lost}
 
@@ -57,32 +54,35 @@ is_apart (order.Close link) = true
 is_apart (order.Spawn spawning) = true
 is_apart other = false
 
--- from one world to a later one: links, calls and the number of the next run are as they were, and no order that was given meanwhile is
+-- from one world to a later one: links, calls and the number of the next run are as they were, the daemon has halted or not as before, and no order that was given meanwhile is
 -- to a link, or a spawn
 pub record Silent (w v : World) : Type 0 where
   pub links : v.links ≡ w.links
   pub calls : v.calls ≡ w.calls
   pub run : v.next_run ≡ w.next_run
+  pub halted : v.course.halted ≡ w.course.halted
   pub more : List Order
   pub added : v.given ≡ w.given ++ more
   pub none : filter is_apart more ≡ []
 
-silently : (w v : World) (more : List Order) → v.links ≡ w.links → v.calls ≡ w.calls → v.next_run ≡ w.next_run → v.given ≡ w.given ++ more
-    → filter is_apart more ≡ [] → Silent w v
-silently w v more links calls run added none =
-    record { links = links; calls = calls; run = run; more = more; added = added; none = none }
+silently : (w v : World) (more : List Order) → v.links ≡ w.links → v.calls ≡ w.calls → v.next_run ≡ w.next_run
+    → v.course.halted ≡ w.course.halted → v.given ≡ w.given ++ more → filter is_apart more ≡ [] → Silent w v
+silently w v more links calls run halted added none =
+    record { links = links; calls = calls; run = run; halted = halted; more = more; added = added; none = none }
 
-pub still : (w v : World) → v.links ≡ w.links → v.calls ≡ w.calls → v.next_run ≡ w.next_run → v.given ≡ w.given → Silent w v
-still w v links calls run given = silently w v [] links calls run (given ∙ sym (append-nil w.given)) refl
+pub still : (w v : World) → v.links ≡ w.links → v.calls ≡ w.calls → v.next_run ≡ w.next_run → v.course.halted ≡ w.course.halted
+    → v.given ≡ w.given → Silent w v
+still w v links calls run halted given = silently w v [] links calls run halted (given ∙ sym (append-nil w.given)) refl
 
 pub same : (w : World) → Silent w w
-same w = still w w refl refl refl refl
+same w = still w w refl refl refl refl refl
 
 follow : (u v w : World) → Silent u v → Silent v w → Silent u w
 follow u v w a b = record {
   links = b.links ∙ a.links;
   calls = b.calls ∙ a.calls;
   run = b.run ∙ a.run;
+  halted = b.halted ∙ a.halted;
   more = a.more ++ b.more;
   added = b.added ∙ ap (λ (given : List Order). given ++ b.more) a.added ∙ append_assoc u.given a.more b.more;
   none = filter-append is_apart a.more b.more
@@ -108,7 +108,7 @@ no_log log piece sizes = by_file log.file where
   by_file (Some name) = no_files (orders_of (plan_as name (size_in name sizes) log) piece)
 
 pub added_log : (log : LogSpec) (piece : List ℕ) (w : World) → Silent w (logs log piece w)
-added_log log piece w = silently w (logs log piece w) (log_orders log piece w.sizes) refl refl refl refl (no_log log piece w.sizes)
+added_log log piece w = silently w (logs log piece w) (log_orders log piece w.sizes) refl refl refl refl refl (no_log log piece w.sizes)
 
 added_if : (log : LogSpec) (bytes : Option (List ℕ)) (w : World) → Silent w (logs_if log bytes w)
 added_if log None w = same w
@@ -139,7 +139,7 @@ no_drop order.Halt is = cc
 drop_told : (o : Order) (w : World) → is_drop o ≡ true → Silent w (tells_drop o w)
 drop_told o w is =
     let told = record w { given = w.given ++ o ∷ [] } in
-    follow w told (tells_drop o w) (silently w told (o ∷ []) refl refl refl refl (no_drop o is)) (noted (drop_line o) told)
+    follow w told (tells_drop o w) (silently w told (o ∷ []) refl refl refl refl refl (no_drop o is)) (noted (drop_line o) told)
 
 drops_told : (os : List Order) (w : World) → AreDrops os → Silent w (tells_drops os w)
 drops_told [] w are = same w
@@ -150,7 +150,7 @@ drops_told (o ∷ os) w are =
 pub offered : (kind : Kind) (fact : Fact) (w : World) → Silent w (offers kind fact w)
 offered kind fact w =
     let u = record w { pools = pools_after kind fact w.pools } in
-    follow w u (offers kind fact w) (still w u refl refl refl refl)
+    follow w u (offers kind fact w) (still w u refl refl refl refl refl)
     (drops_told (offer_reports kind fact w.pools) u (offer_drops kind fact w.pools))
 
 offered_if : (kind : Kind) (fact : Option Fact) (w : World) → Silent w (offers_if kind fact w)
@@ -160,7 +160,7 @@ offered_if kind (Some fact) w = offered kind fact w
 pub returned : (c : ℕ) (w : World) → Silent w (gives_back c w)
 returned c w =
     let u = record w { pools = rejects (id_of c) w.pools } in
-    follow w u (gives_back c w) (still w u refl refl refl refl)
+    follow w u (gives_back c w) (still w u refl refl refl refl refl)
     (drops_told (rejection_reports (id_of c) w.pools) u (rejection_drops (id_of c) w.pools))
 
 no_report : (crew : Crew) (c : ℕ) (edge : Edge) → filter is_apart (reports_at crew c (Some edge ∷ [])) ≡ []
@@ -176,7 +176,7 @@ edge_gone how c pid (Some edge) w =
     let told = record w { given = w.given ++ own } in
     let line = line_at w.children c how edge in
     let lined = notes_if line told in
-    follow w told (goes_edge how c pid edge w) (silently w told own refl refl refl refl (no_report w.children c edge))
+    follow w told (goes_edge how c pid edge w) (silently w told own refl refl refl refl refl (no_report w.children c edge))
     (follow told lined (goes_edge how c pid edge w) (noted line told)
     (offered_if (kind_of edge.to) (fact_at w.children c pid edge) lined))
 
@@ -193,7 +193,7 @@ step_gone how c pid (Some step) w = edges_gone how c pid step.edges w
 pub moved : (how : Option How) (c : ℕ) (answer : Option Answer) (w : World) → Silent w (moves how c answer w)
 moved how c answer w =
     let v = changed c answer w in
-    follow w v (moves how c answer w) (still w v refl refl refl refl) (step_gone how c (pid_at w.children c) (step_of answer) v)
+    follow w v (moves how c answer w) (still w v refl refl refl refl refl) (step_gone how c (pid_at w.children c) (step_of answer) v)
 
 pub no_kill : (crew : Crew) (c : ℕ) (signal : Signal) (group : Bool) → filter is_apart (kill_at crew c signal group) ≡ []
 no_kill crew c signal group = by_child (slice_get crew.all c) where
@@ -240,17 +240,17 @@ none_to_link (order.ClearFile name ∷ orders) none = none_to_link orders none
 none_to_link (order.Dropped pool serial poolserial ∷ orders) none = none_to_link orders none
 none_to_link (order.Halt ∷ orders) none = none_to_link orders none
 
--- an order of a run or of a link that failed leaves the calls as they are
-lost_of : (child : Option ℕ) (run : Run) (w : World) → (loses_of child run w).calls ≡ w.calls
-lost_of None run w = refl
+-- an order of a run that failed
+lost_of : (child : Option ℕ) (run : Run) (w : World) → Silent w (loses_of child run w)
+lost_of None run w = same w
 lost_of (Some c) run w = by_holder (holds (id_of c) w.pools) where
-  by_holder : (b : Bool) → (if b then gives_back c (record w { runs = lost run w.runs }) else w).calls ≡ w.calls
-  by_holder true = (returned c (record w { runs = lost run w.runs })).calls
-  by_holder false = refl
+  by_holder : (b : Bool) → Silent w (if b then gives_back c (record w { runs = lost run w.runs }) else w)
+  by_holder true =
+      let u = record w { runs = lost run w.runs } in
+      follow w u (gives_back c u) (still w u refl refl refl refl refl) (returned c u)
+  by_holder false = same w
 
-pub calls_failed : (failure : Failure) (w : World) → (failed failure w).calls ≡ w.calls
-calls_failed (LosesStdin run) w = lost_of (living run w.runs) run (record w { runs = stdin_lost run w.runs })
-calls_failed (LosesLink link) w = refl
-calls_failed RefusesQuestion w = refl
-calls_failed ChangesNothing w = refl
-calls_failed NeverFails w = refl
+pub lost_stdin : (run : Run) (w : World) → Silent w (loses_stdin run w)
+lost_stdin run w =
+    let u = record w { runs = stdin_lost run w.runs } in
+    follow w u (loses_stdin run w) (still w u refl refl refl refl refl) (lost_of (living run w.runs) run u)

@@ -485,11 +485,12 @@ linked_so : (entry : LinkEntry) (w : World) → Spawns w (does_with_link entry w
 linked_so entry w =
     some_told w (does_with_link entry w) (entry_orders entry w.links) refl (link_starts entry w.links) (link_spawns entry w.links) refl
 
-replying : Replying Spawns
+abbrev replying : Replying Spawns
 replying = record {
+  may = λ deed. true;
   same = λ w. quiet w w refl refl;
   follow = follow;
-  linked = linked_so;
+  linked = λ entry w ok. linked_so entry w;
   called = λ calls w. quiet w (record w { calls = calls }) refl refl;
 }
 
@@ -497,6 +498,7 @@ replying = record {
 
 spawns_steps : Steps Spawns
 spawns_steps = record {
+  may = λ deed. true;
   same = λ w. quiet w w refl refl;
   follow = follow;
   rewound = λ at w. quiet w _ refl refl;
@@ -504,7 +506,7 @@ spawns_steps = record {
   meeting = met_so;
   starting = start_met_so;
   killed = killed_so;
-  steered = λ course w. quiet w (record w { course = course }) refl refl;
+  steered = λ course w same. quiet w (record w { course = course }) refl refl;
   ended = λ w. some_told w _ (order.Halt ∷ []) refl refl refl refl;
   offered = λ kind fact w. none_told w (offers kind fact w) (both_silent w (offers kind fact w) (offered kind fact w) (offered_silently kind fact w));
   clocked = λ clock w. quiet w (record w { clock = clock }) refl refl;
@@ -517,10 +519,10 @@ spawns_steps = record {
       (no_spawns (hand_orders w.config.identifier run (id_of c) w.pools) (no_hand w.config.identifier run (id_of c) w.pools.each)) refl;
   logged = answering.logged;
   written = λ streams w. quiet w (record w { streams = streams }) refl refl;
-  linked = λ entry w other. linked_so entry w;
+  linked = λ entry w other ok. linked_so entry w;
   read = λ file start length w. some_told w _ (order.ReadFile file start length ∷ []) refl refl refl refl;
   called = λ deed w. quiet w (record w { calls = call_done deed w.calls }) refl refl;
-  answered = λ link reply w may. kept_answers Spawns replying link reply w;
+  answered = λ link reply w ok may. kept_answers Spawns replying link reply w ok;
   whole = kept_ends Spawns replying;
   replied = kept_replies Spawns replying;
   told = λ run bytes w. some_told w _ (order.Stdin run bytes ∷ []) refl refl refl refl;
@@ -532,9 +534,10 @@ spawns_steps = record {
 
 pub each_spawned : (config : Config) (sizes : List (List ℕ × ℕ)) (host : Host) (inputs : List Input)
     → EachStartIsSpawned (deeds (opening config sizes host) inputs)
+unfolding spawns_steps
 each_spawned config sizes host inputs =
     let m = opening config sizes host in
-    let spawns : Spawns (now m) (now (after m inputs)) = kept_after Spawns spawns_steps m inputs tt in
+    let spawns : Spawns (now m) (now (after m inputs)) = kept_after Spawns spawns_steps (λ deed. refl) (λ w. quiet w _ refl refl) m inputs tt in
     let given : spawns.tells.more ≡ deeds m inputs = sym spawns.tells.added ∙ all_given config sizes host inputs in
     subst EachStartIsSpawned given
     (λ few. spawns.tells.starts_are ∙ spawns.each (number_left (now (after m inputs)).next_run (length spawns.spawned) spawns.tells.run

@@ -42,6 +42,8 @@ use Rattle.sv_core.specs.Sweeps.Turn.{Done, Ask}
 use Rattle.sv_core.specs.Turn.{rewinds, world_of}
 use Rattle.sv_core.specs.World.{World, gives}
 use Rattle.sv_core.specs.declared.course.Course.{Course}
+use Rattle.sv_core.specs.declared.part.Question.{Question}
+use Rattle.sv_core.specs.declared.part.Question.TheVariants as question
 use Rattle.sv_core.specs.declared.part.Reply.{Reply}
 use Rattle.sv_events.specs.TickSlice.{tick}
 use Rattle.sv_events.specs.declared.fact.Fact.{Fact}
@@ -54,7 +56,7 @@ use Rattle.sv_links.specs.LinkBook as link_book
 use Rattle.sv_methods.specs.Waits.{waits}
 use Rattle.sv_methods.specs.declared.planned.Waiting.{Waiting}
 use Rattle.sv_xmlcall.specs.Trees.{Reply as CallReply}
-use Rattle.sv_links.specs.LinkBook.Ending.{Closed}
+use Rattle.sv_links.specs.LinkBook.Ending.{Closed, Failed as Lost}
 use Rattle.sv_links.specs.LinkDeeds.{Deed, after as after_deed}
 use Rattle.sv_links.specs.LinkDeeds.Deed.{Open, End, Answer, GiveMore}
 use Rattle.sv_out.specs.declared.order.Order.{Order}
@@ -70,13 +72,25 @@ use Rattle.sv_runs.specs.RunBook.{RunBook, heard, living, lost, new_tokens, pipe
 use Rattle.sv_streams.specs.StreamBook as output
 use Rattle.sv_streams.specs.StreamBook.{StreamRecord}
 use Rattle.sv_streams.specs.declared.owner.Owner.{Owner}
+use Rattle.sv_core_laws.proofs.LinkTells.{Tells}
 use Rattle.sv_core_laws.proofs.Answering.{Answering, kept_answered, NeverStarts, never_exits}
 use Rattle.sv_core_laws.proofs.Moving.{acts, met, spawn_begun, spawn_begun_as, start_met}
 
--- each answer leads to a stop that is related to the world in which it came; until it comes no call is touched
+-- a link that was given an order which failed ends
+abbrev pub is_loss : Deed → Bool
+is_loss (End link Lost) = true
+is_loss deed = false
+
+-- while a question stands only orders fail: no call is touched, links end, and the daemon goes on
+pub record Between (w v : World) : Type 0 where
+  pub calls : v.calls ≡ w.calls
+  pub told : Tells is_loss w v
+  pub halted : v.course.halted ≡ w.course.halted
+
+-- each answer leads to a stop that is related to the world in which it came
 abbrev pub Onward : (World → World → Type 0) → Turn → Type 0
 Onward R (Done w) = Unit {0}
-Onward R (Ask w q k) = (v : World) → v.calls ≡ w.calls → (reply : Reply) → R v (world_of (k v reply)) × Onward R (k v reply)
+Onward R (Ask w q k) = (v : World) → Between w v → (reply : Reply) → R v (world_of (k v reply)) × Onward R (k v reply)
 
 -- the stop is related to this world, and so on with each answer
 abbrev pub From : (World → World → Type 0) → World → Turn → Type 0
@@ -86,17 +100,28 @@ From R w t = R w (world_of t) × Onward R t
 abbrev pub does_with_link : LinkEntry → World → World
 does_with_link entry w = record w { links = after_deed entry.deed w.links; given = w.given ++ entry_orders entry w.links }
 
+-- what is said of a turn that goes on from a world: it is said of one before, and of a question where it is of each answer
+pub record Leading (R : World → World → Type 0) (G : World → Turn → Type 0) : Type 0 where
+  pub leads : (w v : World) (t : Turn) → R w v → G v t → G w t
+  pub asks : (w : World) (q : Question) (k : World → Reply → Turn)
+      → ((v : World) → Between w v → (reply : Reply) → G v (k v reply)) → G w (Ask w q k)
+
 -- a deed with a link that isn't the answer to its request
 abbrev pub is_answer : Deed → Bool
 is_answer (Answer link closes) = true
 is_answer deed = false
 
+-- the request of a link may be answered
+abbrev pub MayReply : (Deed → Bool) → LinkId → Type 0
+MayReply may link = (closes : Bool) → may (Answer link closes) ≡ true
+
 -- what the call of a link waits for doesn't go on any more
 abbrev pub MayAnswer : LinkId → World → Type 0
 MayAnswer link w = (waiting : Waiting) → waiting_at link w.calls ≡ Some waiting → waits w.children.all waiting ≡ false
 
--- the small steps of a turn, each of which the relation keeps
+-- the small steps of a turn, each of which the relation keeps, where what is done with links may be done
 pub record Steps (R : World → World → Type 0) : Type 0 where
+  pub may : Deed → Bool
   pub same : (w : World) → R w w
   pub follow : (u v w : World) → R u v → R v w → R u w
   pub rewound : (at : ℕ) (w : World) → R w (rewinds at w)
@@ -104,7 +129,7 @@ pub record Steps (R : World → World → Type 0) : Type 0 where
   pub meeting : (news : News) (c : ℕ) (w : World) → R w (met news c w)
   pub starting : (link : LinkId) (c : ℕ) (w : World) → R w (start_met link c w)
   pub killed : (c : ℕ) (signal : Signal) (group : Bool) (w : World) → R w (kills c signal group w)
-  pub steered : (course : Course) (w : World) → R w (record w { course = course })
+  pub steered : (course : Course) (w : World) → course.halted ≡ w.course.halted → R w (record w { course = course })
   pub ended : (w : World) → R w (record w { given = w.given ++ order.Halt ∷ [] })
   pub offered : (kind : Kind) (fact : Fact) (w : World) → R w (offers kind fact w)
   pub clocked : (clock : ℕ) (w : World) → R w (record w { clock = clock })
@@ -114,20 +139,17 @@ pub record Steps (R : World → World → Type 0) : Type 0 where
   pub sent : (run : Run) (c : ℕ) (w : World) → R w (sends run c w)
   pub logged : (log : LogSpec) (piece : List ℕ) (w : World) → R w (logs log piece w)
   pub written : (streams : List StreamRecord) (w : World) → R w (record w { streams = streams })
-  pub linked : (entry : LinkEntry) (w : World) → is_answer entry.deed ≡ false → R w (does_with_link entry w)
+  pub linked : (entry : LinkEntry) (w : World) → is_answer entry.deed ≡ false → may entry.deed ≡ true → R w (does_with_link entry w)
   pub read : (file : List ℕ) (start length : ℕ) (w : World) → R w (gives (order.ReadFile file start length) w)
   pub called : (deed : CallDeed) (w : World) → R w (record w { calls = call_done deed w.calls })
-  pub answered : (link : LinkId) (reply : CallReply) (w : World) → MayAnswer link w → R w (answers_call link reply w)
-  pub whole : (link : LinkId) (w : World) → R w (ends_call link w)
-  pub replied : (link : LinkId) (sent : Sent) (w : World) → R w (replies link sent w)
+  pub answered : (link : LinkId) (reply : CallReply) (w : World) → MayReply may link → MayAnswer link w → R w (answers_call link reply w)
+  pub whole : (link : LinkId) (w : World) → MayReply may link → R w (ends_call link w)
+  pub replied : (link : LinkId) (sent : Sent) (w : World) → MayReply may link → R w (replies link sent w)
   pub told : (run : Run) (bytes : List ℕ) (w : World) → R w (gives (order.Stdin run bytes) w)
   pub wiped : (file : List ℕ) (w : World) → R w (gives (order.ClearFile file) w)
   pub emptied : (file : List ℕ) (w : World) → R w (record w { sizes = cleared file w.sizes })
 
 module _ (R : World → World → Type 0) (s : Steps R) where
-  pub leads : (w v : World) (t : Turn) → R w v → From R v t → From R w t
-  leads w v t r f = (s.follow w v (world_of t) r f.0, f.1)
-
   -- a test, and either way the relation holds
   pub by_test : (b : Bool) (w one other : World) → R w one → R w other → R w (if b then one else other)
   by_test true w one other yes_holds no_holds = yes_holds
@@ -135,42 +157,6 @@ module _ (R : World → World → Type 0) (s : Steps R) where
 
   pub answering : Answering R
   answering = record { same = s.same; follow = s.follow; came = s.came; booked = s.booked; logged = s.logged; written = s.written }
-
-  pub kept_asks : (c : ℕ) (run : Run) (w : World) (k : World → Turn) → ((v : World) → From R v (k v)) → From R w (asks c run w k)
-  unfolding asks
-  kept_asks c run w k goes = (s.same w, λ v same reply. leads v (answered c run reply v) (k (answered c run reply v)) (kept_answered R answering c run reply v) (goes (answered c run reply v)))
-
-  -- a child was met, and what is done for it goes on
-  kept_spawns : (v : World) (c : ℕ) (w : World) (k : World → Turn) → R v (spawn_begun c w) → ((v : World) → From R v (k v)) → From R v (spawns c w k)
-  kept_spawns v c w k r goes = by_number (nat_le w.next_run 4294967295) r where
-    by_spawning : (spawning : Option SpawnOrder) → R v (spawn_begun_as spawning w) → From R v (spawns_as spawning c w k)
-    by_spawning None r = leads v w (k w) r (goes w)
-    by_spawning (Some spawning) r =
-        let run : Run = record { 0 = w.next_run } in
-        leads v (orders_spawn spawning w) (asks c run (orders_spawn spawning w) k) r (kept_asks c run (orders_spawn spawning w) k goes)
-
-    by_number : (b : Bool) → R v (if b then spawn_begun_as (spawn_at w.children c w.next_run) w else fails c w)
-        → From R v (if b then spawns_as (spawn_at w.children c w.next_run) c w k else k (fails c w))
-    by_number true r = by_spawning (spawn_at w.children c w.next_run) r
-    by_number false r = leads v (fails c w) (k (fails c w)) r (goes (fails c w))
-
-  kept_does : (v : World) (deed : Option ChildDeed) (c : ℕ) (w : World) (k : World → Turn) → R v (acts deed c w) → ((v : World) → From R v (k v))
-      → From R v (does deed c w k)
-  kept_does v None c w k r goes = leads v w (k w) r (goes w)
-  kept_does v (Some (Kill signal group)) c w k r goes = leads v (kills c signal group w) (k (kills c signal group w)) r (goes (kills c signal group w))
-  kept_does v (Some Spawn) c w k r goes = kept_spawns v c w k r goes
-
-  pub kept_meets : (news : News) (c : ℕ) (w : World) (k : World → Turn) → ((v : World) → From R v (k v)) → From R w (meets news c w k)
-  kept_meets news c w k goes =
-      let answer = says (stimulus_of news) c w in
-      let deed = deed_of (step_of answer) in
-      let v = moves (how_of news) c answer w in
-      kept_does w deed c (notes_if (killing_at news deed v.children c) v) k (s.meeting news c w) goes
-
-  pub kept_sweeps : (news : News) (left place : ℕ) (w : World) (k : World → Turn) → ((v : World) → From R v (k v)) → From R w (sweeps news left place w k)
-  kept_sweeps news zero place w k goes = goes w
-  kept_sweeps news (suc left) place w k goes =
-      kept_meets news place w (λ v. sweeps news left (place + 1) v k) (λ v. kept_sweeps news left (place + 1) v k goes)
 
   pub kept_change : (kind : Kind) (w : World) → R w (offers_change kind w)
   kept_change kind w = s.offered kind fact.Supervisor w
@@ -180,7 +166,7 @@ module _ (R : World → World → Type 0) (s : Steps R) where
       let course : Course = record w.course { announced = true } in
       let told = record w { course = course } in
       by_test w.course.announced w w (offers_change kind.SupervisorStateChangeRunning told) (s.same w)
-      (s.follow w told (offers_change kind.SupervisorStateChangeRunning told) (s.steered course w)
+      (s.follow w told (offers_change kind.SupervisorStateChangeRunning told) (s.steered course w refl)
       (kept_change kind.SupervisorStateChangeRunning told))
 
   kept_tick : (kind : Kind) (when : Option ℕ) (w : World) → R w (offers_tick kind when w)
@@ -311,12 +297,6 @@ module _ (R : World → World → Type 0) (s : Steps R) where
   pub kept_hands_out : (w : World) → R w (hands_out w)
   kept_hands_out w = kept_hands_from (length w.children.all - 0) 0 w
 
-  pub kept_sweeps_all : (news : News) (w : World) (k : World → Turn) → ((v : World) → From R v (k v)) → From R w (sweeps_all news w k)
-  kept_sweeps_all news w k goes = kept_sweeps news (length w.children.all - 0) 0 w k goes
-
-  pub kept_done : (w : World) → From R w (Done w)
-  kept_done w = (s.same w, tt)
-
   kept_signals : (deed : Option ChildDeed) (c : ℕ) (w : World) → R w (signals deed c w)
   kept_signals (Some (Kill signal group)) c w = s.killed c signal group w
   kept_signals (Some Spawn) c w = s.same w
@@ -342,7 +322,7 @@ module _ (R : World → World → Type 0) (s : Steps R) where
       let told = record w { course = record w.course { is_told = true } } in
       let span = span_of group w.children.roster in
       by_test (w.course.is_told || has_come_to_rest group w) w w (stops_all span told) (s.same w)
-      (s.follow w told (stops_all span told) (s.steered (record w.course { is_told = true }) w) (kept_stops_all span told))
+      (s.follow w told (stops_all span told) (s.steered (record w.course { is_told = true }) w refl) (kept_stops_all span told))
 
   kept_moves_on : (left : ℕ) (w : World) → R w (moves_on left w)
   kept_moves_on zero w = s.same w
@@ -351,7 +331,7 @@ module _ (R : World → World → Type 0) (s : Steps R) where
       let dropped = drops_group left told in
       by_test (has_come_to_rest left told) w (moves_on left dropped) told
       (s.follow w told (moves_on left dropped) (kept_tells_group left w)
-      (s.follow told dropped (moves_on left dropped) (s.steered dropped.course told) (kept_moves_on left dropped)))
+      (s.follow told dropped (moves_on left dropped) (s.steered dropped.course told refl) (kept_moves_on left dropped)))
       (kept_tells_group left w)
 
   pub kept_follows_plan : (w : World) → R w (follows_plan w)
@@ -360,31 +340,32 @@ module _ (R : World → World → Type 0) (s : Steps R) where
   -- ---- links
 
   -- something is done with a link, which leads to this world
-  kept_linked : (entry : LinkEntry) (w v : World) → is_answer entry.deed ≡ false → does_with_link entry w ≡ v → R w v
-  kept_linked entry w v other is = subst (λ u. R w u) is (s.linked entry w other)
+  kept_linked : (entry : LinkEntry) (w v : World) → is_answer entry.deed ≡ false → s.may entry.deed ≡ true → does_with_link entry w ≡ v → R w v
+  kept_linked entry w v other ok is = subst (λ u. R w u) is (s.linked entry w other ok)
 
   -- it is told nothing
-  pub kept_untold : (deed : Deed) (w : World) → is_answer deed ≡ false → deed_orders deed [] w.links ≡ []
+  pub kept_untold : (deed : Deed) (w : World) → is_answer deed ≡ false → s.may deed ≡ true → deed_orders deed [] w.links ≡ []
       → R w (record w { links = after_deed deed w.links })
-  kept_untold deed w other none =
-      kept_linked (record { deed = deed; bytes = [] }) w (record w { links = after_deed deed w.links }) other
+  kept_untold deed w other ok none =
+      kept_linked (record { deed = deed; bytes = [] }) w (record w { links = after_deed deed w.links }) other ok
       (ap (λ (given : List Order). record w { links = after_deed deed w.links; given = given })
       (ap (λ (more : List Order). w.given ++ more) none ∙ append-nil w.given))
 
-  pub kept_closes_all : (links : List LinkId) (w : World) → R w (closes_all links w)
-  kept_closes_all [] w = s.same w
-  kept_closes_all (link ∷ links) w =
+  pub kept_closes_all : (links : List LinkId) (w : World) → ((link : LinkId) → s.may (End link Closed) ≡ true) → R w (closes_all links w)
+  kept_closes_all [] w ok = s.same w
+  kept_closes_all (link ∷ links) w ok =
       let v = closes link w in
-      s.follow w v (closes_all links v) (s.linked (record { deed = End link Closed; bytes = [] }) w refl) (kept_closes_all links v)
+      s.follow w v (closes_all links v) (s.linked (record { deed = End link Closed; bytes = [] }) w refl (ok link)) (kept_closes_all links v ok)
 
-  pub kept_opens : (link : LinkId) (guard : Option Guard) (w : World) → link ≡ next_link w.links → R w (opens_for link guard w)
-  kept_opens link None w is = s.same w
-  kept_opens link (Some guard) w is =
-      subst (λ (number : LinkId). R w (opens_for number (Some guard) w)) (sym is) (s.linked (record { deed = Open guard; bytes = [] }) w refl)
+  pub kept_opens : (link : LinkId) (guard : Option Guard) (w : World) → link ≡ next_link w.links → ((guard : Guard) → s.may (Open guard) ≡ true)
+      → R w (opens_for link guard w)
+  kept_opens link None w is ok = s.same w
+  kept_opens link (Some guard) w is ok =
+      subst (λ (number : LinkId). R w (opens_for number (Some guard) w)) (sym is) (s.linked (record { deed = Open guard; bytes = [] }) w refl (ok guard))
 
-  pub kept_more : (link : LinkId) (w : World) → R w (gives_more link w)
-  kept_more link w =
-      kept_linked (record { deed = GiveMore link; bytes = [] }) w (gives_more link w) refl (by_due (link_book.more_is_due link w.links)) where
+  pub kept_more : (link : LinkId) (w : World) → s.may (GiveMore link) ≡ true → R w (gives_more link w)
+  kept_more link w ok =
+      kept_linked (record { deed = GiveMore link; bytes = [] }) w (gives_more link w) refl ok (by_due (link_book.more_is_due link w.links)) where
         by_due : (b : Bool)
             → record w { links = link_book.more_given link w.links; given = w.given ++ (if b then order.More link ∷ [] else []) }
             ≡ (if b then gives (order.More link) (record w { links = link_book.more_given link w.links })
@@ -392,3 +373,54 @@ module _ (R : World → World → Type 0) (s : Steps R) where
         by_due true = refl
         by_due false =
             ap (λ (given : List Order). record w { links = link_book.more_given link w.links; given = given }) (append-nil w.given)
+
+  -- the relation is such a saying itself
+  pub from_leads : Leading R (From R)
+  from_leads = record {
+    leads = λ w v t r f. (s.follow w v (world_of t) r f.0, f.1);
+    asks = λ w q k goes. (s.same w, goes);
+  }
+
+-- what is said of the turns that they begin
+module _ (R : World → World → Type 0) (s : Steps R) (G : World → Turn → Type 0) (g : Leading R G) where
+  pub kept_asks : (c : ℕ) (run : Run) (w : World) (k : World → Turn) → ((v : World) → G v (k v)) → G w (asks c run w k)
+  unfolding asks
+  kept_asks c run w k goes =
+      g.asks w question.Spawn (λ v reply. k (answered c run reply v))
+      (λ v between reply. g.leads v (answered c run reply v) (k (answered c run reply v)) (kept_answered R (answering R s) c run reply v)
+      (goes (answered c run reply v)))
+
+  -- a child was met, and what is done for it goes on
+  kept_spawns : (v : World) (c : ℕ) (w : World) (k : World → Turn) → R v (spawn_begun c w) → ((v : World) → G v (k v)) → G v (spawns c w k)
+  kept_spawns v c w k r goes = by_number (nat_le w.next_run 4294967295) r where
+    by_spawning : (spawning : Option SpawnOrder) → R v (spawn_begun_as spawning w) → G v (spawns_as spawning c w k)
+    by_spawning None r = g.leads v w (k w) r (goes w)
+    by_spawning (Some spawning) r =
+        let run : Run = record { 0 = w.next_run } in
+        g.leads v (orders_spawn spawning w) (asks c run (orders_spawn spawning w) k) r (kept_asks c run (orders_spawn spawning w) k goes)
+
+    by_number : (b : Bool) → R v (if b then spawn_begun_as (spawn_at w.children c w.next_run) w else fails c w)
+        → G v (if b then spawns_as (spawn_at w.children c w.next_run) c w k else k (fails c w))
+    by_number true r = by_spawning (spawn_at w.children c w.next_run) r
+    by_number false r = g.leads v (fails c w) (k (fails c w)) r (goes (fails c w))
+
+  kept_does : (v : World) (deed : Option ChildDeed) (c : ℕ) (w : World) (k : World → Turn) → R v (acts deed c w) → ((v : World) → G v (k v))
+      → G v (does deed c w k)
+  kept_does v None c w k r goes = g.leads v w (k w) r (goes w)
+  kept_does v (Some (Kill signal group)) c w k r goes = g.leads v (kills c signal group w) (k (kills c signal group w)) r (goes (kills c signal group w))
+  kept_does v (Some Spawn) c w k r goes = kept_spawns v c w k r goes
+
+  pub kept_meets : (news : News) (c : ℕ) (w : World) (k : World → Turn) → ((v : World) → G v (k v)) → G w (meets news c w k)
+  kept_meets news c w k goes =
+      let answer = says (stimulus_of news) c w in
+      let deed = deed_of (step_of answer) in
+      let v = moves (how_of news) c answer w in
+      kept_does w deed c (notes_if (killing_at news deed v.children c) v) k (s.meeting news c w) goes
+
+  pub kept_sweeps : (news : News) (left place : ℕ) (w : World) (k : World → Turn) → ((v : World) → G v (k v)) → G w (sweeps news left place w k)
+  kept_sweeps news zero place w k goes = goes w
+  kept_sweeps news (suc left) place w k goes =
+      kept_meets news place w (λ v. sweeps news left (place + 1) v k) (λ v. kept_sweeps news left (place + 1) v k goes)
+
+  pub kept_sweeps_all : (news : News) (w : World) (k : World → Turn) → ((v : World) → G v (k v)) → G w (sweeps_all news w k)
+  kept_sweeps_all news w k goes = kept_sweeps news (length w.children.all - 0) 0 w k goes

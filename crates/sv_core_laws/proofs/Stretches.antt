@@ -310,6 +310,7 @@ silent_link entry book = λ group name state.
 
 tries_steps : PlainSteps Tries
 tries_steps = record {
+  may = λ deed. true;
   same = λ w. quiet w w refl refl;
   follow = follow;
   rewound = λ at w. record {
@@ -325,7 +326,7 @@ tries_steps = record {
       adds_tries w (kills c signal group w)
       (record { crew = refl; more = kill_at w.children c signal group; added = refl; silent = killed_so w c signal group });
   ordered = λ spawning w. one_order w (orders_spawn spawning w) (order.Spawn spawning) refl refl (λ group name state. refl);
-  steered = λ course w. quiet w (record w { course = course }) refl refl;
+  steered = λ course w same. quiet w (record w { course = course }) refl refl;
   ended = λ w. one_order w (record w { given = w.given ++ order.Halt ∷ [] }) order.Halt refl refl (λ group name state. refl);
   offered = λ kind fact w. adds_tries w (offers kind fact w) (offered kind fact w);
   clocked = λ clock w. quiet w (record w { clock = clock }) refl refl;
@@ -341,7 +342,7 @@ tries_steps = record {
       });
   logged = λ log piece w. adds_tries w (logs log piece w) (logged log piece w);
   written = λ streams w. quiet w (record w { streams = streams }) refl refl;
-  linked = λ entry w.
+  linked = λ entry w ok.
       adds_tries w _ (record { crew = refl; more = entry_orders entry w.links; added = refl; silent = silent_link entry w.links });
   read = λ file start length w. one_order w (gives (order.ReadFile file start length) w) (order.ReadFile file start length) refl refl (λ group name state. refl);
   called = λ calls w. quiet w (record w { calls = calls }) refl refl;
@@ -369,9 +370,10 @@ each_tries (group ∷ groups) few place p is = in_group group group.members (pai
 
 pub few_times : (config : Config) (sizes : List (List ℕ × ℕ)) (host : Host) (inputs : List Input) → is_roster config.groups ≡ true
     → AllTryFewTimes config.groups → ChildrenTryFewTimes config (deeds (opening config sizes host) inputs)
+unfolding tries_steps
 few_times config sizes host inputs roster few place group spec is =
     let m = opening config sizes host in
-    let tries : Tries (now m) (now (after m inputs)) = kept_after Tries (plainly Tries tries_steps) m inputs tt in
+    let tries : Tries (now m) (now (after m inputs)) = kept_after Tries (plainly Tries tries_steps) (λ deed. refl) (λ w. quiet w _ refl refl) m inputs tt in
     let given : tries.more ≡ deeds m inputs = sym tries.added ∙ all_given config sizes host inputs in
     let led : Leads spec.startretries Stopped 0 (edges_told group.name spec.name tries.more) _ _ =
     subst (λ (from : State × ℕ). Leads spec.startretries from.0 from.1 (edges_told group.name spec.name tries.more)

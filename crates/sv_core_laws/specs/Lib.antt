@@ -1,9 +1,10 @@
-pub mod Path
 pub mod Account
-pub mod LogHistory
+pub mod CallHistory
+pub mod HaltReplies
 pub mod LinkHistory
 pub mod LinkReplies
-pub mod CallHistory
-pub mod Stretch
+pub mod LogHistory
+pub mod Path
 pub mod Starts
+pub mod Stretch
 pub mod WorkedJournals

@@ -2,12 +2,13 @@
 //! `sv_core`, which its machine keeps.
 #![tactic(auto)]
 
-ghost use Rattle.std.specs.Prelude.{◌≡◌, ◌≤◌, List, ℕ, IfSome};
+ghost use Rattle.std.specs.Prelude.{◌≡◌, ◌≤◌, List, ℕ, IfSome, true};
 ghost use Rattle.sv_base.specs.declared.config.Config.{Config};
 ghost use Rattle.sv_base.specs.declared.config.Host.{Host};
 ghost use Rattle.sv_core_laws.specs.Account.{HoldSome, PoolsAreAccountedFor, PoolsHaveAHistory};
 ghost use Rattle.sv_core.specs.Deeds.{after, deeds};
 ghost use Rattle.sv_core_laws.specs.CallHistory.{CallsHaveAHistory};
+ghost use Rattle.sv_core_laws.specs.HaltReplies.{RequestsAreAnswered};
 ghost use Rattle.sv_core_laws.specs.LinkHistory.{LinksHaveAHistory};
 ghost use Rattle.sv_core_laws.specs.LinkReplies.{RequestsGetReplies};
 ghost use Rattle.sv_core_laws.specs.LogHistory.{LogsHaveAHistory};
@@ -71,6 +72,15 @@ pub fn each_request_gets_one_reply()
     ensures { (config : Config) (sizes : List (List ℕ × ℕ)) (host : Host) (inputs : List Input) (number : ℕ) →
         RequestsGetReplies number (after (opening config sizes host) inputs)
         (deeds (opening config sizes host) inputs) }
+{}
+
+/// Whatever the machine is told, at its halt every link is over, and each request of a link has its one reply, in order, unless the
+/// client ended the link, an order to it failed, the reply before closes it, or a call of it still waits.
+pub fn each_request_is_answered_at_the_halt()
+    ensures { (config : Config) (sizes : List (List ℕ × ℕ)) (host : Host) (inputs : List Input) (number : ℕ) →
+        let m = after (opening config sizes host) inputs in
+        (now m).course.halted ≡ true
+        → RequestsAreAnswered number m (deeds (opening config sizes host) inputs) }
 {}
 
 /// Whatever the machine is told, what it sends to clients are the replies to their calls: each call is begun, its parts and its requests
