@@ -182,12 +182,12 @@ module _ (base : World) where
       (λ v. serves_left left m v k) (may_reply m)
       (λ v stood near. asks_served m left v (λ x. k (gives_more m x))
       (λ x stays on none.
-          let y = gives_more m x in
-          let more = kept_more (Goes (is_on m)) (goes_steps (is_on m)) m x (same_number m) in
-          let before = widened (is_answer_on m) (is_on m) w v (answers_within m) near in
-          goes y (stands_on x y (widened (is_on m) is_usual x y (on_within m) more.0, more.1) stays)
-          (tells.follow (is_on m) w v y before (tells.follow (is_on m) v x y on more.0))
-          (given_left x none))
+      let y = gives_more m x in
+      let more = kept_more (Goes (is_on m)) (goes_steps (is_on m)) m x (same_number m) in
+      let before = widened (is_answer_on m) (is_on m) w v (answers_within m) near in
+      goes y (stands_on x y (widened (is_on m) is_usual x y (on_within m) more.0, more.1) stays)
+      (tells.follow (is_on m) w v y before (tells.follow (is_on m) v x y on more.0))
+      (given_left x none))
       stood (left_first m near.all w.links v.links near.allowed near.links))
       stands (tells.same (is_answer_on m) w) where
         given_left : (x : World) → Left 0 m.0 x.links → Left 0 m.0 (gives_more m x).links
