@@ -1,4 +1,5 @@
 pub mod Kept
+pub mod Named
 pub mod Places
 pub mod Processes
 pub mod Seats

@@ -8,7 +8,7 @@ ghost use Rattle.sv_groups.specs.Changes.{Adds, Removes, stands, starts_before, 
 ghost use Rattle.sv_groups.specs.StartOrder.{first_of, members_at, processes};
 
 use crate::fault::GroupFault;
-use crate::lookup::place_of;
+use crate::names::Names;
 use crate::order::{Roster, count, first_members};
 use crate::seat::{more_seats, refill};
 use sv_base::ids::ChildId;
@@ -30,10 +30,12 @@ impl Roster {
             return Err(GroupFault::Already);
         }
         let place = place_for(self.groups(), &group);
+        let names = Names::with(*self.groups.allocator(), self.groups(), place, &group)?;
         let mut seats = more_seats(&self.seats, group.members.as_slice().len())?;
         self.groups.insert(place, group)?;
         refill(self.groups.as_slice(), &mut seats);
         self.seats = seats;
+        self.names = names;
         Ok(())
     }
 
@@ -45,7 +47,7 @@ impl Roster {
         requires { length children.now ≡ length (processes self.old) }
         ensures { Removes self.old name.now children.now self.new result }
     {
-        let Some(place) = place_of(self.groups(), name) else {
+        let Some(place) = self.place_of(name) else {
             return Err(GroupFault::Unknown);
         };
         if let Some(child) = still_running(self.groups(), place, children) {
@@ -61,7 +63,9 @@ impl Roster {
         ensures group { slice_get self.old place ≡ Some result }
         ensures others { self.new ≡ remove self.old place }
     {
+        let span = self.span(place);
         let group = self.groups.remove(place);
+        self.names.remove(place, span);
         refill(self.groups.as_slice(), &mut self.seats);
         group
     }

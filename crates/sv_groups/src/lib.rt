@@ -6,6 +6,7 @@
 mod changes;
 mod fault;
 mod lookup;
+mod names;
 mod order;
 mod seat;
 #[cfg(test)]

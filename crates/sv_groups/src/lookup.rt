@@ -1,13 +1,10 @@
 //! What a name of a command finds: a process, a group, or nothing.
-ghost use Rattle.std.specs.Prelude.{◌≡◌, ◌+◌, ◌≤◌, ◌<◌, IfSome, Some, None, length};
+ghost use Rattle.std.specs.Prelude.{◌≡◌, ◌<◌, IfSome, Some, None};
 ghost use Rattle.std.specs.List.{position_from};
-ghost use Rattle.std.specs.Str.{bytes_eq};
-ghost use Rattle.sv_base.specs.declared.spec.Spec.{Spec};
-ghost use Rattle.sv_groups.specs.Lookup.{found, found_by, is_called, names_in, place_of};
+ghost use Rattle.sv_groups.specs.Lookup.{found, found_by, is_called, names_of, place_of};
 
 use crate::order::Roster;
 use sv_base::ids::ChildId;
-use sv_base::spec::{GroupSpec, Spec};
 
 /// What a name of a command finds.
 #[derive(Clone, Copy, Debug, PartialEq, Eq)]
@@ -35,64 +32,33 @@ impl Roster {
     fn find_group(&self, name: &str) -> Found
         ensures { result ≡ found_by name.now None self.now }
     {
-        match place_of(self.groups(), name) {
+        match self.place_of(name) {
             Some(place) => Found::Group(place),
             None => Found::Nothing,
         }
     }
 
-    #[tactic(auto, using(crate::proofs::Places::place_here))]
     fn find_process(&self, group: &str, name: &str) -> Found
         ensures { result ≡ found_by group.now (Some name.now) self.now }
     {
-        let mut next = 0;
-        let mut left = self.groups();
-        while let [first, rest @ ..] = left {
-            if let Some(place) = place_in(next, first, group, name) {
-                return Found::One(ChildId(place as u32));
-            }
-            next += first.members.as_slice().len();
-            left = rest;
+        match self.place_of_process(group, name) {
+            Some(place) => Found::One(ChildId(place as u32)),
+            None => Found::Nothing,
         }
-        Found::Nothing
     }
-}
 
-/// The place of the group of this name.
-pub(crate) fn place_of(groups: &[GroupSpec], name: &str) -> Option<usize>
-    ensures { result ≡ place_of name.now groups.now }
-{
-    groups.iter().position(|group| group.name.as_str() == name)
-}
-
-/// The place of the process of these two names among the members of a group, where the first one's is `first`.
-fn place_in(first: usize, own: &GroupSpec, group: &str, name: &str) -> Option<usize>
-    requires { first + length own.now.members ≤ 1024 }
-    ensures value { result ≡ position_from (is_called group.now name.now) first (names_in own.now) }
-    ensures most { IfSome result (λ place. place < 1024) }
-{
-    if own.name.as_str() == group {
-        place_from(first, own.members.as_slice(), name)
-    } else {
-        None
+    /// The place of the group of this name.
+    pub(crate) fn place_of(&self, name: &str) -> Option<usize>
+        ensures { result ≡ place_of name.now self.now }
+    {
+        self.names.group(name)
     }
-}
-
-/// The place of the member of this name, where the first one's is `first`.
-fn place_from(first: usize, members: &[Spec], name: &str) -> Option<usize>
-    requires { first + length members.now ≤ 1024 }
-    ensures value { result
-        ≡ position_from (λ (m : Spec). bytes_eq m.name name.now) first members.now }
-    ensures most { IfSome result (λ place. place < 1024) }
-{
-    let mut next = first;
-    let mut left = members;
-    while let [member, rest @ ..] = left {
-        if member.name.as_str() == name {
-            return Some(next);
-        }
-        next += 1;
-        left = rest;
+    /// The place of the process of these two names in the start order.
+    fn place_of_process(&self, group: &str, name: &str) -> Option<usize>
+        ensures value { result
+            ≡ position_from (is_called group.now name.now) 0 (names_of self.now) }
+        ensures most { IfSome result (λ place. place < 1024) }
+    {
+        self.names.process(group, name)
     }
-    None
 }

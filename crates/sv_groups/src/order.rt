@@ -3,6 +3,7 @@ ghost use Rattle.std.specs.Prelude.{◌≡◌, ◌+◌, ◌≤◌, ◌<◌, ◌^
 ghost use Rattle.sv_base.specs.Roster.{is_roster};
 ghost use Rattle.sv_groups.specs.StartOrder.{first_members, ids_from, pairs_of, processes, span_of, start_order, stop_order};
 
+use crate::names::Names;
 use crate::seat::{Seat, empty_seats, refill};
 use std::alloc::{AllocError, Global};
 use std::marker::Model;
@@ -18,12 +19,15 @@ pub struct Roster {
     pub(crate) groups: Vec<GroupSpec>,
     /// Where each process is, in start order.
     pub(crate) seats: Vec<Seat>,
+    /// The names of the groups and of the processes, by which one is found.
+    pub(crate) names: Names,
 }
 
 impl Model for Roster {
     ghost use Rattle.std.specs.Prelude.{◌≡◌, List, IsTrue};
     ghost use Rattle.sv_base.specs.declared.spec.GroupSpec.{GroupSpec};
     ghost use Rattle.sv_base.specs.Roster.{is_roster};
+    ghost use Rattle.sv_groups.specs.Names.{Keeps};
     ghost use Rattle.sv_groups.specs.Seats.{seats_from};
 
     ghost Value = { List GroupSpec };
@@ -31,7 +35,8 @@ impl Model for Roster {
     ghost view = { λ r. r.groups.items };
 
     ghost invariant = { λ r.
-        IsTrue (is_roster r.groups.items) × (r.seats.items ≡ seats_from 0 r.groups.items) };
+        IsTrue (is_roster r.groups.items) × (r.seats.items ≡ seats_from 0 r.groups.items)
+        × Keeps r.names r.groups.items };
 }
 
 /// Processes side by side in the start order: from the one place to before the other, counted from 0.
@@ -54,7 +59,12 @@ impl Roster {
         }
         let mut seats = empty_seats(alloc, count(source))?;
         refill(groups.as_slice(), &mut seats);
-        Ok(Roster { groups, seats })
+        let names = Names::of(alloc, source)?;
+        Ok(Roster {
+            groups,
+            seats,
+            names,
+        })
     }
 
     /// The groups in start order, each with its members in start order.
