@@ -238,6 +238,62 @@ fn refused_and_removed(rt: HostRuntime) {
     assert!(rt; roster.process(3).is_none());
 }
 
+fn check_finds(rt: &impl Abort, roster: &Roster, wanted: &[(&str, Found)]) {
+    for (name, found) in wanted {
+        assert!(rt; roster.find(*name) == *found, "{name}");
+    }
+}
+
+/// What names find where a group stands between the others of the sample.
+const FINDS_WITH: [(&str, Found); 11] = [
+    ("mem", Found::One(ChildId(0))),
+    ("mem:", Found::Group(0)),
+    ("cat:cat", Found::One(ChildId(1))),
+    ("dog:a", Found::One(ChildId(2))),
+    ("dog:web_00", Found::One(ChildId(3))),
+    ("dog:*", Found::Group(2)),
+    ("dog", Found::Nothing),
+    ("front:web_00", Found::One(ChildId(4))),
+    ("front:*", Found::Group(3)),
+    ("tail", Found::One(ChildId(6))),
+    ("tail:", Found::Group(4)),
+];
+
+/// And where the group before it is gone then.
+const FINDS_WITHOUT: [(&str, Found); 10] = [
+    ("mem", Found::One(ChildId(0))),
+    ("cat", Found::Nothing),
+    ("cat:", Found::Nothing),
+    ("dog:a", Found::One(ChildId(1))),
+    ("dog:web_00", Found::One(ChildId(2))),
+    ("dog:", Found::Group(1)),
+    ("front:web_01", Found::One(ChildId(4))),
+    ("front:", Found::Group(2)),
+    ("tail", Found::One(ChildId(5))),
+    ("tail:*", Found::Group(3)),
+];
+
+#[test]
+fn found_before_and_behind(rt: HostRuntime) {
+    let alloc = rt.alloc();
+    let mut roster = sample(&rt, alloc);
+    let dog = group(&rt, alloc, "dog", 15, &["a", "web_00"]);
+    let added = add(&rt, &mut roster, dog);
+    assert!(rt; added.is_ok());
+    check_finds(&rt, &roster, &FINDS_WITH);
+    let again = add(&rt, &mut roster, group(&rt, alloc, "dog", 1, &["b"]));
+    assert!(rt; again.is_err());
+    let running = remove(&rt, alloc, &mut roster, "cat", 1, State::Running);
+    assert!(rt; running.is_err());
+    check_finds(&rt, &roster, &FINDS_WITH);
+    let cat = remove(&rt, alloc, &mut roster, "cat", 9, State::Running);
+    assert!(rt; cat.is_ok());
+    check_finds(&rt, &roster, &FINDS_WITHOUT);
+    let back = add(&rt, &mut roster, group(&rt, alloc, "cat", 10, &["cat"]));
+    assert!(rt; back.is_ok());
+    check_finds(&rt, &roster, &FINDS_WITH);
+}
+
 #[test]
 fn added_groups(rt: HostRuntime) {
     let alloc = rt.alloc();

@@ -1,7 +1,6 @@
 use Rattle.std.proofs.Common.{ap, ◌∙◌, List, ℕ}
 use Rattle.std.specs.List.{position}
 use Rattle.std.specs.Str.{bytes_eq}
-use Rattle.sv_base.specs.declared.spec.GroupSpec.{GroupSpec}
 use Rattle.sv_groups.proofs.Named.{group_place}
 use Rattle.sv_groups.specs.Lookup.{place_of}
 use Rattle.sv_groups.proofs.order.Roster.place_of.Goals as goal

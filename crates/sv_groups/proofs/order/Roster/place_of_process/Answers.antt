@@ -1,4 +1,4 @@
-use Rattle.std.proofs.Common.{◌≡◌, ◌≤◌, ap, arith, length, ◌∙◌, List, ℕ}
+use Rattle.std.proofs.Common.{◌≡◌, ap, arith, length, ◌∙◌, List, ℕ}
 use Rattle.std.specs.List.{position_from}
 use Rattle.sv_base.specs.declared.spec.GroupSpec.{GroupSpec}
 use Rattle.sv_groups.proofs.Named.{names_count, place_few, process_place}
