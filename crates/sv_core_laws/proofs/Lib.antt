@@ -1,6 +1,6 @@
 mod Account
 mod Accounts
-mod Answering
+pub mod Answering
 mod CallHistory
 mod CallSteps
 mod Closings
@@ -16,8 +16,8 @@ mod Moving
 mod NextLink
 mod NumbersBegin
 mod PlainSteps
-mod Reported
-mod Silent
+pub mod Reported
+pub mod Silent
 mod Spawning
 mod Steps
 mod Stretches
