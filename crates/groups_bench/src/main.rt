@@ -1,8 +1,6 @@
 //! Measures how long `find` takes among 1,024 names of processes and among 16. `bench/find` runs it.
 #![tactic(auto)]
 
-ghost use Rattle.std.specs.Prelude.{◌≤◌};
-
 use std::alloc::{AllocError, Global};
 use std::rt::Clock;
 use std::time::Instant;
@@ -18,41 +16,50 @@ use sv_base::text::Text;
 use sv_groups::{Found, Roster};
 
 /// How many names are looked up in one measurement.
-const FINDS: u64 = 1_048_576;
+const FINDS: u64 = 131_072;
 
-/// How many times each is measured; the least time counts.
-const ROUNDS: u64 = 8;
+/// How many times each is measured, in turn with the other; the least time counts.
+const ROUNDS: u64 = 60;
 
 /// How many processes a group has.
 const MEMBERS: u32 = 4;
+
+/// A roster, and the full names of its processes.
+#[derive(Drop)]
+struct Case {
+    roster: Roster,
+    names: Vec<String>,
+}
 
 fn main(rt: HostRuntime) -> io::Result<()> {
     // Run without an argument it measures nothing, so that what it prints is always the same.
     if env::args(&rt)?.count() < 2 {
         return Ok(());
     }
-    let few = measured(&rt, rt.alloc(), 4)?;
-    let many = measured(&rt, rt.alloc(), 256)?;
-    println!(rt; "{many} {few}")
+    match (case_of(rt.alloc(), 256)?, case_of(rt.alloc(), 4)?) {
+        (Some(many), Some(few)) => measure(&rt, &many, &few),
+        _ => Ok(()),
+    }
 }
 
-/// Microseconds for so many look-ups where there are so many groups.
-fn measured(rt: &impl Clock, alloc: Global, groups: u32) -> io::Result<u64> {
-    let Some(roster) = roster(alloc, groups)? else {
-        return Ok(0);
-    };
-    let names = names(alloc, groups)?;
-    let mut least = u64::MAX;
+/// Prints the nanoseconds of so many look-ups, each of the two.
+fn measure(rt: &HostRuntime, many: &Case, few: &Case) -> io::Result<()> {
+    let mut of_many = u64::MAX;
+    let mut of_few = u64::MAX;
     for _ in 0..ROUNDS {
-        let start = Instant::now(rt)?;
-        let found = found_among(&roster, names.as_slice());
-        let time = u64::try_from(start.elapsed(rt)?.as_micros()).unwrap_or(u64::MAX);
-        // A look-up that finds nothing would be no measure.
-        if found == FINDS {
-            least = least.min(time);
-        }
+        of_many = of_many.min(time(rt, many)?);
+        of_few = of_few.min(time(rt, few)?);
     }
-    Ok(least)
+    println!(rt; "{of_many} {of_few}")
+}
+
+/// Nanoseconds for the look-ups.
+fn time(rt: &impl Clock, case: &Case) -> io::Result<u64> {
+    let start = Instant::now(rt)?;
+    let found = found_among(&case.roster, case.names.as_slice());
+    let time = u64::try_from(start.elapsed(rt)?.as_nanos()).unwrap_or(u64::MAX);
+    // A look-up that finds nothing would be no measure.
+    Ok(if found == FINDS { time } else { u64::MAX })
 }
 
 /// How many of the look-ups, which go over these names again and again, find one process.
@@ -70,15 +77,18 @@ fn found_among(roster: &Roster, names: &[String]) -> u64 {
 }
 
 /// A roster with so many groups, unless they are too many.
-fn roster(alloc: Global, groups: u32) -> Result<Option<Roster>, AllocError> {
+fn case_of(alloc: Global, count: u32) -> Result<Option<Case>, AllocError> {
     let mut specs = Vec::new(alloc);
-    for number in 0..groups {
+    for number in 0..count {
         specs.push(group(alloc, number)?)?;
     }
-    match Groups::new(specs) {
-        Some(groups) => Ok(Some(Roster::new(alloc, &config(alloc, groups))?)),
-        None => Ok(None),
-    }
+    let Some(groups) = Groups::new(specs) else {
+        return Ok(None);
+    };
+    Ok(Some(Case {
+        roster: Roster::new(alloc, &config(alloc, groups))?,
+        names: names(alloc, count)?,
+    }))
 }
 
 /// The full names of the processes of so many groups.
