@@ -1,4 +1,5 @@
 //! Deadlines that were set and cleared, with who is due, worked out by hand.
+ghost use Rattle.std.specs.Prelude.{◌≡◌};
 
 use crate::agenda::Agenda;
 use crate::due::Due;
@@ -76,7 +77,9 @@ fn no_children_are_never_due(rt: HostRuntime) -> Result<(), AllocError> {
 }
 
 /// The number of the child that is next, and how many were looked at for it.
-fn told(agenda: &mut Agenda, from: usize, now: Moment) -> (Option<u32>, usize) {
+fn told(agenda: &mut Agenda, from: usize, now: Moment) -> (Option<u32>, usize)
+    ensures { agenda.new ≡ agenda.old }
+{
     let next = agenda.next(from, now);
     (next.child.map(|child| child.0), next.looks)
 }
