@@ -65,7 +65,11 @@ fn time(rt: &impl Clock, case: &mut Case) -> io::Result<u64> {
     let found = turn_all(case);
     let time = u64::try_from(start.elapsed(rt)?.as_nanos()).unwrap_or(u64::MAX);
     // Turns in which no child is due would be no measure.
-    Ok(if found == u64::from(TURNS) { time } else { u64::MAX })
+    Ok(if found == u64::from(TURNS) {
+        time
+    } else {
+        u64::MAX
+    })
 }
 
 /// A deadline of one child after another is set, settled and cleared; how many of them were looked at.
