@@ -34,7 +34,8 @@ fn main(rt: HostRuntime) -> io::Result<()> {
     }
     let mut many = case_of(&rt, 1_024)?;
     let mut few = case_of(&rt, 16)?;
-    measure(&rt, &mut many, &mut few)
+    measure(&rt, &mut many, 1, &mut few)?;
+    measure(&rt, &mut many, 64, &mut few)
 }
 
 /// So many children, of which none has a deadline.
@@ -48,21 +49,21 @@ fn case_of(rt: &HostRuntime, children: u32) -> Result<Case, AllocError>
     })
 }
 
-/// Prints the nanoseconds of so many turns, each of the two.
-fn measure(rt: &HostRuntime, many: &mut Case, few: &mut Case) -> io::Result<()> {
+/// Prints the nanoseconds of so many turns, each of the two, where each so many of the many children has its turn.
+fn measure(rt: &HostRuntime, many: &mut Case, step: u32, few: &mut Case) -> io::Result<()> {
     let mut of_many = u64::MAX;
     let mut of_few = u64::MAX;
     for _ in 0..ROUNDS {
-        of_many = of_many.min(time(rt, many)?);
-        of_few = of_few.min(time(rt, few)?);
+        of_many = of_many.min(time(rt, many, step)?);
+        of_few = of_few.min(time(rt, few, 1)?);
     }
     println!(rt; "{of_many} {of_few}")
 }
 
 /// Nanoseconds for the turns.
-fn time(rt: &impl Clock, case: &mut Case) -> io::Result<u64> {
+fn time(rt: &impl Clock, case: &mut Case, step: u32) -> io::Result<u64> {
     let start = Instant::now(rt)?;
-    let found = turn_all(case);
+    let found = turn_all(case, step);
     let time = u64::try_from(start.elapsed(rt)?.as_nanos()).unwrap_or(u64::MAX);
     // Turns in which no child is due would be no measure.
     Ok(if found == u64::from(TURNS) {
@@ -73,10 +74,10 @@ fn time(rt: &impl Clock, case: &mut Case) -> io::Result<u64> {
 }
 
 /// A deadline of one child after another is set, settled and cleared; how many of them were looked at.
-fn turn_all(case: &mut Case) -> u64 {
+fn turn_all(case: &mut Case, step: u32) -> u64 {
     let mut found = 0u64;
     for turn in 0..TURNS {
-        found = found.saturating_add(turn_one(case, turn));
+        found = found.saturating_add(turn_one(case, turn.wrapping_mul(step)));
     }
     found
 }
