@@ -1,5 +1,4 @@
 pub mod Kept
 pub mod Named
-pub mod Places
 pub mod Processes
 pub mod Seats

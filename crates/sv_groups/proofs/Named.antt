@@ -16,12 +16,16 @@ use Rattle.sv_base.specs.Roster.{are_memberships, is_roster}
 use Rattle.sv_base.specs.declared.spec.GroupSpec.{GroupSpec}
 use Rattle.sv_base.specs.declared.spec.Spec.{Spec}
 use Rattle.sv_groups.proofs.Kept.{neither, none_of, not_true}
-use Rattle.sv_groups.proofs.Places.{names_length}
 use Rattle.sv_groups.proofs.Processes.{both}
 use Rattle.sv_groups.specs.Alike.{same_names}
 use Rattle.sv_groups.specs.Lookup.{is_called, names_in, names_of, place_of}
 use Rattle.sv_groups.specs.Names.{group_names, with_names, with_processes}
 use Rattle.sv_groups.specs.StartOrder.{first_of, members_at, processes}
+
+-- a group has as many names as members
+names_length : (own : List ℕ) (members : List Spec) → length {A = List ℕ × List ℕ} (map (λ (m : Spec). (own, m.name)) members) ≡ length members
+names_length own [] = refl
+names_length own (m ∷ ms) = omega (arith, names_length own ms)
 
 -- where something stands among the names of these, it stands among these
 place_through : {X T : Type 0} (f : X → T) (test : T → Bool) (first : ℕ) (xs : List X) → position_from test first (map f xs) ≡ position_from (λ (x : X). test (f x)) first xs

@@ -21,4 +21,5 @@ with_processes names groups = fold (insert_key same_names) names (names_of group
 
 -- the index has the names of these groups and of their processes, and each at its place
 abbrev pub Keeps : Names → List GroupSpec → Type 0
-Keeps names groups = (names.groups.keys ≡ group_names groups) × (names.processes.keys ≡ names_of groups)
+Keeps names groups =
+    (names.groups.keys ≡ group_names groups) × (names.processes.keys ≡ names_of groups)
