@@ -26,9 +26,11 @@ pub(crate) fn failure_of(order: &Order) -> Failure
 {
     match order {
         Order::State { .. } | Order::Dropped { .. } | Order::Halt => Failure::NeverFails,
-        Order::Spawn(_) | Order::ReadFile { .. } | Order::ClearFile { .. } => {
-            Failure::RefusesQuestion
-        }
+        Order::Spawn(_)
+        | Order::ReadFile { .. }
+        | Order::ClearFile { .. }
+        | Order::Names { .. }
+        | Order::Size { .. } => Failure::RefusesQuestion,
         Order::Stdin { run, .. } => Failure::LosesStdin(*run),
         Order::Send { link, .. } | Order::More { link } | Order::Close { link } => {
             Failure::LosesLink(*link)

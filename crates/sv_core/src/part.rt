@@ -14,6 +14,7 @@ use sv_base::state::{How, Side, Stream};
 use sv_base::text::Text;
 use sv_children::Told;
 use sv_out::input::Input;
+use sv_out::rising::RisingNames;
 
 /// What is asked of the world, and answered before the turn goes on.
 #[derive(Clone, Copy, Debug)]
@@ -43,6 +44,10 @@ pub enum Reply {
     Missing,
     /// The file is empty now.
     Done,
+    /// The names of these files; no question that is asked wants them.
+    Names(RisingNames),
+    /// The file has so many bytes; no question that is asked wants to know.
+    Size(u64),
     /// The file couldn't be read, or cleared.
     Failed,
 }
@@ -152,6 +157,8 @@ pub(crate) fn part_of(input: Input) -> Part
         Input::Read(bytes) => Part::Answers(Reply::Read(bytes)),
         Input::Done => Part::Answers(Reply::Done),
         Input::Missing => Part::Answers(Reply::Missing),
+        Input::Names(names) => Part::Answers(Reply::Names(names)),
+        Input::Size(size) => Part::Answers(Reply::Size(size)),
         Input::Failed(number) => Part::Fails(number),
     }
 }

@@ -145,6 +145,8 @@ no_send (order.Shift from to ∷ orders) none = no_send orders none
 no_send (order.Fresh name ∷ orders) none = no_send orders none
 no_send (order.ReadFile name start length ∷ orders) none = no_send orders none
 no_send (order.ClearFile name ∷ orders) none = no_send orders none
+no_send (order.Names pattern ∷ orders) none = no_send orders none
+no_send (order.Size name ∷ orders) none = no_send orders none
 no_send (order.Dropped pool serial poolserial ∷ orders) none = no_send orders none
 no_send (order.Halt ∷ orders) none = no_send orders none
 

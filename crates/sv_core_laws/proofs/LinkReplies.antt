@@ -199,6 +199,8 @@ sent_to_links number (order.Shift from to ∷ orders) = sent_to_links number ord
 sent_to_links number (order.Fresh file ∷ orders) = sent_to_links number orders
 sent_to_links number (order.ReadFile file start length ∷ orders) = sent_to_links number orders
 sent_to_links number (order.ClearFile file ∷ orders) = sent_to_links number orders
+sent_to_links number (order.Names pattern ∷ orders) = sent_to_links number orders
+sent_to_links number (order.Size file ∷ orders) = sent_to_links number orders
 sent_to_links number (order.Halt ∷ orders) = sent_to_links number orders
 
 -- ---- all inputs

@@ -131,6 +131,8 @@ no_drop (order.Shift from to) is = cc
 no_drop (order.Fresh name) is = cc
 no_drop (order.ReadFile name start length) is = cc
 no_drop (order.ClearFile name) is = cc
+no_drop (order.Names pattern) is = cc
+no_drop (order.Size name) is = cc
 no_drop (order.Send link bytes) is = cc
 no_drop (order.More link) is = cc
 no_drop (order.Close link) is = cc
@@ -237,6 +239,8 @@ none_to_link (order.Shift from to ∷ orders) none = none_to_link orders none
 none_to_link (order.Fresh name ∷ orders) none = none_to_link orders none
 none_to_link (order.ReadFile name start length ∷ orders) none = none_to_link orders none
 none_to_link (order.ClearFile name ∷ orders) none = none_to_link orders none
+none_to_link (order.Names pattern ∷ orders) none = none_to_link orders none
+none_to_link (order.Size name ∷ orders) none = none_to_link orders none
 none_to_link (order.Dropped pool serial poolserial ∷ orders) none = none_to_link orders none
 none_to_link (order.Halt ∷ orders) none = none_to_link orders none
 

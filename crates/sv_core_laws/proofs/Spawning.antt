@@ -170,6 +170,8 @@ no_starts (order.Shift from to ∷ orders) silent = no_starts orders silent
 no_starts (order.Fresh name ∷ orders) silent = no_starts orders silent
 no_starts (order.ReadFile name start length ∷ orders) silent = no_starts orders silent
 no_starts (order.ClearFile name ∷ orders) silent = no_starts orders silent
+no_starts (order.Names pattern ∷ orders) silent = no_starts orders silent
+no_starts (order.Size name ∷ orders) silent = no_starts orders silent
 no_starts (order.Dropped pool serial poolserial ∷ orders) silent = no_starts orders silent
 no_starts (order.Send link bytes ∷ orders) silent = no_starts orders silent
 no_starts (order.More link ∷ orders) silent = no_starts orders silent
@@ -190,6 +192,8 @@ no_spawns (order.Shift from to ∷ orders) none = no_spawns orders none
 no_spawns (order.Fresh name ∷ orders) none = no_spawns orders none
 no_spawns (order.ReadFile name start length ∷ orders) none = no_spawns orders none
 no_spawns (order.ClearFile name ∷ orders) none = no_spawns orders none
+no_spawns (order.Names pattern ∷ orders) none = no_spawns orders none
+no_spawns (order.Size name ∷ orders) none = no_spawns orders none
 no_spawns (order.Dropped pool serial poolserial ∷ orders) none = no_spawns orders none
 no_spawns (order.Halt ∷ orders) none = no_spawns orders none
 

@@ -1,7 +1,7 @@
 -- Items read one after the other are the items read at once.
 use Rattle.std.proofs.Common.{◌≡◌, ℕ, zero, suc, ◌-◌, ◌<◌, List, [], ◌∷◌, ◌++◌, Result, Ok, Err, refl, sym, ap, ◌∙◌, arith, append_assoc, append-nil}
-use Rattle.sv_journal.specs.Reading.{Stops, ◌>>=◌}
-use Rattle.sv_journal.specs.OrderReading.{with_item, with_items, items_at}
+use Rattle.sv_journal.specs.Reading.{Stops, ◌>>=◌, with_item}
+use Rattle.sv_journal.specs.OrderReading.{with_items, items_at}
 use Rattle.sv_journal.specs.declared.stop.Stop.{Stop}
 use Rattle.sv_journal.specs.declared.stop.Stop.TheVariants.{At, OutOfMemory}
 
@@ -16,7 +16,7 @@ pub items_none : {A : Type 0} (item_at : List ℕ → Result (A × List ℕ) ℕ
 items_none item_at zero bs xs all none e = sym e ∙ ap (λ ys. Ok (ys, bs)) (append-nil xs)
 items_none item_at (suc n) bs xs all none e = absurd (omega arith)
 
-joins : {A : Type 0} (xs : List A) (x : A) (r : Result (List A × List ℕ) ℕ) → with_items xs (with_item x r) ≡ with_items (xs ++ x ∷ []) r
+pub joins : {A : Type 0} (xs : List A) (x : A) (r : Result (List A × List ℕ) ℕ) → with_items xs (with_item x r) ≡ with_items (xs ++ x ∷ []) r
 joins xs x (Ok r) = ap (λ ys. Ok (ys, r.1)) (sym (append_assoc xs (x ∷ []) r.0))
 joins xs x (Err left) = refl
 
@@ -33,7 +33,7 @@ items_more item_at (suc m) n bs rest xs ys x all some fewer longer read e =
     ∙ ap (λ r. with_items xs (r >>= (λ r. with_item r.0 (items_at item_at m r.1)))) (sym read)
     ∙ e
 
-stops_so : {A : Type 0} (stop : Stop) (xs : List A) (r : Result (A × List ℕ) ℕ) (next : A × List ℕ → Result (List A × List ℕ) ℕ) (all : Result (List A × List ℕ) ℕ)
+pub stops_so : {A : Type 0} (stop : Stop) (xs : List A) (r : Result (A × List ℕ) ℕ) (next : A × List ℕ → Result (List A × List ℕ) ℕ) (all : Result (List A × List ℕ) ℕ)
     → Stops stop r → with_items xs (r >>= next) ≡ all → Stops stop all
 stops_so (At left) xs (Ok x) next all stopped e = cc stopped
 stops_so (At left) xs (Err other) next all stopped e = sym e ∙ ap (λ (r : Result _ ℕ). with_items xs (r >>= next)) stopped

@@ -1,6 +1,7 @@
 -- Each line that is read as an input is the line of that input, and the line of each input is read as it.
-use Rattle.std.proofs.Common.{◌≡◌, ℕ, ◌+◌, ◌%◌, ◌^◌, ◌<◌, ◌≤◌, ◌≢◌, Bool, true, false, cond, List, [], ◌∷◌, ◌++◌, Result, Ok, refl, sym, ap, ◌∙◌, subst, arith, append_assoc, append-nil, IsUtf8}
+use Rattle.std.proofs.Common.{◌≡◌, ℕ, ◌+◌, ◌%◌, ◌^◌, ◌<◌, ◌≤◌, ◌≢◌, Bool, true, false, cond, List, [], ◌∷◌, ◌++◌, length, Result, Ok, None, refl, sym, ap, ◌∙◌, subst, arith, append_assoc, append-nil, IsUtf8}
 use Rattle.std.specs.Prelude.{codes}
+use Rattle.std.specs.List.{flat_map}
 use Rattle.std.specs.Fmt.{decimal}
 use Rattle.std.proofs.lemmas.Fmt.{decimal_by_steps}
 use Rattle.sv_base.specs.Limits.{moment_limit}
@@ -12,8 +13,10 @@ use Rattle.sv_base.specs.declared.state.Stream.{Stream}
 use Rattle.sv_base.specs.declared.state.Stream.TheVariants as stream_is
 use Rattle.sv_base.specs.declared.state.Side.{Side}
 use Rattle.sv_base.specs.declared.state.Side.TheVariants as side_is
+use Rattle.sv_out.specs.Files.{AreRising}
 use Rattle.sv_out.specs.declared.input.Input.{Input}
 use Rattle.sv_out.specs.declared.input.Input.TheVariants as input_is
+use Rattle.sv_out.proofs.NamesInOrder.{rise_rising, rising_rise}
 use Rattle.sv_journal.specs.declared.words.Verb.{Verb}
 use Rattle.sv_journal.specs.declared.words.Verb.TheVariants as verb_is
 use Rattle.sv_base.specs.declared.signal.Signal.TheVariants as signal_is
@@ -27,13 +30,16 @@ use Rattle.sv_journal.specs.declared.token.Letters.{Letters}
 use Rattle.sv_journal.specs.declared.token.Letters.TheVariants.{OfText, OfBytes}
 use Rattle.sv_journal.specs.Limits.{number_limit, run_limit}
 use Rattle.sv_journal.specs.Spelling.{token}
-use Rattle.sv_journal.specs.JournalLine.{IsPiece, how_words, FitsHow, stream_word, stream_end_word, side_word, input_line, FitsInput}
+use Rattle.sv_journal.specs.JournalLine.{IsPiece, AreTexts, then_token, how_words, FitsHow, stream_word, stream_end_word, side_word, input_line, FitsInput}
+use Rattle.sv_journal.specs.Names.{names_at}
 use Rattle.sv_journal.specs.Reading.{◌>>=◌, end_at, keyword_at}
-use Rattle.sv_journal.specs.ReadingLines.{verb_word, verbs, told_signal, told_signals, told_word, ending_word, endings, answer_word, answers, sides, word_then, keyword_then, number_then, last_token_then, last_piece_then, how_at, exit_at, out_at, out_end_at, open_at, link_piece_at, link_end_at, event_of, event_at, answer_of, answer_at, begins_with_digit, input_at}
-use Rattle.sv_journal.proofs.LineParts.{end_takes, word_then_takes, keyword_then_takes, number_then_takes, last_token_takes}
+use Rattle.sv_journal.specs.ReadingLines.{verb_word, verbs, told_signal, told_signals, told_word, ending_word, endings, answer_word, answers, sides, word_then, keyword_then, number_then, last_token_then, last_piece_then, how_at, exit_at, out_at, out_end_at, open_at, link_piece_at, link_end_at, event_of, event_at, names_line_at, answer_of, answer_at, begins_with_digit, input_at}
+use Rattle.sv_journal.proofs.AboveLaws.{begin_above, names_take, names_plain, names_again}
+use Rattle.sv_journal.proofs.LineParts.{bind_then, end_takes, word_then_takes, keyword_then_takes, number_then_takes, last_token_takes}
 use Rattle.sv_journal.proofs.Names.{good_text, text_good, good_bytes, bytes_good}
 use Rattle.sv_journal.proofs.NumberLaws.{IsLimit, number_again, digit_from}
 use Rattle.sv_journal.proofs.PieceLaws.{last_piece_takes, end_piece}
+use Rattle.sv_journal.proofs.Sharp.{plain_no_digit}
 use Rattle.sv_journal.proofs.TokenLaws.{Good, token_again}
 
 pub moment_fits : IsLimit moment_limit
@@ -219,6 +225,21 @@ event_takes bs i e =
       fits = m.fits;
     })))
 
+names_line_takes : (bs : List ℕ) (i : Input) → names_line_at bs ≡ Ok i → Meant (codes "names " ++ bs) i
+unfolding names_line_at
+names_line_takes bs i e =
+    number_then_takes 0 number_limit (λ n bs. names_at None n bs >>= (λ r. end_at (input_is.Names r.0) r.1)) bs i number_fits e (λ n rest taken e.
+    bind_then (names_at None n rest) (λ r. end_at (input_is.Names r.0) r.1) i e (λ r is e.
+    let t = names_take None n rest r.0 r.1 is in
+    let end = end_takes (input_is.Names r.0) i r.1 e in
+    let whole : bs ≡ decimal (length r.0) ++ flat_map then_token r.0 =
+    taken.same ∙ ap (λ (l : List ℕ). decimal n ++ l) (t.same ∙ ap (λ (l : List ℕ). flat_map then_token r.0 ++ l) end.0 ∙ append-nil (flat_map then_token r.0))
+    ∙ ap (λ (m : ℕ). decimal m ++ flat_map then_token r.0) (sym t.count) in
+    record {
+      same = ap (λ (l : List ℕ). codes "names " ++ l) whole ∙ ap input_line end.1;
+      fits = subst FitsInput end.1 (t.texts, subst (λ (m : ℕ). m ≤ number_limit) (sym t.count) taken.high, rise_rising r.0 t.rises);
+    }))
+
 answer_of_takes : (answer : Answer) (bs : List ℕ) (i : Input) → answer_of answer bs ≡ Ok i → Meant (answer_word answer ++ bs) i
 unfolding answer_of
 answer_of_takes answer_is.Pid bs i e =
@@ -252,6 +273,14 @@ answer_of_takes answer_is.Done bs i e =
 answer_of_takes answer_is.Missing bs i e =
     let end = end_takes input_is.Missing i bs e in
     record { same = ap (λ (l : List ℕ). codes "missing" ++ l) end.0 ∙ ap input_line end.1; fits = subst FitsInput end.1 tt }
+answer_of_takes answer_is.Names bs i e = names_line_takes bs i e
+answer_of_takes answer_is.Size bs i e =
+    number_then_takes 0 number_limit (λ size. end_at (input_is.Size size)) bs i number_fits e (λ size rest taken e.
+    let end = end_takes (input_is.Size size) i rest e in
+    record {
+      same = ap (λ (l : List ℕ). codes "size " ++ l) (taken.same ∙ ap (λ (l : List ℕ). decimal size ++ l) end.0 ∙ append-nil (decimal size)) ∙ ap input_line end.1;
+      fits = subst FitsInput end.1 taken.high;
+    })
 answer_of_takes answer_is.Failed bs i e =
     number_then_takes 0 number_limit (λ number. end_at (input_is.Failed number)) bs i number_fits e (λ number rest taken e.
     let end = end_takes (input_is.Failed number) i rest e in
@@ -319,6 +348,8 @@ answer_again answer_is.Refused rest = refl
 answer_again answer_is.Bytes rest = refl
 answer_again answer_is.Done rest = refl
 answer_again answer_is.Missing rest = refl
+answer_again answer_is.Names rest = refl
+answer_again answer_is.Size rest = refl
 answer_again answer_is.Failed rest = refl
 
 pub decimal_begins : (n : ℕ) (rest : List ℕ) → n < 2 ^ 64 → begins_with_digit (decimal n ++ rest) ≡ true
@@ -406,7 +437,23 @@ answer_then answer_is.Refused rest = refl
 answer_then answer_is.Bytes rest = refl
 answer_then answer_is.Done rest = refl
 answer_then answer_is.Missing rest = refl
+answer_then answer_is.Names rest = refl
+answer_then answer_is.Size rest = refl
 answer_then answer_is.Failed rest = refl
+
+begin_any : (names : List (List ℕ)) → begin_above None names ≡ true
+begin_any [] = refl
+begin_any (name ∷ names) = refl
+
+names_line_again : (names : List (List ℕ)) → AreTexts names → length names ≤ number_limit → AreRising names
+    → names_line_at (decimal (length names) ++ flat_map then_token names) ≡ Ok (input_is.Names names)
+unfolding names_line_at
+names_line_again names texts few rising =
+    ap (λ (l : List ℕ). names_line_at (decimal (length names) ++ l)) (sym (append-nil (flat_map then_token names)))
+    ∙ ap (λ (r : Result (ℕ × List ℕ) ℕ). r >>= (λ r. names_at None r.0 r.1 >>= (λ r. end_at (input_is.Names r.0) r.1)))
+    (number_again 0 number_limit (length names) (flat_map then_token names ++ []) number_fits (omega arith) (omega arith) few (plain_no_digit (flat_map then_token names ++ []) (names_plain names [] refl)))
+    ∙ ap (λ (r : Result (List (List ℕ) × List ℕ) ℕ). r >>= (λ r. end_at (input_is.Names r.0) r.1))
+    (names_again None names [] texts (begin_any names) (rising_rise names rising) refl)
 
 signal_again : (at : ℕ) (told : Told) → at ≤ moment_limit → input_at (input_line (input_is.Signal at (told_signal told))) ≡ Ok (input_is.Signal at (told_signal told))
 unfolding event_of
@@ -452,6 +499,8 @@ input_again input_is.NotExecutable fits = answer_then answer_is.NotExecutable []
 input_again (input_is.Read bytes) fits = answer_then answer_is.Bytes (token bytes) ∙ end_token OfBytes (λ bytes. input_is.Read bytes) bytes (good_bytes bytes fits)
 input_again input_is.Done fits = answer_then answer_is.Done []
 input_again input_is.Missing fits = answer_then answer_is.Missing []
+input_again (input_is.Names names) fits = answer_then answer_is.Names (decimal (length names) ++ flat_map then_token names) ∙ names_line_again names fits.0 fits.1 fits.2
+input_again (input_is.Size size) fits = answer_then answer_is.Size (decimal size) ∙ end_number 0 number_limit size (λ size. input_is.Size size) number_fits (omega arith) (omega arith) fits
 input_again (input_is.Failed number) fits = answer_then answer_is.Failed (decimal number) ∙ end_number 0 number_limit number (λ number. input_is.Failed number) number_fits (omega arith) (omega arith) fits
 input_again (input_is.Refused reason) fits = answer_then answer_is.Refused (token reason) ∙ end_text (λ reason. input_is.Refused reason) reason fits
 

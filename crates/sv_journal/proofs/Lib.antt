@@ -1,8 +1,10 @@
+pub mod AboveLaws
 pub mod Codes
 pub mod Columns
 pub mod Counted
 pub mod CommaLaws
 pub mod Commas
+pub mod Escapes
 pub mod HeaderLaws
 pub mod InputLaws
 pub mod OneMeaning
@@ -17,8 +19,10 @@ pub mod OrderLaws
 pub mod OrderParts
 pub mod PieceLaws
 pub mod PlainOrders
+pub mod ReadingNames
 pub mod Results
 pub mod Sharp
+pub mod SharpAbove
 pub mod SharpCodes
 pub mod SharpLines
 pub mod SharpOrders

@@ -1,7 +1,7 @@
 -- No line holds a line feed.
-use Rattle.std.proofs.Common.{◌≡◌, ℕ, ◌+◌, ◌/◌, ◌%◌, ◌^◌, ◌<◌, true, false, not, ◌&&◌, eqb, leb, List, [], ◌∷◌, ◌++◌, inl, inr, refl, sym, ◌∙◌, subst, arith}
+use Rattle.std.proofs.Common.{◌≡◌, ℕ, ◌+◌, ◌/◌, ◌%◌, ◌^◌, ◌<◌, ◌≤◌, true, false, not, ◌&&◌, eqb, leb, List, [], ◌∷◌, ◌++◌, length, inl, inr, refl, sym, ◌∙◌, subst, arith}
 use Rattle.std.specs.Prelude.{codes}
-use Rattle.std.specs.List.{list_any, list_all}
+use Rattle.std.specs.List.{flat_map, list_any, list_all}
 use Rattle.std.specs.Fmt.{decimal}
 use Rattle.std.proofs.lemmas.Bool.{cases_Bool, cases_lt, lt-ltb, le-ltb, ne_eqb, and_parts, leb-true}
 use Rattle.std.proofs.lemmas.Fmt.{decimal_by_steps}
@@ -22,8 +22,9 @@ use Rattle.sv_out.specs.declared.input.Input.TheVariants as input_is
 use Rattle.sv_journal.specs.declared.header.Header.{Header}
 use Rattle.sv_journal.specs.declared.header.Header.TheVariants as header_is
 use Rattle.sv_journal.specs.declared.header.Program.{Program}
+use Rattle.sv_journal.specs.Limits.{number_limit}
 use Rattle.sv_journal.specs.Spelling.{stands_for_itself, hex_digit, byte_spelling, bytes_spelling, token, comma_list}
-use Rattle.sv_journal.specs.JournalLine.{how_words, FitsHow, stream_word, stream_end_word, side_word, input_line, FitsInput, autorestart_word, is_exit_code, header_line, FitsHeader, program_line, FitsProgram}
+use Rattle.sv_journal.specs.JournalLine.{how_words, FitsHow, stream_word, stream_end_word, side_word, then_token, counted_words, input_line, FitsInput, autorestart_word, is_exit_code, header_line, FitsHeader, program_line, FitsProgram}
 use Rattle.sv_journal.proofs.TokenLaws.{spelled_itself, spelled_escaped}
 
 abbrev pub Plain : List ℕ → Type 0
@@ -113,6 +114,18 @@ spaced front part p q = joined (front ++ codes " ") part (joined front (codes " 
 numbered : (at : ℕ) (word : List ℕ) (n : ℕ) → at < 2 ^ 64 → n < 2 ^ 64 → Plain word → Plain (decimal at ++ word ++ decimal n)
 numbered at word n early small plain = joined (decimal at ++ word) (decimal n) (after_number at word early plain) (number n small)
 
+-- a text behind a space
+pub behind : (v : List ℕ) → Plain (then_token v)
+behind v = joined (codes " ") (token v) refl (text v)
+
+pub words : (xs : List (List ℕ)) → Plain (flat_map then_token xs)
+words [] = refl
+words (x ∷ xs) = joined (then_token x) (flat_map then_token xs) (behind x) (words xs)
+
+-- how many items there are, and each of them
+pub counted_list : (n : ℕ) (items : List ℕ) → n ≤ number_limit → Plain items → Plain (codes " " ++ decimal n ++ items)
+counted_list n items small plain = joined (codes " " ++ decimal n) items (joined (codes " ") (decimal n) refl (number n (omega arith))) plain
+
 pub plain_input : (i : Input) → FitsInput i → Plain (input_line i)
 plain_input (input_is.Tick at) fits = after_number at (codes " tick") (omega arith) refl
 plain_input (input_is.Exit at run how_ended) fits =
@@ -157,6 +170,8 @@ plain_input input_is.NotExecutable fits = refl
 plain_input (input_is.Read bytes) fits = joined (codes "bytes ") (token bytes) refl (text bytes)
 plain_input input_is.Done fits = refl
 plain_input input_is.Missing fits = refl
+plain_input (input_is.Names names) fits = joined (codes "names") (counted_words names) refl (counted_list (length names) (flat_map then_token names) fits.1 (words names))
+plain_input (input_is.Size size) fits = joined (codes "size ") (decimal size) refl (number size (omega arith))
 plain_input (input_is.Failed failed) fits = joined (codes "failed ") (decimal failed) refl (number failed (omega arith))
 plain_input (input_is.Refused reason) fits = joined (codes "refused ") (token reason) refl (text reason)
 

@@ -151,6 +151,8 @@ word_again word_is.Shift rest = refl
 word_again word_is.Fresh rest = refl
 word_again word_is.Read rest = refl
 word_again word_is.Clear rest = refl
+word_again word_is.Names rest = refl
+word_again word_is.Size rest = refl
 word_again word_is.Send rest = refl
 word_again word_is.More rest = refl
 word_again word_is.Close rest = refl
@@ -388,6 +390,16 @@ order_of_takes word_is.Clear bs o e =
     let t = last_text_takes bs file is in
     let same = ok_value (order_is.ClearFile file) o e in
     record { same = ap (λ (l : List ℕ). codes "clear" ++ l) t.0 ∙ ap order_line same; fits = subst FitsOrder same t.1 })
+order_of_takes word_is.Names bs o e =
+    bind_then (last_text_at bs) (λ pattern. Ok (order_is.Names pattern)) o e (λ pattern is e.
+    let t = last_text_takes bs pattern is in
+    let same = ok_value (order_is.Names pattern) o e in
+    record { same = ap (λ (l : List ℕ). codes "names" ++ l) t.0 ∙ ap order_line same; fits = subst FitsOrder same t.1 })
+order_of_takes word_is.Size bs o e =
+    bind_then (last_text_at bs) (λ file. Ok (order_is.Size file)) o e (λ file is e.
+    let t = last_text_takes bs file is in
+    let same = ok_value (order_is.Size file) o e in
+    record { same = ap (λ (l : List ℕ). codes "size" ++ l) t.0 ∙ ap order_line same; fits = subst FitsOrder same t.1 })
 order_of_takes word_is.Send bs o e =
     bind_then (number_bytes_at bs) (λ r. Ok (order_is.Send (record { 0 = r.0 }) r.1)) o e (λ r is e.
     let t = number_bytes_take bs r is in
@@ -490,6 +502,10 @@ order_again (order_is.ReadFile file start length) fits =
     ∙ ap (λ (r : Result (List ℕ × ℕ × ℕ) ℕ). r >>= (λ r. Ok (order_is.ReadFile r.0 r.1 r.2))) (text_numbers_again file start length fits.0 fits.1 fits.2)
 order_again (order_is.ClearFile file) fits =
     opened word_is.Clear (then_token file) ∙ ap (λ (r : Result (List ℕ) ℕ). r >>= (λ file. Ok (order_is.ClearFile file))) (last_text_again file fits)
+order_again (order_is.Names pattern) fits =
+    opened word_is.Names (then_token pattern) ∙ ap (λ (r : Result (List ℕ) ℕ). r >>= (λ pattern. Ok (order_is.Names pattern))) (last_text_again pattern fits)
+order_again (order_is.Size file) fits =
+    opened word_is.Size (then_token file) ∙ ap (λ (r : Result (List ℕ) ℕ). r >>= (λ file. Ok (order_is.Size file))) (last_text_again file fits)
 order_again (order_is.Send link bytes) fits =
     ap order_at (three (codes "send ") (decimal link.0) (then_token bytes))
     ∙ opened word_is.Send (decimal link.0 ++ then_token bytes)

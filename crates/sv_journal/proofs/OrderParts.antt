@@ -1,37 +1,24 @@
 -- The parts of an order line: what was read is what they spell, and each is read again.
-use Rattle.std.proofs.Common.{◌≡◌, ℕ, zero, suc, ◌≤◌, Bool, true, false, eqb, List, [], ◌∷◌, ◌++◌, length, Result, Ok, Err, IsUtf8, refl, sym, ap, ◌∙◌, subst, arith, append_assoc, append-nil}
+use Rattle.std.proofs.Common.{◌≡◌, ℕ, zero, suc, ◌≤◌, true, List, [], ◌∷◌, ◌++◌, length, Result, Ok, IsUtf8, refl, sym, ap, ◌∙◌, subst, arith, append_assoc, append-nil}
 use Rattle.std.specs.Prelude.{codes}
 use Rattle.std.specs.List.{flat_map}
 use Rattle.std.specs.Fmt.{decimal}
-use Rattle.std.proofs.lemmas.Bool.{eqb-true}
 use Rattle.sv_journal.specs.declared.token.Letters.{Letters}
 use Rattle.sv_journal.specs.declared.token.Letters.TheVariants.{OfText, OfBytes}
 use Rattle.sv_journal.specs.Limits.{number_limit}
 use Rattle.sv_journal.specs.Spelling.{token}
-use Rattle.sv_journal.specs.JournalLine.{AreBytes, then_token, then_pair}
-use Rattle.sv_journal.specs.Orders.{AreTexts, ArePairs}
-use Rattle.sv_journal.specs.Reading.{◌>>=◌, end_at, token_at, last_token_at}
-use Rattle.sv_journal.specs.ReadingLines.{number_then, begins_with_digit}
-use Rattle.sv_journal.specs.OrderReading.{text_at, text_then, with_item, pair_at, items_at, counted_at, last_text_at}
+use Rattle.sv_journal.specs.JournalLine.{AreBytes, AreTexts, then_token, then_pair}
+use Rattle.sv_journal.specs.Orders.{ArePairs}
+use Rattle.sv_journal.specs.Reading.{◌>>=◌, end_at, token_at, last_token_at, with_item}
+use Rattle.sv_journal.specs.ReadingLines.{number_then}
+use Rattle.sv_journal.specs.OrderReading.{text_at, text_then, pair_at, items_at, counted_at, last_text_at}
 use Rattle.sv_journal.proofs.InputLaws.{number_fits}
 use Rattle.sv_journal.proofs.LineParts.{bind_then, end_takes, word_then_takes, number_then_takes}
 use Rattle.sv_journal.proofs.Names.{good_text, text_good, good_bytes, bytes_good}
 use Rattle.sv_journal.proofs.NumberLaws.{IsLimit, number_again}
-use Rattle.sv_journal.proofs.Results.{ok_pair}
-use Rattle.sv_journal.proofs.Sharp.{plain}
-use Rattle.sv_journal.proofs.TokenLaws.{Good, ends, token_at_takes, token_again}
-
--- what may follow a part: nothing, or a space
-space : (b : ℕ) (bs : List ℕ) (f : List ℕ → Bool) (t : Bool) → f (32 ∷ bs) ≡ t → eqb b 32 ≡ true → f (b ∷ bs) ≡ t
-space b bs f t e h = ap (λ (c : ℕ). f (c ∷ bs)) (eqb-true b 32 h) ∙ e
-
-pub plain_no_digit : (bs : List ℕ) → plain bs ≡ true → begins_with_digit bs ≡ false
-plain_no_digit [] e = refl
-plain_no_digit (b ∷ bs) e = space b bs begins_with_digit false refl e
-
-pub plain_ends : (bs : List ℕ) → plain bs ≡ true → ends bs ≡ true
-plain_ends [] e = refl
-plain_ends (b ∷ bs) e = space b bs ends true refl e
+use Rattle.sv_journal.proofs.Results.{ok_pair, with_item_ok}
+use Rattle.sv_journal.proofs.Sharp.{plain, plain_no_digit, plain_ends}
+use Rattle.sv_journal.proofs.TokenLaws.{Good, token_at_takes, token_again}
 
 -- texts
 pub record TextTaken (bs v rest : List ℕ) : Type 0 where
@@ -74,17 +61,6 @@ pub record ItemsTaken {A : Type 0} (Fits : A → Type 0) (spells : A → List �
   pub same : bs ≡ flat_map spells xs ++ rest
   pub count : length xs ≡ n
   pub fits : AllFit Fits xs
-
-pub record ItemSplit {A : Type 0} (x : A) (r : Result (List A × List ℕ) ℕ) (xs : List A) (rest : List ℕ) : Type 0 where
-  pub others : List A
-  pub is : xs ≡ x ∷ others
-  pub read : r ≡ Ok (others, rest)
-
-with_item_ok : {A : Type 0} (x : A) (r : Result (List A × List ℕ) ℕ) (xs : List A) (rest : List ℕ) → with_item x r ≡ Ok (xs, rest) → ItemSplit x r xs rest
-with_item_ok x (Ok r) xs rest e =
-    let p = ok_pair (x ∷ r.0) xs r.1 rest e in
-    record { others = r.0; is = sym p.0; read = ap (λ (l : List ℕ). Ok (r.0, l)) p.1 }
-with_item_ok x (Err left) xs rest e = cc e
 
 pub items_take : {A : Type 0} (item_at : List ℕ → Result (A × List ℕ) ℕ) (Fits : A → Type 0) (spells : A → List ℕ) → IsItem item_at Fits spells
     → (n : ℕ) (bs : List ℕ) (xs : List A) (rest : List ℕ) → items_at item_at n bs ≡ Ok (xs, rest) → ItemsTaken Fits spells n bs xs rest

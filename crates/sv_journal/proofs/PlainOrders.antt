@@ -11,20 +11,15 @@ use Rattle.sv_out.specs.declared.order.Order.{Order}
 use Rattle.sv_out.specs.declared.order.Order.TheVariants as order_is
 use Rattle.sv_out.specs.declared.order.SpawnOrder.{SpawnOrder}
 use Rattle.sv_journal.specs.Limits.{number_limit, run_limit}
-use Rattle.sv_journal.specs.Spelling.{token}
 use Rattle.sv_journal.specs.JournalLine.{then_token, then_pair, counted_words, counted_pairs, receiver, order_line}
 use Rattle.sv_journal.specs.Orders.{FitsSpawn, FitsOrder}
 use Rattle.sv_journal.specs.OrderReading.{order_at}
-use Rattle.sv_journal.proofs.NoLineFeed.{Plain, joined, number, text, signal}
+use Rattle.sv_journal.proofs.NoLineFeed.{Plain, joined, number, signal, behind, words, counted_list}
 use Rattle.sv_journal.proofs.OrderLaws.{order_again}
 use Rattle.sv_journal.proofs.Results.{ok_value}
 
 pub one_order : (one other : Order) → FitsOrder one → FitsOrder other → order_line one ≡ order_line other → one ≡ other
 one_order one other f g e = ok_value one other (sym (order_again one f) ∙ ap order_at e ∙ order_again other g)
-
--- a text behind a space
-behind : (v : List ℕ) → Plain (then_token v)
-behind v = joined (codes " ") (token v) refl (text v)
 
 -- a plain front, and a text behind a space
 more : (front v : List ℕ) → Plain front → Plain (front ++ then_token v)
@@ -48,17 +43,9 @@ states state_is.Unknown = refl
 stated : (front : List ℕ) (state : State) → Plain front → Plain (front ++ codes " " ++ state_name state)
 stated front state plain = joined (front ++ codes " ") (state_name state) (joined front (codes " ") plain refl) (states state)
 
-words : (xs : List (List ℕ)) → Plain (flat_map then_token xs)
-words [] = refl
-words (x ∷ xs) = joined (then_token x) (flat_map then_token xs) (behind x) (words xs)
-
 pairs : (xs : List (List ℕ × List ℕ)) → Plain (flat_map then_pair xs)
 pairs [] = refl
 pairs (x ∷ xs) = joined (then_pair x) (flat_map then_pair xs) (more (then_token x.0) x.1 (behind x.0)) (pairs xs)
-
--- how many items there are, and each of them
-list : (n : ℕ) (items : List ℕ) → n ≤ number_limit → Plain items → Plain (codes " " ++ decimal n ++ items)
-list n items small plain = joined (codes " " ++ decimal n) items (joined (codes " ") (decimal n) refl (number n (omega arith))) plain
 
 spawn : (s : SpawnOrder) → FitsSpawn s → Plain (order_line (order_is.Spawn s))
 spawn s fits =
@@ -72,8 +59,8 @@ spawn s fits =
     joined (f ++ counted_words s.words) (counted_pairs s.environment)
     (joined f (counted_words s.words)
     (more e s.user (more d s.umask (more c s.directory (more b s.name (more a s.group (joined (codes "spawn ") (decimal s.run.0) refl (number s.run.0 (omega arith))))))))
-    (list (length s.words) (flat_map then_token s.words) fits.7 (words s.words)))
-    (list (length s.environment) (flat_map then_pair s.environment) fits.9 (pairs s.environment))
+    (counted_list (length s.words) (flat_map then_token s.words) fits.7 (words s.words)))
+    (counted_list (length s.environment) (flat_map then_pair s.environment) fits.9 (pairs s.environment))
 
 -- a word, the number of a run or a link, and bytes
 sent : (word : List ℕ) (n : ℕ) (bytes : List ℕ) → n < 2 ^ 64 → Plain word → Plain (word ++ decimal n ++ then_token bytes)
@@ -103,6 +90,8 @@ plain_order (order_is.Fresh file) fits = more (codes "fresh") file refl
 plain_order (order_is.ReadFile file start size) fits =
     counted (codes "read" ++ then_token file ++ codes " " ++ decimal start) size fits.2 (counted (codes "read" ++ then_token file) start fits.1 (more (codes "read") file refl))
 plain_order (order_is.ClearFile file) fits = more (codes "clear") file refl
+plain_order (order_is.Names pattern) fits = more (codes "names") pattern refl
+plain_order (order_is.Size file) fits = more (codes "size") file refl
 plain_order (order_is.Send link bytes) fits = let small = fits.0 in sent (codes "send ") link.0 bytes (omega arith) refl
 plain_order (order_is.More link) fits = joined (codes "more ") (decimal link.0) refl (number link.0 (omega arith))
 plain_order (order_is.Close link) fits = joined (codes "close ") (decimal link.0) refl (number link.0 (omega arith))

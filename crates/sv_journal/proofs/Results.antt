@@ -1,7 +1,7 @@
 -- What two equal answers of a reader hold.
-use Rattle.std.proofs.Common.{◌≡◌, ℕ, Result, Ok, Err, ap, subst}
+use Rattle.std.proofs.Common.{◌≡◌, ℕ, List, ◌∷◌, Result, Ok, Err, sym, ap, subst}
 use Rattle.std.specs.Result.{result_unwrap_or}
-use Rattle.sv_journal.specs.Reading.{Stops}
+use Rattle.sv_journal.specs.Reading.{Stops, with_item}
 use Rattle.sv_journal.specs.declared.stop.Stop.{Stop}
 use Rattle.sv_journal.specs.declared.stop.Stop.TheVariants.{At}
 
@@ -18,3 +18,15 @@ never left x e = cc e
 
 pub stopped : {Y : Type 0} (stop : Stop) (left : ℕ) (read : Result Y ℕ) → stop ≡ At left → Stops stop read → read ≡ Err left
 stopped stop left read e h = subst (λ (s : Stop). Stops s read) e h
+
+-- an item, and what was read behind it
+pub record ItemSplit {A : Type 0} (x : A) (r : Result (List A × List ℕ) ℕ) (xs : List A) (rest : List ℕ) : Type 0 where
+  pub others : List A
+  pub is : xs ≡ x ∷ others
+  pub read : r ≡ Ok (others, rest)
+
+pub with_item_ok : {A : Type 0} (x : A) (r : Result (List A × List ℕ) ℕ) (xs : List A) (rest : List ℕ) → with_item x r ≡ Ok (xs, rest) → ItemSplit x r xs rest
+with_item_ok x (Ok r) xs rest e =
+    let p = ok_pair (x ∷ r.0) xs r.1 rest e in
+    record { others = r.0; is = sym p.0; read = ap (λ (l : List ℕ). Ok (r.0, l)) p.1 }
+with_item_ok x (Err left) xs rest e = cc e

@@ -6,7 +6,7 @@ use Rattle.std.proofs.lemmas.Bool.{false≢true, cases_Bool, cases_lt, eq-eqb, e
 use Rattle.sv_journal.specs.Reading.{◌>>=◌, end_at, word_at, keyword_or, keyword_from, keyword_at, goes_on, digits_at, number_at}
 use Rattle.sv_journal.specs.ReadingLines.{word_then, keyword_then, number_then, begins_with_digit}
 use Rattle.sv_journal.proofs.Results.{ok_pair, never}
-use Rattle.sv_journal.proofs.TokenLaws.{chosen}
+use Rattle.sv_journal.proofs.TokenLaws.{chosen, ends}
 use Rattle.sv_journal.proofs.NumberLaws.{IsLimit, number_takes, number_runs, number_again}
 use Rattle.sv_journal.proofs.LineParts.{keyword_takes}
 
@@ -37,6 +37,17 @@ any bs = true
 abbrev pub plain : List ℕ → Bool
 plain [] = true
 plain (b ∷ bs) = eqb b 32
+
+pub space : (b : ℕ) (bs : List ℕ) (f : List ℕ → Bool) (t : Bool) → f (32 ∷ bs) ≡ t → eqb b 32 ≡ true → f (b ∷ bs) ≡ t
+space b bs f t e h = ap (λ (c : ℕ). f (c ∷ bs)) (eqb-true b 32 h) ∙ e
+
+pub plain_no_digit : (bs : List ℕ) → plain bs ≡ true → begins_with_digit bs ≡ false
+plain_no_digit [] e = refl
+plain_no_digit (b ∷ bs) e = space b bs begins_with_digit false refl e
+
+pub plain_ends : (bs : List ℕ) → plain bs ≡ true → ends bs ≡ true
+plain_ends [] e = refl
+plain_ends (b ∷ bs) e = space b bs ends true refl e
 
 abbrev left_of : {X : Type 0} → Result X ℕ → ℕ
 left_of (Ok x) = 0

@@ -1,7 +1,7 @@
 -- The readers of lines stop at the first byte with which no good line goes on.
-use Rattle.std.proofs.Common.{◌≡◌, ℕ, ◌≤◌, Bool, true, false, cond, not, eqb, List, [], ◌∷◌, ◌++◌, Result, Ok, Err, inl, inr, refl, sym, ap, ◌∙◌, arith}
+use Rattle.std.proofs.Common.{◌≡◌, ℕ, ◌≤◌, Bool, true, false, cond, not, List, [], ◌∷◌, ◌++◌, Result, Ok, Err, inl, inr, refl, sym, ap, ◌∙◌, arith}
 use Rattle.std.specs.Prelude.{codes}
-use Rattle.std.proofs.lemmas.Bool.{eqb-true, cases_Bool, not-true}
+use Rattle.std.proofs.lemmas.Bool.{cases_Bool, not-true}
 use Rattle.sv_base.specs.Limits.{moment_limit}
 use Rattle.sv_base.specs.Names.{signal_name}
 use Rattle.sv_base.specs.declared.ids.Run.{Run}
@@ -37,22 +37,11 @@ use Rattle.sv_journal.proofs.Columns.{Exact}
 use Rattle.sv_journal.proofs.HeaderLaws.{program_fits, header_takes, header_fits, header_again, opening_again, signal_again, autorestart_again}
 use Rattle.sv_journal.proofs.InputLaws.{moment_fits, number_fits, run_fits, told_again, code_fits, signal_fits, verb_again, side_again, ending_again, answer_again, decimal_begins, input_takes, input_fits, input_again}
 use Rattle.sv_journal.proofs.NumberLaws.{IsLimit}
-use Rattle.sv_journal.proofs.Sharp.{Failure, Sharp, any, plain, sharp_end, sharp_word, sharp_keyword, sharp_number}
+use Rattle.sv_journal.proofs.Sharp.{Failure, Sharp, any, plain, space, plain_no_digit, plain_ends, sharp_end, sharp_word, sharp_keyword, sharp_number}
+use Rattle.sv_journal.proofs.SharpAbove.{names_sharp}
 use Rattle.sv_journal.proofs.SharpCodes.{sharp_codes}
 use Rattle.sv_journal.proofs.SharpPiece.{sharp_piece}
 use Rattle.sv_journal.proofs.SharpToken.{sharp_token}
-use Rattle.sv_journal.proofs.TokenLaws.{ends}
-
-space : (b : ℕ) (bs : List ℕ) (f : List ℕ → Bool) (t : Bool) → f (32 ∷ bs) ≡ t → eqb b 32 ≡ true → f (b ∷ bs) ≡ t
-space b bs f t e h = ap (λ (c : ℕ). f (c ∷ bs)) (eqb-true b 32 h) ∙ e
-
-plain_no_digit : (bs : List ℕ) → plain bs ≡ true → begins_with_digit bs ≡ false
-plain_no_digit [] e = refl
-plain_no_digit (b ∷ bs) e = space b bs begins_with_digit false refl e
-
-plain_ends : (bs : List ℕ) → plain bs ≡ true → ends bs ≡ true
-plain_ends [] e = refl
-plain_ends (b ∷ bs) e = space b bs ends true refl e
 
 plain_ends_codes : (bs : List ℕ) → plain bs ≡ true → ends_codes bs ≡ true
 plain_ends_codes [] e = refl
@@ -176,6 +165,8 @@ answer_of_sharp answer_is.Refused = last_token OfText (λ reason. input_is.Refus
 answer_of_sharp answer_is.Bytes = last_token OfBytes (λ bytes. input_is.Read bytes)
 answer_of_sharp answer_is.Done = weaker (sharp_end input_is.Done)
 answer_of_sharp answer_is.Missing = weaker (sharp_end input_is.Missing)
+answer_of_sharp answer_is.Names = names_sharp
+answer_of_sharp answer_is.Size = last_number 0 number_limit (λ size. input_is.Size size) number_fits (omega arith)
 answer_of_sharp answer_is.Failed = last_number 0 number_limit (λ number. input_is.Failed number) number_fits (omega arith)
 
 abbrev no_digit : List ℕ → Bool
@@ -189,6 +180,8 @@ answer_begins answer_is.Refused rest = refl
 answer_begins answer_is.Bytes rest = refl
 answer_begins answer_is.Done rest = refl
 answer_begins answer_is.Missing rest = refl
+answer_begins answer_is.Names rest = refl
+answer_begins answer_is.Size rest = refl
 answer_begins answer_is.Failed rest = refl
 
 answer_sharp : Sharp answer_at no_digit

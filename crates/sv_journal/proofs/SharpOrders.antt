@@ -16,20 +16,19 @@ use Rattle.sv_journal.specs.declared.token.Letters.TheVariants.{OfText, OfBytes}
 use Rattle.sv_journal.specs.Limits.{number_limit, run_limit}
 use Rattle.sv_journal.specs.JournalLine.{order_line}
 use Rattle.sv_journal.specs.Orders.{FitsOrder}
-use Rattle.sv_journal.specs.Reading.{◌>>=◌, end_at, word_at, token_at, number_at, last_token_at}
+use Rattle.sv_journal.specs.Reading.{◌>>=◌, end_at, word_at, token_at, number_at, last_token_at, with_item}
 use Rattle.sv_journal.specs.ReadingLines.{signals, word_then, keyword_then, number_then, token_then}
-use Rattle.sv_journal.specs.OrderReading.{order_word, order_words, states, is_group, receiver_word, receivers, text_at, text_then, with_item, pair_at, items_at, counted_then, text_numbers_at, number_bytes_at, last_text_at, text_bytes_at, two_texts_at, last_number_at, edge_at, state_at, kill_at, command_at, place_at, spawn_at, order_of, order_at}
+use Rattle.sv_journal.specs.OrderReading.{order_word, order_words, states, is_group, receiver_word, receivers, text_at, text_then, pair_at, items_at, counted_then, text_numbers_at, number_bytes_at, last_text_at, text_bytes_at, two_texts_at, last_number_at, edge_at, state_at, kill_at, command_at, place_at, spawn_at, order_of, order_at}
 use Rattle.sv_journal.proofs.Columns.{Exact}
 use Rattle.sv_journal.proofs.HeaderLaws.{signal_again}
 use Rattle.sv_journal.proofs.InputLaws.{number_fits, run_fits}
 use Rattle.sv_journal.proofs.NumberLaws.{IsLimit}
 use Rattle.sv_journal.proofs.OrderLaws.{word_again, state_again, receiver_again, order_takes, order_fits, order_again}
-use Rattle.sv_journal.proofs.OrderParts.{plain_ends, plain_no_digit}
-use Rattle.sv_journal.proofs.Sharp.{Sharp, any, plain, err_value, sharp_end, sharp_word, sharp_keyword, sharp_number}
+use Rattle.sv_journal.proofs.Sharp.{Sharp, any, plain, plain_no_digit, plain_ends, err_value, sharp_end, sharp_word, sharp_keyword, sharp_number}
 use Rattle.sv_journal.proofs.SharpToken.{sharp_token}
 
 -- a reader that gives the same everywhere
-sharp_same : {X : Type 0} (g h : List ℕ → Result X ℕ) (Q : List ℕ → Bool) → ((bs : List ℕ) → g bs ≡ h bs) → Sharp h Q → Sharp g Q
+pub sharp_same : {X : Type 0} (g h : List ℕ → Result X ℕ) (Q : List ℕ → Bool) → ((bs : List ℕ) → g bs ≡ h bs) → Sharp h Q → Sharp g Q
 sharp_same g h Q same s = record {
   sample = s.sample;
   value = s.value;
@@ -83,7 +82,7 @@ sharp_map {X} {Y} h f Q s = record {
 }
 
 -- a reader after a reader after a reader
-bind_twice : {A B C : Type 0} (r : Result A ℕ) (f : A → Result B ℕ) (g : B → Result C ℕ) → ((r >>= f) >>= g) ≡ (r >>= (λ x. f x >>= g))
+pub bind_twice : {A B C : Type 0} (r : Result A ℕ) (f : A → Result B ℕ) (g : B → Result C ℕ) → ((r >>= f) >>= g) ≡ (r >>= (λ x. f x >>= g))
 bind_twice (Ok x) f g = refl
 bind_twice (Err left) f g = refl
 
@@ -249,6 +248,8 @@ order_of_sharp word_is.Shift = weaker (sharp_map two_texts_at (λ r. order_is.Sh
 order_of_sharp word_is.Fresh = weaker (sharp_map last_text_at (λ file. order_is.Fresh file) plain last_text)
 order_of_sharp word_is.Read = weaker (sharp_map text_numbers_at (λ r. order_is.ReadFile r.0 r.1 r.2) plain text_numbers)
 order_of_sharp word_is.Clear = weaker (sharp_map last_text_at (λ file. order_is.ClearFile file) plain last_text)
+order_of_sharp word_is.Names = weaker (sharp_map last_text_at (λ pattern. order_is.Names pattern) plain last_text)
+order_of_sharp word_is.Size = weaker (sharp_map last_text_at (λ file. order_is.Size file) plain last_text)
 order_of_sharp word_is.Send = sharp_map number_bytes_at (λ r. order_is.Send (record { 0 = r.0 }) r.1) any number_bytes
 order_of_sharp word_is.More = sharp_map last_number_at (λ link. order_is.More (record { 0 = link })) any last_number
 order_of_sharp word_is.Close = sharp_map last_number_at (λ link. order_is.Close (record { 0 = link })) any last_number

@@ -44,7 +44,7 @@ record Ended (d : ℕ) : Type 0 where
 ended : (d : ℕ) → is_first_digit OfBytes Character d ≡ true → Ended d
 ended d f =
     let h = and_parts (is_hex d) (may_begin OfBytes Character (hex_value d)) f in
-    let b = escaped OfBytes Character (hex_value d) (hex_below d h.0) h.1 in
+    let b = escaped (allows OfBytes Character) (hex_value d) (hex_below d h.0) h.1 in
     let s = and_parts (allows OfBytes Character b.b) (not (stands_for_itself b.b)) b.good in
     let digit : d ≡ hex_digit (b.b / 16) = sym (ap hex_digit b.begins ∙ hex_again d h.0) in
     let spelled : 37 ∷ d ∷ hex_digit (b.b % 16) ∷ [] ≡ byte_spelling b.b ++ [] =

@@ -4,6 +4,7 @@ use Rattle.std.specs.List.{list_any, list_all}
 use Rattle.std.proofs.lemmas.Bool.{false≢true, cases_Bool, cases_eq, lt-ltb, le-leb, lt-leb, eq-eqb, ne_eqb, eqb-true, ltb-true, and_parts, or_cases, not-true}
 use Rattle.sv_journal.specs.Spelling.{stands_for_itself, hex_digit, byte_spelling, bytes_spelling, token}
 use Rattle.sv_journal.specs.Tokens.{whole_below, allows, second_of_two, after, escapes, is_hex, hex_value, sixteen, may_begin, is_first_digit, is_second_digit}
+use Rattle.sv_journal.specs.Escapes.{is_escape, begins_escape}
 use Rattle.sv_journal.specs.Reading.{◌>>=◌, Stage, closed, token_from, with_first, is_lone, nonempty, token_at}
 use Rattle.sv_journal.specs.Reading.Stage.{Between, Percent, Digit}
 use Rattle.sv_journal.specs.ReadingLines.{token_then}
@@ -16,7 +17,7 @@ use Rattle.sv_journal.proofs.Results.{never}
 use Rattle.sv_journal.proofs.Sharp.{Failure, Sharp, any, err_value, at_head, at_nothing, behind}
 use Rattle.sv_journal.proofs.TokenLaws.{before, awaited, chosen, Good, good_nonempty, hex_below, hex_again, spelled_itself, spelled_escaped, accepts_one, itself_small, with_first_ok, choose_true, pick, closed_there, may_follow, ends, token_before, token_again, token_follows, token_at_takes}
 
-abbrev IsGood : Awaits → Type 0
+abbrev pub IsGood : Awaits → Type 0
 IsGood Character = Unit {0}
 IsGood (Continuation low high more) = (128 ≤ low) × (low ≤ high) × (high ≤ 191)
 
@@ -39,7 +40,7 @@ bounds b m n low high more apart a b1 c d = elim (cases_eq b m) [
   ]
 ]
 
-after_good : (letters : Letters) (awaits : Awaits) (b : ℕ) → IsGood (after letters awaits b)
+pub after_good : (letters : Letters) (awaits : Awaits) (b : ℕ) → IsGood (after letters awaits b)
 after_good letters Character b =
     good_choice (ltb b (whole_below letters)) _ _ tt (good_choice (ltb b 224) _ _ (second_128 letters b, second_191 letters b, omega arith)
     (good_choice (ltb b 240) _ _ (bounds b 224 237 160 159 1 (λ e. omega arith) (omega arith) (omega arith) (omega arith) (omega arith))
@@ -47,9 +48,9 @@ after_good letters Character b =
 after_good letters (Continuation low high zero) b = tt
 after_good letters (Continuation low high (suc more)) b = (omega arith, omega arith, omega arith)
 
-record Ending (letters : Letters) (awaits : Awaits) : Type 0 where
-  v : List ℕ
-  good : accepts letters awaits v ≡ true
+pub record Ending (letters : Letters) (awaits : Awaits) : Type 0 where
+  pub v : List ℕ
+  pub good : accepts letters awaits v ≡ true
 
 end_more : (letters : Letters) (more low high : ℕ) → 128 ≤ low → low ≤ high → high ≤ 191 → Ending letters (Continuation low high more)
 end_more letters zero low high a b c = record { v = low ∷ []; good = rw (lt-ltb low 256 (omega arith), le-leb low low (omega arith), le-leb low high b) refl }
@@ -58,15 +59,15 @@ end_more letters (suc more) low high a b c =
     record { v = low ∷ r.v; good = rw (lt-ltb low 256 (omega arith), le-leb low low (omega arith), le-leb low high b) r.good }
 
 -- how the bytes may end
-ending : (letters : Letters) (awaits : Awaits) → IsGood awaits → Ending letters awaits
+pub ending : (letters : Letters) (awaits : Awaits) → IsGood awaits → Ending letters awaits
 ending letters Character g = record { v = []; good = refl }
 ending letters (Continuation low high more) g = end_more letters more low high g.0 g.1 g.2
 
-pub record Escaped (letters : Letters) (awaits : Awaits) (high : ℕ) : Type 0 where
+pub record Escaped (comes : ℕ → Bool) (high : ℕ) : Type 0 where
   pub b : ℕ
   pub small : b < 256
   pub begins : b / 16 ≡ high
-  pub good : escapes letters awaits b ≡ true
+  pub good : is_escape comes b ≡ true
 
 record Element (f : ℕ → Bool) : Type 0 where
   x : ℕ
@@ -82,9 +83,9 @@ element f (x ∷ xs) s e =
       | inr h ↦ element f xs p.1 h
     ]
 
-pub escaped : (letters : Letters) (awaits : Awaits) (high : ℕ) → high < 16 → may_begin letters awaits high ≡ true → Escaped letters awaits high
-escaped letters awaits high h e =
-    let k = element (λ (low : ℕ). escapes letters awaits (16 * high + low)) sixteen refl e in
+pub escaped : (comes : ℕ → Bool) (high : ℕ) → high < 16 → begins_escape comes high ≡ true → Escaped comes high
+escaped comes high h e =
+    let k = element (λ (low : ℕ). is_escape comes (16 * high + low)) sixteen refl e in
     let s = k.small in
     record { b = 16 * high + k.x; small = omega arith; begins = omega arith; good = k.good }
 
@@ -107,7 +108,7 @@ any_escape letters (Continuation low high more) g =
     let c = g.2 in
     record { b = low; small = omega arith; good = rw (le-leb low low (omega arith), le-leb low high b, lt-leb low 126 (omega arith), le-leb 33 low (omega arith)) refl }
 
-abbrev IsGoodStage : Letters → Stage → Type 0
+abbrev pub IsGoodStage : Letters → Stage → Type 0
 IsGoodStage letters (Between awaits) = IsGood awaits
 IsGoodStage letters (Percent awaits) = IsGood awaits
 IsGoodStage letters (Digit awaits high) = (high < 16) × (may_begin letters awaits high ≡ true)
@@ -134,7 +135,7 @@ completion : (letters : Letters) (stage : Stage) → IsGoodStage letters stage �
 completion letters (Between awaits) g = let r = ending letters awaits g in record { tail = bytes_spelling r.v; v = r.v; whole = refl; good = r.good }
 completion letters (Percent awaits) g = let b = any_escape letters awaits g in with_escape letters awaits b.b b.small b.good
 completion letters (Digit awaits high) g =
-    let b = escaped letters awaits high g.0 g.1 in
+    let b = escaped (allows letters awaits) high g.0 g.1 in
     let p = and_parts (allows letters awaits b.b) (not (stands_for_itself b.b)) b.good in
     let r = ending letters (after letters awaits b.b) (after_good letters awaits b.b) in
     record {
@@ -145,7 +146,7 @@ completion letters (Digit awaits high) g =
     }
 
 -- a token is not refused before its first byte
-abbrev HasBegun : Stage → List ℕ → Type 0
+abbrev pub HasBegun : Stage → List ℕ → Type 0
 HasBegun (Between Character) front = 0 < length front
 HasBegun (Between (Continuation low high more)) front = Unit {0}
 HasBegun (Percent awaits) front = Unit {0}
@@ -155,17 +156,17 @@ begun : (awaits : Awaits) (b : ℕ) (front : List ℕ) → HasBegun (Between awa
 begun Character b front = omega arith
 begun (Continuation low high more) b front = tt
 
-record Broken (letters : Letters) (stage : Stage) (bs : List ℕ) (left : ℕ) : Type 0 where
-  front : List ℕ
-  bad : List ℕ
-  parts : bs ≡ front ++ bad
-  size : left ≡ length bad
-  local : (b : ℕ) (more other : List ℕ) → bad ≡ b ∷ more → token_from letters stage (front ++ b ∷ other) ≡ Err (suc (length other))
-  tail : List ℕ
-  v : List ℕ
-  whole : before stage ++ (front ++ tail) ≡ bytes_spelling v
-  good : accepts letters (awaited stage) v ≡ true
-  has_begun : HasBegun stage front
+pub record Broken (letters : Letters) (stage : Stage) (bs : List ℕ) (left : ℕ) : Type 0 where
+  pub front : List ℕ
+  pub bad : List ℕ
+  pub parts : bs ≡ front ++ bad
+  pub size : left ≡ length bad
+  pub local : (b : ℕ) (more other : List ℕ) → bad ≡ b ∷ more → token_from letters stage (front ++ b ∷ other) ≡ Err (suc (length other))
+  pub tail : List ℕ
+  pub v : List ℕ
+  pub whole : before stage ++ (front ++ tail) ≡ bytes_spelling v
+  pub good : accepts letters (awaited stage) v ≡ true
+  pub has_begun : HasBegun stage front
 
 head_of : (a b : ℕ) (xs ys : List ℕ) → a ∷ xs ≡ b ∷ ys → a ≡ b
 head_of a b xs ys e = ap (λ (l : List ℕ). get_or l 0 0) e
@@ -204,7 +205,7 @@ pub choose_false : {X : Type 0} (t : Bool) (x y : X) → t ≡ false → cond t 
 choose_false false x y e = refl
 choose_false true x y e = cc e
 
-token_breaks : (letters : Letters) (stage : Stage) (bs : List ℕ) (left : ℕ) → IsGoodStage letters stage → token_from letters stage bs ≡ Err left → Broken letters stage bs left
+pub token_breaks : (letters : Letters) (stage : Stage) (bs : List ℕ) (left : ℕ) → IsGoodStage letters stage → token_from letters stage bs ≡ Err left → Broken letters stage bs left
 token_breaks letters (Between awaits) [] left g e =
     let c = closed_err awaits [] left e in
     broken_end letters (Between awaits) left g c.1 c.0
@@ -360,7 +361,7 @@ token_read letters h v rest g f = ap (λ (r : Result (List ℕ × List ℕ) ℕ)
 token_sample : {X : Type 0} (letters : Letters) (h : List ℕ → List ℕ → Result X ℕ) (P : List ℕ → Bool) (v : List ℕ) → ((x : List ℕ) → P x ≡ true → ends x ≡ true) → (s : Sharp (h v) P) → Good letters v → token_then letters h (token v ++ s.sample) ≡ Ok s.value
 token_sample letters h P v end s g = ap (λ (r : Result (List ℕ × List ℕ) ℕ). r >>= (λ r. h r.0 r.1)) (token_again letters v s.sample g (end s.sample s.has)) ∙ s.reads
 
-broken_token : {X : Type 0} (letters : Letters) (h : List ℕ → List ℕ → Result X ℕ) (P : List ℕ → Bool) → ((x : List ℕ) → P x ≡ true → ends x ≡ true) → ((v : List ℕ) → Sharp (h v) P)
+broken_token : {X : Type 0} (letters : Letters) (h : List ℕ → List ℕ → Result X ℕ) (P : List ℕ → Bool) → ((x : List ℕ) → P x ≡ true → ends x ≡ true) → ((v : List ℕ) → Good letters v → Sharp (h v) P)
     → (b : ℕ) (bs : List ℕ) (left : ℕ) (front bad tail v : List ℕ) → (eqb b 37 && is_lone letters bs) ≡ false → b ∷ bs ≡ front ++ bad → left ≡ length bad → 0 < length front
     → ((x : ℕ) (more other : List ℕ) → bad ≡ x ∷ more → token_from letters (Between Character) (front ++ x ∷ other) ≡ Err (suc (length other)))
     → front ++ tail ≡ bytes_spelling v → accepts letters Character v ≡ true → Failure (token_then letters h) any (b ∷ bs) left
@@ -369,7 +370,7 @@ broken_token letters h P end sharp b bs left (c ∷ cs) bad tail [] lone parts s
 broken_token letters h P end sharp b bs left (c ∷ cs) bad tail (w ∷ ws) lone parts size some local whole good =
     let first = head_of b c bs (cs ++ bad) parts in
     let later = tail_of b c bs (cs ++ bad) parts in
-    let s = sharp (w ∷ ws) in
+    let s = sharp (w ∷ ws) (good_nonempty letters w ws good) in
     record {
       front = c ∷ cs;
       bad = bad;
@@ -386,10 +387,10 @@ broken_token letters h P end sharp b bs left (c ∷ cs) bad tail (w ∷ ws) lone
       has = refl;
     }
 
-token_fails : {X : Type 0} (letters : Letters) (h : List ℕ → List ℕ → Result X ℕ) (P : List ℕ → Bool) → ((x : List ℕ) → P x ≡ true → ends x ≡ true) → ((v : List ℕ) → Sharp (h v) P)
+token_fails : {X : Type 0} (letters : Letters) (h : List ℕ → List ℕ → Result X ℕ) (P : List ℕ → Bool) → ((x : List ℕ) → P x ≡ true → ends x ≡ true) → ((v : List ℕ) → Good letters v → Sharp (h v) P)
     → (bs : List ℕ) (left : ℕ) → token_at letters bs ≡ Err left → Failure (token_then letters h) any bs left
 token_fails letters h P end sharp [] left e =
-    let s = sharp (65 ∷ []) in
+    let s = sharp (65 ∷ []) (sample_good letters) in
     at_nothing (token_then letters h) any left (sym (err_value 0 left e)) (token (65 ∷ []) ++ s.sample) s.value (token_sample letters h P (65 ∷ []) end s (sample_good letters)) refl
 token_fails letters h P end sharp (b ∷ bs) left e = elim (chosen (eqb b 37 && is_lone letters bs) _ _ _ e) [
   | inl p ↦ absurd (never left ([], bs) (sym p.1))
@@ -399,7 +400,7 @@ token_fails letters h P end sharp (b ∷ bs) left e = elim (chosen (eqb b 37 && 
         broken_token letters h P end sharp b bs left f.front f.bad f.tail f.v p.0 f.parts f.size f.has_begun f.local f.whole f.good
     | inr q ↦
         let m = empty_means letters b bs q.rest q.is in
-        let s = sharp (65 ∷ []) in
+        let s = sharp (65 ∷ []) (sample_good letters) in
         at_head (token_then letters h) any b bs left q.same
         (λ other. refused (eqb b 37) (is_lone letters other) (stands_for_itself b && allows letters Character b) _ _ _ _ m.0 m.1)
         (token (65 ∷ []) ++ s.sample) s.value (token_sample letters h P (65 ∷ []) end s (sample_good letters)) refl
@@ -412,11 +413,12 @@ token_fails letters h P end sharp (b ∷ bs) left e = elim (chosen (eqb b 37 && 
     refused true l a x y z other e f = cc e
     refused false l true x y z other e f = cc f
 
-pub sharp_token : {X : Type 0} (letters : Letters) (h : List ℕ → List ℕ → Result X ℕ) (P : List ℕ → Bool) → ((x : List ℕ) → P x ≡ true → ends x ≡ true) → ((v : List ℕ) → Sharp (h v) P) → Sharp (token_then letters h) any
-sharp_token {X} letters h P end sharp = record {
-  sample = token (65 ∷ []) ++ (sharp (65 ∷ [])).sample;
-  value = (sharp (65 ∷ [])).value;
-  reads = token_sample letters h P (65 ∷ []) end (sharp (65 ∷ [])) (sample_good letters);
+-- what reads the rest is sharp behind each token that there is
+pub sharp_good : {X : Type 0} (letters : Letters) (h : List ℕ → List ℕ → Result X ℕ) (P : List ℕ → Bool) → ((x : List ℕ) → P x ≡ true → ends x ≡ true) → ((v : List ℕ) → Good letters v → Sharp (h v) P) → Sharp (token_then letters h) any
+sharp_good {X} letters h P end sharp = record {
+  sample = token (65 ∷ []) ++ (sharp (65 ∷ []) (sample_good letters)).sample;
+  value = (sharp (65 ∷ []) (sample_good letters)).value;
+  reads = token_sample letters h P (65 ∷ []) end (sharp (65 ∷ []) (sample_good letters)) (sample_good letters);
   has = refl;
   fails = λ bs left e. by_token bs left (token_at letters bs) refl e;
 }
@@ -425,9 +427,12 @@ sharp_token {X} letters h P end sharp = record {
     by_token bs left (Ok r) is e =
         let t = token_at_takes letters bs r.0 r.1 is in
         let may = token_follows letters bs r.0 r.1 is in
-        let f = (sharp r.0).fails r.1 left e in
+        let f = (sharp r.0 t.good).fails r.1 left e in
         behind (token_then letters h) (h r.0) any P (token r.0) bs r.1 left t.same f
         (λ x more other q. token_read letters h r.0 (f.front ++ x ∷ other) t.good
         (follows_head letters r.0 f.front x more other (subst (λ (l : List ℕ). may_follow letters r.0 l ≡ true) (f.parts ∙ ap (λ (l : List ℕ). f.front ++ l) q) may)))
         (ap (λ (q : Result (List ℕ × List ℕ) ℕ). q >>= (λ r. h r.0 r.1)) (token_again letters r.0 (f.front ++ f.tail) t.good (end (f.front ++ f.tail) f.has))) refl
     by_token bs left (Err l) is e = token_fails letters h P end sharp bs left (is ∙ ap Err (err_value l left e))
+
+pub sharp_token : {X : Type 0} (letters : Letters) (h : List ℕ → List ℕ → Result X ℕ) (P : List ℕ → Bool) → ((x : List ℕ) → P x ≡ true → ends x ≡ true) → ((v : List ℕ) → Sharp (h v) P) → Sharp (token_then letters h) any
+sharp_token letters h P end sharp = sharp_good letters h P end (λ v good. sharp v)

@@ -45,7 +45,12 @@ step letters awaits (b ∷ bs) = elim (cases_Bool (eqb b 37)) [
   ]
 ]
 
-front_first : (xs : List ℕ) (x : ℕ) (r : Result (List ℕ × List ℕ) ℕ) → with_front xs (with_first x r) ≡ with_front (xs ++ x ∷ []) r
+-- nothing was read before
+pub front_none : (r : Result (List ℕ × List ℕ) ℕ) → with_front [] r ≡ r
+front_none (Ok r) = refl
+front_none (Err left) = refl
+
+pub front_first : (xs : List ℕ) (x : ℕ) (r : Result (List ℕ × List ℕ) ℕ) → with_front xs (with_first x r) ≡ with_front (xs ++ x ∷ []) r
 front_first xs x (Ok r) = ap (λ (q : List ℕ). Ok (q, r.1)) (sym (append_assoc xs (x ∷ []) r.0))
 front_first xs x (Err left) = refl
 

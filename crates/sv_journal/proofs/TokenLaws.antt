@@ -4,6 +4,7 @@ use Rattle.std.proofs.lemmas.Bool.{false≢true, cases_Bool, cases_lt, lt-ltb, l
 use Rattle.std.proofs.lemmas.List.Folds.{list_any_at}
 use Rattle.sv_journal.specs.Spelling.{stands_for_itself, hex_digit, byte_spelling, bytes_spelling, token}
 use Rattle.sv_journal.specs.Tokens.{allows, after, escapes, is_hex, hex_value, sixteen, may_begin, is_first_digit, is_second_digit}
+use Rattle.sv_journal.specs.Escapes.{is_escape, begins_escape, is_first_of}
 use Rattle.sv_journal.specs.Reading.{Stage, closed, token_from, with_first, is_lone, nonempty, token_at}
 use Rattle.sv_journal.specs.Reading.Stage.{Between, Percent, Digit}
 use Rattle.sv_journal.specs.declared.token.Letters.{Letters}
@@ -220,20 +221,23 @@ sixteen_at k h = agree k h
     agree (suc (suc (suc (suc (suc (suc (suc (suc (suc (suc (suc (suc (suc (suc (suc zero))))))))))))))) h = refl
     agree (suc (suc (suc (suc (suc (suc (suc (suc (suc (suc (suc (suc (suc (suc (suc (suc n)))))))))))))))) h = absurd (omega arith)
 
-begins : (letters : Letters) (awaits : Awaits) (high low : ℕ) → low < 16 → escapes letters awaits (16 * high + low) ≡ true → may_begin letters awaits high ≡ true
-begins letters awaits high low h e =
-    list_any_at (λ (k : ℕ). escapes letters awaits (16 * high + k)) sixteen low 0 h (ap (λ (k : ℕ). escapes letters awaits (16 * high + k)) (sixteen_at low h) ∙ e)
+begins : (comes : ℕ → Bool) (high low : ℕ) → low < 16 → is_escape comes (16 * high + low) ≡ true → begins_escape comes high ≡ true
+begins comes high low h e =
+    list_any_at (λ (k : ℕ). is_escape comes (16 * high + k)) sixteen low 0 h (ap (λ (k : ℕ). is_escape comes (16 * high + k)) (sixteen_at low h) ∙ e)
 
 pub choose_true : {X : Type 0} (t : Bool) (x y : X) → t ≡ true → cond t x y ≡ x
 choose_true true x y e = refl
 choose_true false x y e = absurd (false≢true e)
 
-pub first_again : (letters : Letters) (awaits : Awaits) (b : ℕ) → b < 256 → escapes letters awaits b ≡ true → is_first_digit letters awaits (hex_digit (b / 16)) ≡ true
-first_again letters awaits b small e =
+pub first_of_again : (comes : ℕ → Bool) (b : ℕ) → b < 256 → is_escape comes b ≡ true → is_first_of comes (hex_digit (b / 16)) ≡ true
+first_of_again comes b small e =
     let top : b / 16 < 16 = omega arith in
     let whole : 16 * (b / 16) + b % 16 ≡ b = omega arith in
-    and_from (is_hex (hex_digit (b / 16))) (may_begin letters awaits (hex_value (hex_digit (b / 16)))) (digit_is_hex (b / 16) top)
-    (ap (may_begin letters awaits) (value_of_digit (b / 16) top) ∙ begins letters awaits (b / 16) (b % 16) (omega arith) (ap (escapes letters awaits) whole ∙ e))
+    and_from (is_hex (hex_digit (b / 16))) (begins_escape comes (hex_value (hex_digit (b / 16)))) (digit_is_hex (b / 16) top)
+    (ap (begins_escape comes) (value_of_digit (b / 16) top) ∙ begins comes (b / 16) (b % 16) (omega arith) (ap (is_escape comes) whole ∙ e))
+
+pub first_again : (letters : Letters) (awaits : Awaits) (b : ℕ) → b < 256 → escapes letters awaits b ≡ true → is_first_digit letters awaits (hex_digit (b / 16)) ≡ true
+first_again letters awaits b small e = first_of_again (allows letters awaits) b small e
 
 -- the escape of a byte that may come is read as it
 escape_again : (letters : Letters) (awaits : Awaits) (b : ℕ) (rest : List ℕ) → b < 256 → escapes letters awaits b ≡ true
@@ -245,7 +249,7 @@ escape_again letters awaits b rest small e =
     let e2 : escapes letters awaits (16 * (b / 16) + b % 16) ≡ true = ap (escapes letters awaits) whole ∙ e in
     let first : is_first_digit letters awaits (hex_digit (b / 16)) ≡ true =
     and_from (is_hex (hex_digit (b / 16))) (may_begin letters awaits (hex_value (hex_digit (b / 16)))) (digit_is_hex (b / 16) top)
-    (ap (may_begin letters awaits) (value_of_digit (b / 16) top) ∙ begins letters awaits (b / 16) (b % 16) low e2) in
+    (ap (may_begin letters awaits) (value_of_digit (b / 16) top) ∙ begins (allows letters awaits) (b / 16) (b % 16) low e2) in
     let value : 16 * (b / 16) + hex_value (hex_digit (b % 16)) ≡ b = ap (λ (x : ℕ). 16 * (b / 16) + x) (value_of_digit (b % 16) low) ∙ whole in
     let second : is_second_digit letters awaits (b / 16) (hex_digit (b % 16)) ≡ true =
     and_from (is_hex (hex_digit (b % 16))) (escapes letters awaits (16 * (b / 16) + hex_value (hex_digit (b % 16)))) (digit_is_hex (b % 16) low) (ap (escapes letters awaits) value ∙ e) in

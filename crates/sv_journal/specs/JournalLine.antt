@@ -1,5 +1,5 @@
 -- The one line of each input, order and header, without its line feed, and which of them a journal may hold.
-use Rattle.std.specs.Prelude.{ℕ, ◌<◌, ◌≤◌, ◌≡◌, ◌≢◌, List, ◌++◌, length, Bool, true, false, codes, IsUtf8, chars, nat_lt, nat_le}
+use Rattle.std.specs.Prelude.{ℕ, ◌<◌, ◌≤◌, ◌≡◌, ◌≢◌, List, [], ◌∷◌, ◌++◌, length, Bool, true, false, codes, IsUtf8, chars, nat_lt, nat_le}
 use Rattle.std.specs.List.{flat_map, list_all}
 use Rattle.std.specs.Fmt.{decimal}
 use Rattle.sv_base.specs.Limits.{moment_limit, piece_limit}
@@ -13,6 +13,7 @@ use Rattle.sv_base.specs.declared.state.Side.{Side}
 use Rattle.sv_base.specs.declared.state.Side.TheVariants as side_is
 use Rattle.sv_base.specs.declared.state.Autorestart.{Autorestart}
 use Rattle.sv_base.specs.declared.state.Autorestart.TheVariants.{Never, Unexpected, Always}
+use Rattle.sv_out.specs.Files.{AreRising}
 use Rattle.sv_out.specs.declared.input.Input.{Input}
 use Rattle.sv_out.specs.declared.input.Input.TheVariants as input_is
 use Rattle.sv_out.specs.declared.order.Order.{Order}
@@ -66,6 +67,14 @@ abbrev pub side_word : Side → List ℕ
 side_word side_is.Inet = codes "inet"
 side_word side_is.Unix = codes "unix"
 
+-- a space and a token
+abbrev pub then_token : List ℕ → List ℕ
+then_token bytes = codes " " ++ token bytes
+
+-- how many words there are, and each of them
+abbrev pub counted_words : List (List ℕ) → List ℕ
+counted_words words = codes " " ++ decimal (length words) ++ flat_map then_token words
+
 -- the line of an input
 abbrev pub input_line : Input → List ℕ
 input_line (input_is.Tick at) = decimal at ++ codes " tick"
@@ -86,7 +95,14 @@ input_line (input_is.Refused reason) = codes "refused " ++ token reason
 input_line (input_is.Read bytes) = codes "bytes " ++ token bytes
 input_line input_is.Done = codes "done"
 input_line input_is.Missing = codes "missing"
+input_line (input_is.Names names) = codes "names" ++ counted_words names
+input_line (input_is.Size size) = codes "size " ++ decimal size
 input_line (input_is.Failed number) = codes "failed " ++ decimal number
+
+-- each of these is a text
+abbrev pub AreTexts : List (List ℕ) → Type 0
+AreTexts [] = Unit {0}
+AreTexts (text ∷ texts) = IsUtf8 text × AreTexts texts
 
 -- the inputs that have a line
 abbrev pub FitsInput : Input → Type 0
@@ -107,19 +123,13 @@ FitsInput (input_is.Refused reason) = IsUtf8 reason
 FitsInput (input_is.Read bytes) = AreBytes bytes
 FitsInput input_is.Done = Unit {0}
 FitsInput input_is.Missing = Unit {0}
+FitsInput (input_is.Names names) = AreTexts names × (length names ≤ number_limit) × AreRising names
+FitsInput (input_is.Size size) = size ≤ number_limit
 FitsInput (input_is.Failed number) = number ≤ number_limit
-
--- a space and a token
-abbrev pub then_token : List ℕ → List ℕ
-then_token bytes = codes " " ++ token bytes
 
 -- a name and a value, each after a space
 abbrev pub then_pair : List ℕ × List ℕ → List ℕ
 then_pair pair = then_token pair.0 ++ then_token pair.1
-
--- how many words there are, and each of them
-abbrev pub counted_words : List (List ℕ) → List ℕ
-counted_words words = codes " " ++ decimal (length words) ++ flat_map then_token words
 
 -- how many pairs there are, and each of them
 abbrev pub counted_pairs : List (List ℕ × List ℕ) → List ℕ
@@ -159,6 +169,8 @@ order_line (order_is.Fresh file) = codes "fresh" ++ then_token file
 order_line (order_is.ReadFile file start length) =
     codes "read" ++ then_token file ++ codes " " ++ decimal start ++ codes " " ++ decimal length
 order_line (order_is.ClearFile file) = codes "clear" ++ then_token file
+order_line (order_is.Names pattern) = codes "names" ++ then_token pattern
+order_line (order_is.Size file) = codes "size" ++ then_token file
 order_line (order_is.Send link bytes) = codes "send " ++ decimal link.0 ++ then_token bytes
 order_line (order_is.More link) = codes "more " ++ decimal link.0
 order_line (order_is.Close link) = codes "close " ++ decimal link.0

@@ -1,8 +1,10 @@
 pub mod Column
 pub mod Commas
+pub mod Escapes
 pub mod JournalLine
 pub mod Limits
 pub mod OrderReading
+pub mod Names
 pub mod Orders
 pub mod Outcome
 pub mod Pieces

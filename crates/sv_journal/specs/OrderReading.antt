@@ -12,7 +12,7 @@ use Rattle.sv_journal.specs.declared.order_words.Receiver.TheVariants as receive
 use Rattle.sv_journal.specs.declared.token.Letters.TheVariants.{OfText, OfBytes}
 use Rattle.sv_journal.specs.JournalLine.{receiver}
 use Rattle.sv_journal.specs.Limits.{number_limit, run_limit}
-use Rattle.sv_journal.specs.Reading.{◌>>=◌, word_at, token_at, end_at, last_token_at}
+use Rattle.sv_journal.specs.Reading.{◌>>=◌, word_at, token_at, end_at, last_token_at, with_item}
 use Rattle.sv_journal.specs.ReadingLines.{signals, word_then, keyword_then, number_then}
 
 -- the first word of an order line, with the space after it where a number follows
@@ -27,6 +27,8 @@ order_word word_is.Shift = codes "shift"
 order_word word_is.Fresh = codes "fresh"
 order_word word_is.Read = codes "read"
 order_word word_is.Clear = codes "clear"
+order_word word_is.Names = codes "names"
+order_word word_is.Size = codes "size"
 order_word word_is.Send = codes "send "
 order_word word_is.More = codes "more "
 order_word word_is.Close = codes "close "
@@ -45,6 +47,8 @@ order_words =
     ∷ word_is.Fresh
     ∷ word_is.Read
     ∷ word_is.Clear
+    ∷ word_is.Names
+    ∷ word_is.Size
     ∷ word_is.Send
     ∷ word_is.More
     ∷ word_is.Close
@@ -84,11 +88,6 @@ text_at bs = word_at (codes " ") bs >>= token_at OfText
 -- a text behind a space, and then what reads the rest
 abbrev pub text_then : {X : Type 0} → (List ℕ → List ℕ → Result X ℕ) → List ℕ → Result X ℕ
 text_then next bs = text_at bs >>= (λ r. next r.0 r.1)
-
--- this item, and then what was read behind it
-abbrev pub with_item : {A : Type 0} → A → Result (List A × List ℕ) ℕ → Result (List A × List ℕ) ℕ
-with_item item (Ok r) = Ok (item ∷ r.0, r.1)
-with_item item (Err left) = Err left
 
 -- these items, and then what was read behind them
 abbrev pub with_items : {A : Type 0} → List A → Result (List A × List ℕ) ℕ → Result (List A × List ℕ) ℕ
@@ -194,6 +193,8 @@ order_of word_is.Shift bs = two_texts_at bs >>= (λ r. Ok (order_is.Shift r.0 r.
 order_of word_is.Fresh bs = last_text_at bs >>= (λ file. Ok (order_is.Fresh file))
 order_of word_is.Read bs = text_numbers_at bs >>= (λ r. Ok (order_is.ReadFile r.0 r.1 r.2))
 order_of word_is.Clear bs = last_text_at bs >>= (λ file. Ok (order_is.ClearFile file))
+order_of word_is.Names bs = last_text_at bs >>= (λ pattern. Ok (order_is.Names pattern))
+order_of word_is.Size bs = last_text_at bs >>= (λ file. Ok (order_is.Size file))
 order_of word_is.Send bs = number_bytes_at bs >>= (λ r. Ok (order_is.Send (record { 0 = r.0 }) r.1))
 order_of word_is.More bs = last_number_at bs >>= (λ link. Ok (order_is.More (record { 0 = link })))
 order_of word_is.Close bs = last_number_at bs >>= (λ link. Ok (order_is.Close (record { 0 = link })))

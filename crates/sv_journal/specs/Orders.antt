@@ -3,13 +3,8 @@ use Rattle.std.specs.Prelude.{◌≤◌, ℕ, List, [], ◌∷◌, IsUtf8, lengt
 use Rattle.sv_out.specs.declared.order.Order.{Order}
 use Rattle.sv_out.specs.declared.order.Order.TheVariants as order_is
 use Rattle.sv_out.specs.declared.order.SpawnOrder.{SpawnOrder}
-use Rattle.sv_journal.specs.JournalLine.{AreBytes}
+use Rattle.sv_journal.specs.JournalLine.{AreBytes, AreTexts}
 use Rattle.sv_journal.specs.Limits.{number_limit, run_limit}
-
--- each of these is a text
-abbrev pub AreTexts : List (List ℕ) → Type 0
-AreTexts [] = Unit {0}
-AreTexts (text ∷ texts) = IsUtf8 text × AreTexts texts
 
 -- each of these is a name and a value
 abbrev pub ArePairs : List (List ℕ × List ℕ) → Type 0
@@ -42,6 +37,8 @@ FitsOrder (order_is.Shift from to) = IsUtf8 from × IsUtf8 to
 FitsOrder (order_is.Fresh file) = IsUtf8 file
 FitsOrder (order_is.ReadFile file start length) = IsUtf8 file × (start ≤ number_limit) × (length ≤ number_limit)
 FitsOrder (order_is.ClearFile file) = IsUtf8 file
+FitsOrder (order_is.Names pattern) = IsUtf8 pattern
+FitsOrder (order_is.Size file) = IsUtf8 file
 FitsOrder (order_is.Send link bytes) = (link.0 ≤ run_limit) × AreBytes bytes
 FitsOrder (order_is.More link) = link.0 ≤ run_limit
 FitsOrder (order_is.Close link) = link.0 ≤ run_limit

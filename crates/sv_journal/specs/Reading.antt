@@ -77,6 +77,11 @@ abbrev pub with_front : List ℕ → Result (List ℕ × List ℕ) ℕ → Resul
 with_front xs (Ok r) = Ok (xs ++ r.0, r.1)
 with_front xs (Err left) = Err left
 
+-- this item, and then what was read behind it
+abbrev pub with_item : {A : Type 0} → A → Result (List A × List ℕ) ℕ → Result (List A × List ℕ) ℕ
+with_item item (Ok r) = Ok (item ∷ r.0, r.1)
+with_item item (Err left) = Err left
+
 -- exit codes parted by commas: where none is given, one is awaited
 abbrev pub codes_from : Option ℕ → List ℕ → Result (List ℕ × List ℕ) ℕ
 codes_from None [] = Err 0

@@ -32,6 +32,7 @@ use Rattle.sv_journal.specs.declared.token.Letters.TheVariants.{OfText, OfName, 
 use Rattle.sv_journal.specs.JournalLine.{autorestart_word, side_word}
 use Rattle.sv_journal.specs.Limits.{number_limit, run_limit, program_limit}
 use Rattle.sv_journal.specs.Reading.{◌>>=◌, word_at, keyword_at, number_at, token_at, end_at, last_token_at, codes_from}
+use Rattle.sv_journal.specs.Names.{names_at}
 use Rattle.sv_journal.specs.Pieces.{piece_at}
 
 -- what happened, with the space after it where something follows
@@ -105,6 +106,8 @@ answer_word answer_is.Refused = codes "refused "
 answer_word answer_is.Bytes = codes "bytes "
 answer_word answer_is.Done = codes "done"
 answer_word answer_is.Missing = codes "missing"
+answer_word answer_is.Names = codes "names "
+answer_word answer_is.Size = codes "size "
 answer_word answer_is.Failed = codes "failed "
 
 -- of which none begins another
@@ -117,6 +120,8 @@ answers =
     ∷ answer_is.Bytes
     ∷ answer_is.Done
     ∷ answer_is.Missing
+    ∷ answer_is.Names
+    ∷ answer_is.Size
     ∷ answer_is.Failed
     ∷ []
 
@@ -242,6 +247,10 @@ event_of at verb_is.Signal = keyword_then told_word told_signals (λ told. end_a
 unfoldable pub event_at : List ℕ → Result Input ℕ
 event_at = number_then 0 moment_limit (λ at. word_then (codes " ") (keyword_then verb_word verbs (event_of at)))
 
+-- how many names there are, and each of them, which end the line
+unfoldable pub names_line_at : List ℕ → Result Input ℕ
+names_line_at = number_then 0 number_limit (λ n bs. names_at None n bs >>= (λ r. end_at (input_is.Names r.0) r.1))
+
 -- what follows the word of an answer
 unfoldable pub answer_of : Answer → List ℕ → Result Input ℕ
 answer_of answer_is.Pid = number_then 1 run_limit (λ pid. end_at (input_is.Pid pid))
@@ -251,6 +260,8 @@ answer_of answer_is.Refused = last_token_then OfText (λ reason. input_is.Refuse
 answer_of answer_is.Bytes = last_token_then OfBytes (λ bytes. input_is.Read bytes)
 answer_of answer_is.Done = end_at input_is.Done
 answer_of answer_is.Missing = end_at input_is.Missing
+answer_of answer_is.Names = names_line_at
+answer_of answer_is.Size = number_then 0 number_limit (λ size. end_at (input_is.Size size))
 answer_of answer_is.Failed = number_then 0 number_limit (λ number. end_at (input_is.Failed number))
 
 -- an answer: its word and the rest

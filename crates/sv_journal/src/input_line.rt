@@ -4,6 +4,7 @@ ghost use Rattle.sv_base.specs.Limits.{moment_limit};
 ghost use Rattle.sv_journal.specs.Reading.{Gives};
 ghost use Rattle.sv_journal.specs.ReadingLines.{how_at, exit_at, out_at, out_end_at, open_at, link_piece_at, link_end_at, event_of, event_at, answer_of, answer_at, input_at};
 
+use crate::names_line::names;
 use crate::number::number;
 use crate::piece::piece_of_line;
 use crate::stop::Stop;
@@ -206,6 +207,11 @@ fn answer_of(alloc: Global, answer: Answer, bytes: &[u8]) -> Result<Input, Stop>
         }
         Answer::Done => end(Input::Done, bytes),
         Answer::Missing => end(Input::Missing, bytes),
+        Answer::Names => names(alloc, bytes),
+        Answer::Size => {
+            let (size, rest) = number(0, u64::MAX, bytes)?;
+            end(Input::Size(size), rest)
+        }
         Answer::Failed => {
             let (order, rest) = number(0, u64::MAX, bytes)?;
             end(Input::Failed(order), rest)

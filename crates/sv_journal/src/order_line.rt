@@ -81,6 +81,14 @@ fn order_of(alloc: Global, word: OrderWord, bytes: &[u8]) -> Result<Order, Stop>
             let file = last_text(alloc, bytes)?;
             Ok(Order::ClearFile { file })
         }
+        OrderWord::Names => {
+            let pattern = last_text(alloc, bytes)?;
+            Ok(Order::Names { pattern })
+        }
+        OrderWord::Size => {
+            let file = last_text(alloc, bytes)?;
+            Ok(Order::Size { file })
+        }
         OrderWord::Send => {
             let (link, bytes) = number_and_bytes(alloc, bytes)?;
             Ok(Order::Send {

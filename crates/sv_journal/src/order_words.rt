@@ -19,6 +19,8 @@ pub enum OrderWord {
     Fresh,
     Read,
     Clear,
+    Names,
+    Size,
     Send,
     More,
     Close,
@@ -32,7 +34,7 @@ pub enum Receiver {
     Group,
 }
 
-pub const ORDER_WORDS: [OrderWord; 14] = [
+pub const ORDER_WORDS: [OrderWord; 16] = [
     OrderWord::State,
     OrderWord::Dropped,
     OrderWord::Spawn,
@@ -43,6 +45,8 @@ pub const ORDER_WORDS: [OrderWord; 14] = [
     OrderWord::Fresh,
     OrderWord::Read,
     OrderWord::Clear,
+    OrderWord::Names,
+    OrderWord::Size,
     OrderWord::Send,
     OrderWord::More,
     OrderWord::Close,
@@ -89,6 +93,8 @@ impl Spelled for OrderWord {
             OrderWord::Fresh => "fresh",
             OrderWord::Read => "read",
             OrderWord::Clear => "clear",
+            OrderWord::Names => "names",
+            OrderWord::Size => "size",
             OrderWord::Send => "send ",
             OrderWord::More => "more ",
             OrderWord::Close => "close ",

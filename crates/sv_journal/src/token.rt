@@ -5,7 +5,7 @@ ghost use Rattle.sv_journal.specs.declared.token.Letters.{Letters};
 ghost use Rattle.sv_journal.specs.declared.token.Awaits.{Awaits};
 ghost use Rattle.sv_journal.specs.Spelling.{stands_for_itself};
 ghost use Rattle.sv_journal.specs.Tokens.{is_name_letter, whole_below, allows, after, after_lead, escapes, is_hex, hex_value, may_begin, is_first_digit, is_second_digit};
-ghost use Rattle.sv_journal.specs.Reading.{Gives, Stage, first_digit_at, second_digit_at, escape_at, spelled_byte_at, token_from, is_lone, token_at, last_token_at};
+ghost use Rattle.sv_journal.specs.Reading.{Gives, Stage, first_digit_at, second_digit_at, escape_at, spelled_byte_at, token_from, with_front, is_lone, token_at, last_token_at};
 
 use crate::stop::Stop;
 use crate::word::end;
@@ -57,7 +57,8 @@ impl Letters {
 }
 
 impl Awaits {
-    fn allows(self, letters: Letters, byte: u8) -> bool
+    /// Whether this byte may come.
+    pub fn allows(self, letters: Letters, byte: u8) -> bool
         ensures { result ≡ allows letters self byte }
     {
         match self {
@@ -70,7 +71,8 @@ impl Awaits {
         }
     }
 
-    fn after(self, letters: Letters, byte: u8) -> Awaits
+    /// What the token goes on with behind this byte.
+    pub fn after(self, letters: Letters, byte: u8) -> Awaits
         ensures { result ≡ after letters self byte }
     {
         match self {
@@ -119,7 +121,8 @@ fn after_lead(letters: Letters, lead: u8) -> Awaits
     }
 }
 
-fn hex_value(digit: u8) -> Option<u8>
+/// The value of a hexadecimal digit in upper case.
+pub fn hex_value(digit: u8) -> Option<u8>
     ensures value { SomeIff result (IsTrue (is_hex digit)) (hex_value digit) }
     ensures bound { IfSome result (λ value. value < 16) }
 {
@@ -213,14 +216,17 @@ fn spelled_byte(letters: Letters, awaits: Awaits, bytes: &[u8]) -> Result<Option
     }
 }
 
-/// Reads the bytes of a token.
+/// Reads the bytes of a token behind those that were read, at this place of it.
 #[tactic(auto, using(crate::proofs::Stages::step_more, crate::proofs::Stages::step_end, crate::proofs::Stages::step_err))]
-fn spelled(alloc: Global, letters: Letters, bytes: &[u8]) -> Result<(Vec<u8>, &[u8]), Stop>
+pub fn spelled_behind(
+    mut value: Vec<u8>,
+    letters: Letters,
+    mut awaits: Awaits,
+    bytes: &[u8],
+) -> Result<(Vec<u8>, &[u8]), Stop>
     ensures { Gives (λ x. (x.0.items, x.1.now)) result
-        (token_from letters (Stage.Between Awaits.Character) bytes.now) }
+        (with_front value.items (token_from letters (Stage.Between awaits) bytes.now)) }
 {
-    let mut value = Vec::new(alloc);
-    let mut awaits = Awaits::Character;
     let mut rest = bytes;
     loop {
         match spelled_byte(letters, awaits, rest) {
@@ -233,6 +239,15 @@ fn spelled(alloc: Global, letters: Letters, bytes: &[u8]) -> Result<(Vec<u8>, &[
             Err(stop) => return Err(stop),
         }
     }
+}
+
+/// Reads the bytes of a token.
+#[tactic(auto, using(crate::proofs::Stages::front_none))]
+fn spelled(alloc: Global, letters: Letters, bytes: &[u8]) -> Result<(Vec<u8>, &[u8]), Stop>
+    ensures { Gives (λ x. (x.0.items, x.1.now)) result
+        (token_from letters (Stage.Between Awaits.Character) bytes.now) }
+{
+    spelled_behind(Vec::new(alloc), letters, Awaits::Character, bytes)
 }
 
 /// Whether this follows the percent sign that is the empty text.
@@ -272,7 +287,7 @@ pub fn token(alloc: Global, letters: Letters, bytes: &[u8]) -> Result<(Text, &[u
 }
 
 /// The text of these bytes, which are UTF-8.
-fn text_of(bytes: Vec<u8>) -> Text
+pub fn text_of(bytes: Vec<u8>) -> Text
     requires { IsUtf8 bytes.items }
     ensures { result ≡ bytes.items }
 {

@@ -53,6 +53,8 @@ pub enum Answer {
     Bytes,
     Done,
     Missing,
+    Names,
+    Size,
     Failed,
 }
 
@@ -100,7 +102,7 @@ pub const ENDINGS: [Ending; 2] = [Ending::Code, Ending::Signal];
 
 pub const SIDES: [Side; 2] = [Side::Inet, Side::Unix];
 
-pub const ANSWERS: [Answer; 8] = [
+pub const ANSWERS: [Answer; 10] = [
     Answer::Pid,
     Answer::NoFile,
     Answer::NotExecutable,
@@ -108,6 +110,8 @@ pub const ANSWERS: [Answer; 8] = [
     Answer::Bytes,
     Answer::Done,
     Answer::Missing,
+    Answer::Names,
+    Answer::Size,
     Answer::Failed,
 ];
 
@@ -216,6 +220,8 @@ impl Spelled for Answer {
             Answer::Bytes => "bytes ",
             Answer::Done => "done",
             Answer::Missing => "missing",
+            Answer::Names => "names ",
+            Answer::Size => "size ",
             Answer::Failed => "failed ",
         }
     }

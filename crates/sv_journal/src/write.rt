@@ -67,8 +67,20 @@ fn put_input(line: &mut String, input: &Input) -> Result<(), AllocError>
         Input::Read(bytes) => put_spelled(line, "bytes ", bytes.as_slice()),
         Input::Done => line.push_str("done"),
         Input::Missing => line.push_str("missing"),
+        Input::Names(names) => put_names(line, names.as_slice()),
+        Input::Size(size) => put_counted(line, "size ", *size),
         Input::Failed(number) => put_counted(line, "failed ", *number),
     }
+}
+
+/// Adds the answer of these names.
+#[tactic(auto, using(crate::proofs::Lists::joined))]
+fn put_names(line: &mut String, names: &[Text]) -> Result<(), AllocError>
+    ensures { OnOk result (string_bytes line.new
+        ≡ string_bytes line.old ++ (codes "names" ++ counted_words names.now)) }
+{
+    line.push_str("names")?;
+    put_words(line, names)
 }
 
 /// Adds a moment and what happened then.
@@ -233,6 +245,8 @@ fn put_order(line: &mut String, order: &Order) -> Result<(), AllocError>
             length,
         } => put_text_and_numbers(line, "read", file, *start, *length),
         Order::ClearFile { file } => put_one_token(line, "clear", file),
+        Order::Names { pattern } => put_one_token(line, "names", pattern),
+        Order::Size { file } => put_one_token(line, "size", file),
         Order::Send { link, bytes } => put_number_and_bytes(line, "send ", link.0, bytes),
         Order::More { link } => put_counted(line, "more ", u64::from(link.0)),
         Order::Close { link } => put_counted(line, "close ", u64::from(link.0)),

@@ -1,7 +1,7 @@
 //! Order lines with the columns at which they break, and header lines.
 
 /// Order lines, each with the column at which it breaks; none is a good line.
-pub const ORDER_LINES: [(&str, Option<usize>); 58] = [
+pub const ORDER_LINES: [(&str, Option<usize>); 67] = [
     ("", Some(0)),
     ("x", Some(0)),
     ("> halt", Some(0)),
@@ -59,7 +59,16 @@ pub const ORDER_LINES: [(&str, Option<usize>); 58] = [
     ("more", Some(4)),
     ("close 4294967295", None),
     ("close -1", Some(6)),
-    ("names *", Some(0)),
+    ("names *", None),
+    ("names /etc/*.d/?.conf", None),
+    ("names %", None),
+    ("names", Some(5)),
+    ("names ", Some(6)),
+    ("names a b", Some(7)),
+    ("size x%20y.log", None),
+    ("size", Some(4)),
+    ("size x 1", Some(6)),
+    ("sized", Some(4)),
 ];
 
 /// Lines of headers, each of which is the line of one.

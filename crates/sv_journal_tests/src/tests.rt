@@ -1,6 +1,8 @@
 //! Lines are read or break at their column, and values have their lines.
 
-use crate::lines::{ANSWERS, FILES, HEADERS, INPUTS, LINKS, LONG_HEADERS, LONG_PIECES, PIECES};
+use crate::lines::{
+    ANSWERS, FILES, HEADERS, INPUTS, LINKS, LONG_HEADERS, LONG_PIECES, NAMES, PIECES, SIZES,
+};
 use std::alloc::Global;
 use std::process::Abort;
 use sv_base::bytes::Bytes;
@@ -13,7 +15,9 @@ use sv_journal::fault::LineFault;
 use sv_journal::header::Header;
 use sv_journal::read::{read_header, read_input};
 use sv_journal::write::{write_input, write_order};
+use sv_out::input::Input;
 use sv_out::order::{Order, SpawnOrder};
+use sv_out::rising::RisingNames;
 
 /// A line of a long header, as it is to be read.
 #[derive(Clone, Copy)]
@@ -88,12 +92,70 @@ fn lines_are_read_or_break_at_their_column(rt: HostRuntime) {
         same_column(&rt, line, input_column(&rt, alloc, line), *column);
         written_again(&rt, alloc, line);
     }
+    for (line, column) in &NAMES {
+        same_column(&rt, line, input_column(&rt, alloc, line), *column);
+        written_again(&rt, alloc, line);
+    }
+    for (line, column) in &SIZES {
+        same_column(&rt, line, input_column(&rt, alloc, line), *column);
+        written_again(&rt, alloc, line);
+    }
     for (line, column) in &HEADERS {
         same_column(&rt, line, header_column(&rt, alloc, line), *column);
     }
     for (line, column) in &LONG_HEADERS {
         same_column(&rt, line, header_column(&rt, alloc, line), *column);
     }
+}
+
+/// Lists of names, and whether they rise.
+const LISTS: [(&[&str], bool); 7] = [
+    (&[], true),
+    (&["a"], true),
+    (&["", "a b", "a b!", "\u{e9}"], true),
+    (&["a", "a"], false),
+    (&["b", "a"], false),
+    (&["a", "c", "b"], false),
+    (&["ab", "a"], false),
+];
+
+fn names(rt: &impl Abort, alloc: Global, names: &[&'static str]) -> Option<RisingNames> {
+    let mut list = Vec::new(alloc);
+    for name in names {
+        if list.push(Text::fixed(*name)).is_err() {
+            panic!(rt; "out of memory")
+        }
+    }
+    RisingNames::new(list)
+}
+
+/// Reads the line of an answer of names.
+fn names_of(rt: &impl Abort, alloc: Global, line: &str) -> RisingNames {
+    match read_input(alloc, line.as_bytes()) {
+        Ok(Input::Names(names)) => names,
+        _ => panic!(rt; "{line}"),
+    }
+}
+
+fn are_names(found: &[Text], wanted: &[&str]) -> bool {
+    found.len() == wanted.len()
+        && found
+            .iter()
+            .zip(wanted)
+            .all(|(name, other)| name.as_str() == *other)
+}
+
+#[test]
+fn names_rise(rt: HostRuntime) {
+    for (list, rise) in &LISTS {
+        assert!(&rt; names(&rt, rt.alloc(), list).is_some() == *rise);
+    }
+}
+
+#[test]
+fn names_are_read_in_order(rt: HostRuntime) {
+    let read = names_of(&rt, rt.alloc(), "names 4 % a%20b a%20b! %C3%A9");
+    assert!(&rt; are_names(read.as_slice(), &["", "a b", "a b!", "\u{e9}"]));
 }
 
 /// A line that begins and ends so, with this spelling so many times between.
@@ -368,6 +430,14 @@ fn orders_of_files_are_written(rt: HostRuntime) {
         file: Text::fixed(""),
     };
     order_is(&rt, alloc, clear, "clear %");
+    let names = Order::Names {
+        pattern: Text::fixed("/etc/a b/*.conf"),
+    };
+    order_is(&rt, alloc, names, "names /etc/a%20b/*.conf");
+    let size = Order::Size {
+        file: Text::fixed("x.log"),
+    };
+    order_is(&rt, alloc, size, "size x.log");
 }
 
 #[test]

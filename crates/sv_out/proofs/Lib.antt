@@ -4,3 +4,4 @@ mod Scripts
 mod Runs
 mod Sent
 mod Maps
+pub mod NamesInOrder

@@ -1,5 +1,6 @@
 pub mod Faults
 pub mod Rises
+pub mod Rising
 pub mod Plans
 pub mod Written
 pub mod Patterns

@@ -1,5 +1,6 @@
 //! What the machine is told.
 
+use crate::rising::RisingNames;
 use sv_base::bytes::{Bytes, Piece};
 use sv_base::ids::{LinkId, Run};
 use sv_base::moment::Moment;
@@ -78,8 +79,12 @@ pub enum Input {
     Read(Bytes),
     /// Answers a clearing of a file: it is empty now.
     Done,
-    /// Answers a read or a clearing: there is no such file.
+    /// Answers a read, a clearing or the question for a size: there is no such file.
     Missing,
+    /// Answers the question for names: those that the pattern matches.
+    Names(RisingNames),
+    /// Answers the question for a size: how many bytes the file has.
+    Size(u64),
     /// The order of this number couldn't be carried out. Orders are numbered from 0 over the daemon's life, modulo
     /// 2^64.
     Failed(u64),

@@ -8,6 +8,7 @@ pub use dialing::{Dial, DialFault};
 pub use files::{Shelf, ShelfFault};
 pub use map_files::MapShelf;
 pub use pattern::matches;
+pub use rising::RisingNames;
 pub use script::{Script, ScriptDial, ScriptLink};
 
 mod calls;
@@ -19,6 +20,7 @@ pub mod input;
 pub mod map_files;
 pub mod order;
 pub mod pattern;
+pub mod rising;
 pub mod script;
 pub mod sink;
 pub mod source;

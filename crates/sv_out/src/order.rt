@@ -81,6 +81,15 @@ pub enum Order {
     ClearFile {
         file: Text,
     },
+    /// Asks which files' names a pattern matches, in which `*` is any run without `/` and `?` one character but `/`; a
+    /// question, which is answered by an input.
+    Names {
+        pattern: Text,
+    },
+    /// Asks how many bytes a file has; a question, which is answered by an input.
+    Size {
+        file: Text,
+    },
     /// Sends bytes over a link.
     Send {
         link: LinkId,

@@ -66,6 +66,8 @@ pub fn copy_input(alloc: Global, input: &Input) -> Result<Input, AllocError>
         Input::Read(bytes) => Input::Read(bytes.clone()?),
         Input::Done => Input::Done,
         Input::Missing => Input::Missing,
+        Input::Names(names) => Input::Names(names.clone()?),
+        Input::Size(size) => Input::Size(*size),
         Input::Failed(number) => Input::Failed(*number),
     })
 }
@@ -126,6 +128,12 @@ pub fn copy_order(order: &Order) -> Result<Order, AllocError>
             length: *length,
         },
         Order::ClearFile { file } => Order::ClearFile {
+            file: file.clone()?,
+        },
+        Order::Names { pattern } => Order::Names {
+            pattern: pattern.clone()?,
+        },
+        Order::Size { file } => Order::Size {
             file: file.clone()?,
         },
         Order::Send { link, bytes } => Order::Send {
