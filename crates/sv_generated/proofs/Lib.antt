@@ -1,0 +1,4 @@
+mod Going
+mod Asking
+mod Resting
+mod Counting

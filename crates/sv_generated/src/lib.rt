@@ -1,0 +1,11 @@
+//! A generated run of the machine: its inputs are drawn one after the other, each spawn is answered, and the orders are
+//! counted.
+#![tactic(auto)]
+
+mod counts;
+mod inputs;
+mod line;
+mod run;
+
+pub use inputs::program_name;
+pub use line::line_of_run;
