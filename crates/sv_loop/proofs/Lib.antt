@@ -1,5 +1,8 @@
+mod FirstFeed
+mod Generates
 mod Judged
-mod OneReading
+pub mod OneReading
+mod Programs
 mod Quiet
 mod ReadAll
 mod Refusals

@@ -1,14 +1,18 @@
 -- A good journal is cut into lines in one way, so no row of a line at fault fits it.
 use Rattle.std.proofs.Common.{◌≡◌, ℕ, ◌≤◌, ◌<◌, ◌+◌, List, [], ◌∷◌, ◌++◌, Bool, true, false, ◌==◌, ◌||◌, ◌⊎◌, inl, inr, length, Option, Some, None, refl, sym, ap, subst, ◌∙◌, append_assoc, append-nil, arith, length-append}
 use Rattle.std.specs.Io.KnownBytes.{Consumes}
+use Rattle.std.specs.Prelude.{codes}
 use Rattle.sv_core.specs.MachineState.{Model}
 use Rattle.sv_journal.proofs.NoLineFeed.{plain_input, plain_header}
+use Rattle.sv_journal.proofs.Marks.{marked_input}
 use Rattle.sv_journal.proofs.OneMeaning.{one_input, one_header}
+use Rattle.sv_journal.proofs.PlainOrders.{one_order, plain_order}
+use Rattle.sv_journal.specs.JournalLine.{order_line}
 use Rattle.sv_journal.specs.Limits.{line_limit}
 use Rattle.sv_journal.specs.declared.header.Header.{Header}
 use Rattle.sv_journal.specs.declared.header.Header.TheVariants as header_is
 use Rattle.sv_loop.specs.JournalPlaces.{Line, line_text, FitsLine, Stage, Verdict, heads, judged, Walked, behind, walks_on, walked, journal_text, AllFit, IsMisplaced, IsRefused, IsUnconfigured}
-use Rattle.sv_loop.specs.JournalPlaces.Line.{Head, Said}
+use Rattle.sv_loop.specs.JournalPlaces.Line.{Head, Said, Noted}
 use Rattle.sv_loop.specs.JournalPlaces.Stage.{Fresh, Named, Long, Running}
 use Rattle.sv_loop.specs.JournalPlaces.Verdict.{Stands, Misplaced, Refused, Faulty}
 use Rattle.sv_loop.specs.JournalPlaces.Walked.{Reaches, Stops}
@@ -23,6 +27,7 @@ use Rattle.sv_out.specs.declared.order.Order.{Order}
 pub plain_line : (line : Line) → FitsLine line → has_feed (line_text line) ≡ false
 plain_line (Head header) fits = plain_header header fits
 plain_line (Said input) fits = plain_input input fits
+plain_line (Noted order) fits = plain_order order fits
 
 or_right : (one other : Bool) → (one || other) ≡ false → other ≡ false
 or_right false other e = e
@@ -73,20 +78,33 @@ no_header_behind_go m (header_is.Go start) = refl
 pub no_head : (m : Model) (header : Header) (to : Stage) (given : List Order) → heads (Running m) header ≡ Stands to given → ⊥
 no_head m header to given e = let both : Misplaced ≡ Stands to given = sym (no_header_behind_go m header) ∙ e in cc
 
+behind_mark : (one other : List ℕ) → codes "> " ++ one ≡ codes "> " ++ other → one ≡ other
+behind_mark one other e = cc
+
 pub same_line : (at to onto : Stage) (given more : List Order) (one other : Line) → FitsLine one → FitsLine other → line_text one ≡ line_text other
     → judged at one ≡ Stands to given → judged at other ≡ Stands onto more → one ≡ other
 same_line Fresh to onto given more (Head one) (Head other) f g e p q = ap Head (one_header one other f g e)
 same_line Fresh to onto given more (Head one) (Said other) f g e p q = cc
+same_line Fresh to onto given more (Head one) (Noted other) f g e p q = cc
 same_line Fresh to onto given more (Said one) other f g e p q = cc
+same_line Fresh to onto given more (Noted one) other f g e p q = cc
 same_line (Named groups) to onto given more (Head one) (Head other) f g e p q = ap Head (one_header one other f g e)
 same_line (Named groups) to onto given more (Head one) (Said other) f g e p q = cc
+same_line (Named groups) to onto given more (Head one) (Noted other) f g e p q = cc
 same_line (Named groups) to onto given more (Said one) other f g e p q = cc
+same_line (Named groups) to onto given more (Noted one) other f g e p q = cc
 same_line (Long place) to onto given more (Head one) (Head other) f g e p q = ap Head (one_header one other f g e)
 same_line (Long place) to onto given more (Head one) (Said other) f g e p q = cc
+same_line (Long place) to onto given more (Head one) (Noted other) f g e p q = cc
 same_line (Long place) to onto given more (Said one) other f g e p q = cc
+same_line (Long place) to onto given more (Noted one) other f g e p q = cc
 same_line (Running m) to onto given more (Head one) other f g e p q = absurd (no_head m one to given p)
 same_line (Running m) to onto given more (Said one) (Head other) f g e p q = absurd (no_head m other onto more q)
 same_line (Running m) to onto given more (Said one) (Said other) f g e p q = ap Said (one_input one other f g e)
+same_line (Running m) to onto given more (Said one) (Noted other) f g e p q = absurd (marked_input one (order_line other) f e)
+same_line (Running m) to onto given more (Noted one) (Head other) f g e p q = absurd (no_head m other onto more q)
+same_line (Running m) to onto given more (Noted one) (Said other) f g e p q = absurd (marked_input other (order_line one) g (sym e))
+same_line (Running m) to onto given more (Noted one) (Noted other) f g e p q = ap Noted (one_order one other f g (behind_mark (order_line one) (order_line other) e))
 
 -- the first line of a walk stands
 pub record Step (at : Stage) (line : Line) (lines : List Line) (last : Stage) : Type 0 where
@@ -195,6 +213,8 @@ never_refused (Running m) text (Said input) to given fits spelled stands r =
     let same : r.input ≡ input = one_input r.input input r.fits fits (r.spelled ∙ sym spelled) in
     let no : judged (Running m) (Said input) ≡ Refused = ap (λ i. judged (Running m) (Said i)) (sym same) ∙ r.refused in
     let both : Stands to given ≡ Refused = sym stands ∙ no in cc
+never_refused (Running m) text (Noted order) to given fits spelled stands r =
+    marked_input r.input (order_line order) r.fits (r.spelled ∙ sym spelled)
 
 pub whole_line : (text rest left : List ℕ) (w : IsWhole rest) → (text ++ rest) ++ left ≡ text ++ 10 ∷ (w.behind ++ left)
 whole_line text rest left w =
@@ -224,9 +244,14 @@ never_unconfigured at text closing verdict (Head header) to given fits spelled s
     let same : u.header ≡ header = one_header u.header header u.fits fits (u.spelled ∙ sym spelled) in
     why_stands verdict to given closing (sym u.judged_so ∙ ap (heads at) same ∙ stands) why
 never_unconfigured Fresh text closing verdict (Said input) to given fits spelled stands u why = cc
+never_unconfigured Fresh text closing verdict (Noted order) to given fits spelled stands u why = cc
 never_unconfigured (Named groups) text closing verdict (Said input) to given fits spelled stands u why = cc
+never_unconfigured (Named groups) text closing verdict (Noted order) to given fits spelled stands u why = cc
 never_unconfigured (Long place) text closing verdict (Said input) to given fits spelled stands u why = cc
+never_unconfigured (Long place) text closing verdict (Noted order) to given fits spelled stands u why = cc
 never_unconfigured (Running m) text closing verdict (Said input) to given fits spelled stands u why =
+    why_misplaced verdict closing (sym u.judged_so ∙ no_header_behind_go m u.header) why
+never_unconfigured (Running m) text closing verdict (Noted order) to given fits spelled stands u why =
     why_misplaced verdict closing (sym u.judged_so ∙ no_header_behind_go m u.header) why
 
 unconfigured : (at : Stage) (text rest left closing : List ℕ) (verdict : Verdict) → has_feed text ≡ false → Onward at ((text ++ rest) ++ left)

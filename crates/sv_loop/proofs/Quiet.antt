@@ -6,12 +6,12 @@ use Rattle.sv_base.specs.declared.config.Host.{Host}
 use Rattle.sv_base.specs.declared.spec.GroupSpec.{GroupSpec}
 use Rattle.sv_conf.specs.Configuration.{configuration_of}
 use Rattle.sv_conf.specs.declared.fault.ConfFault.{ConfFault}
-use Rattle.sv_core.specs.MachineState.{Model, accepts, next, opening, orders}
+use Rattle.sv_core.specs.MachineState.{Model, accepts, next, orders}
 use Rattle.sv_journal.specs.declared.header.Header.{Header}
 use Rattle.sv_journal.specs.declared.header.Header.TheVariants as header_is
 use Rattle.sv_loop.proofs.OneReading.{no_head, no_header_behind_go, why_misplaced}
 use Rattle.sv_loop.specs.JournalPlaces.{Line, Stage, Verdict, Walked, begins, behind, goes_on, heads, judged, long_heads, moved, titles, walked, walks_on}
-use Rattle.sv_loop.specs.JournalPlaces.Line.{Head, Said}
+use Rattle.sv_loop.specs.JournalPlaces.Line.{Head, Said, Noted}
 use Rattle.sv_loop.specs.JournalPlaces.Stage.{Fresh, Named, Long, Running}
 use Rattle.sv_loop.specs.JournalPlaces.Verdict.{Stands, Misplaced, Refused, Faulty}
 use Rattle.sv_loop.specs.JournalPlaces.Walked.{Reaches, Stops}
@@ -107,6 +107,11 @@ line_quiet Fresh (Said input) to given e before = cc
 line_quiet (Named groups) (Said input) to given e before = cc
 line_quiet (Long place) (Said input) to given e before = cc
 line_quiet (Running m) (Said input) to given e before = absurd (said_behind_go m input (accepts m input) to given e before)
+line_quiet Fresh (Noted order) to given e before = cc
+line_quiet (Named groups) (Noted order) to given e before = cc
+line_quiet (Long place) (Noted order) to given e before = cc
+line_quiet (Running m) (Noted order) to given e before =
+    let same : to ≡ Running m = cc in absurd (subst IsBeforeGo same before)
 
 behind_quiet : (first : List Order) (onward : Walked) (to at : Stage) (given : List Order)
     → ((more : List Order) → onward ≡ Reaches at more → IsBeforeGo to × (more ≡ []))

@@ -1,15 +1,15 @@
--- The reader of a journal takes one byte more, or stops at it.
-use Rattle.std.proofs.Common.{◌≡◌, ℕ, ◌+◌, List, [], ◌∷◌, ◌++◌, false, ◌==◌, ◌≤◌, ◌<◌, inl, inr, length, length-append, Option, refl, sym, ap, subst, ◌∙◌, append_assoc, append-nil, arith, take, drop, get_or}
-use Rattle.std.proofs.lemmas.List.{take_more, take-append-drop}
+-- The reader of a journal takes a part of a line, or a line, or stops at it.
+use Rattle.std.proofs.Common.{◌≡◌, ℕ, ◌+◌, List, [], ◌∷◌, ◌++◌, false, ◌==◌, ◌≤◌, ◌<◌, inl, inr, length, length-append, Option, refl, sym, ap, subst, ◌∙◌, append_assoc, append-nil, arith}
 use Rattle.std.proofs.KnownBytes.{Appends-nil, Appends-trans}
 use Rattle.std.specs.Io.KnownBytes.{Appends}
 use Rattle.sv_journal.specs.Limits.{line_limit}
-use Rattle.sv_loop.proofs.Walks.{journal_text_more, order_text_append, all_fit_more, has_feed_more, walked_more}
+use Rattle.sv_loop.proofs.Walks.{journal_text_more, order_text_append, all_fit_more, walked_more}
 use Rattle.sv_loop.specs.JournalPlaces.{Line, line_text, Stage, Verdict, journal_text, order_text, IsMisplaced, IsRefused, IsUnconfigured}
 use Rattle.sv_loop.specs.JournalPlaces.Stage.{Fresh}
 use Rattle.sv_loop.specs.JournalPlaces.Verdict.{Faulty as As_faulty}
 use Rattle.sv_loop.specs.Judging.{LeadsTo}
-use Rattle.sv_loop.specs.Reading.{IsRead, IsAt, GoesOn, AtFault, IsWhole, OutsideGrammar, NotAccepted, NotConfigured, Anything, HalfWritten, StopsAt, Unwrote}
+use Rattle.std.proofs.lemmas.List.Folds.{list_any-append}
+use Rattle.sv_loop.specs.Reading.{Holds, has_feed, IsCut, IsRead, IsAt, GoesOn, AtFault, IsWhole, OutsideGrammar, NotAccepted, NotConfigured, Anything, HalfWritten, StopsAt, Unwrote}
 use Rattle.sv_loop.specs.declared.judge.Place.{Place}
 use Rattle.sv_loop.specs.declared.run.End.{End}
 use Rattle.sv_loop.specs.declared.run.End.TheVariants.{Misplaced, Refused, Faulty, NoMemory, Unwritten}
@@ -23,8 +23,8 @@ spelled_rest bytes front text rest e = rw e (simp (append_assoc, append-nil))
 spelled_line : (bytes front text : List ℕ) → bytes ≡ front ++ (text ++ []) → bytes ++ 10 ∷ [] ≡ (front ++ (text ++ 10 ∷ [])) ++ ([] ++ [])
 spelled_line bytes front text e = rw e (simp (append_assoc, append-nil))
 
-spelled_byte : (bytes front text : List ℕ) (byte : ℕ) → bytes ≡ front ++ (text ++ []) → bytes ++ byte ∷ [] ≡ front ++ ((text ++ byte ∷ []) ++ [])
-spelled_byte bytes front text byte e = rw e (simp (append_assoc, append-nil))
+spelled_more : (bytes front text more : List ℕ) → bytes ≡ front ++ (text ++ []) → bytes ++ more ≡ front ++ ((text ++ more) ++ [])
+spelled_more bytes front text more e = rw e (simp (append_assoc, append-nil))
 
 -- the bytes up to the end of the line in hand, which is this line
 line_spelled : (bytes text : List ℕ) (lines : List Line) (line : Line) → bytes ≡ journal_text lines ++ (text ++ []) → line_text line ≡ text
@@ -34,11 +34,30 @@ line_spelled bytes text lines line e spelled =
     ∙ ap (λ (f : List ℕ). f ++ ([] ++ []))
     (ap (λ (t : List ℕ). journal_text lines ++ (t ++ 10 ∷ [])) (sym spelled) ∙ sym (journal_text_more lines line))
 
-pub stood : (run later : Run) (lines : List Line) (at : Stage) (given : List Order) (bytes : List ℕ) (place : Place) (orders : List Order) (old new : Option (List ℕ))
-    → IsAt run lines at given bytes → LeadsTo at run.line.items place orders
-    → later.place ≡ place → later.lines ≡ run.lines + 1 → later.line.items ≡ [] → Appends old new (order_text orders)
+-- what is held of a line is its text
+pub holds_of : (run : Run) (lines : List Line) (at : Stage) (given : List Order) (bytes : List ℕ) → IsAt run lines at given bytes
+    → Holds run.lines lines at given bytes run.line.items
+holds_of run lines at given bytes is = record { read = is.read; short = is.short; count_is = is.count }
+
+-- a line that lies whole behind all that was taken
+pub holds_line : (run : Run) (lines : List Line) (at : Stage) (given : List Order) (bytes text : List ℕ) → IsAt run lines at given bytes
+    → run.line.items ≡ [] → has_feed text ≡ false → length text ≤ line_limit → Holds run.lines lines at given (bytes ++ text) text
+holds_line run lines at given bytes text is empty unbroken short = record {
+  read = record {
+    walks = is.read.walks;
+    fit = is.read.fit;
+    spelled = rw (is.read.spelled, empty) (simp append-nil);
+    unbroken = unbroken;
+  };
+  short = short;
+  count_is = is.count;
+}
+
+pub stood : (count : ℕ) (later : Run) (lines : List Line) (at : Stage) (given : List Order) (bytes text : List ℕ) (place : Place) (orders : List Order)
+    (old new : Option (List ℕ)) → Holds count lines at given bytes text → LeadsTo at text place orders
+    → later.place ≡ place → later.lines ≡ count + 1 → later.line.items ≡ [] → Appends old new (order_text orders)
     → GoesOn later (bytes ++ 10 ∷ []) given old new
-stood run later lines at given bytes place orders old new is leads placed count empty wrote =
+stood count later lines at given bytes text place orders old new is leads placed counted empty wrote =
     let line = leads.leads.line in
     record {
       lines = lines ++ line ∷ [];
@@ -49,41 +68,41 @@ stood run later lines at given bytes place orders old new is leads placed count 
           walks = walked_more Fresh lines line at leads.to given orders is.read.walks leads.leads.stands;
           fit = all_fit_more lines line is.read.fit leads.leads.fits (rw leads.leads.spelled leads.leads.short);
           spelled =
-              line_spelled bytes run.line.items lines line is.read.spelled leads.leads.spelled
+              line_spelled bytes text lines line is.read.spelled leads.leads.spelled
               ∙ ap (λ (r : List ℕ). journal_text (lines ++ line ∷ []) ++ (r ++ [])) (sym empty);
           unbroken = rw empty refl;
         };
         short = rw empty (omega arith);
-        count = omega (arith, count, is.count, length-append lines (line ∷ []));
+        count = omega (arith, counted, is.count_is, length-append lines (line ∷ []));
         place = rw placed leads.is_place;
       };
       wrote = wrote;
     }
 
-pub at_fault : (run later : Run) (Cause : Stage → List ℕ → List ℕ → Type 0) (lines : List Line) (at : Stage) (given : List Order) (bytes rest : List ℕ) (old new : Option (List ℕ))
-    → IsAt run lines at given bytes → later.lines ≡ run.lines → Cause at run.line.items rest → Appends old new []
-    → AtFault later Cause (bytes ++ rest) given old new
-at_fault run later Cause lines at given bytes rest old new is count cause wrote = record {
+pub at_fault : (count : ℕ) (later : Run) (Cause : Stage → List ℕ → List ℕ → Type 0) (lines : List Line) (at : Stage) (given : List Order)
+    (bytes text rest : List ℕ) (old new : Option (List ℕ)) → Holds count lines at given bytes text → later.lines ≡ count → Cause at text rest
+    → Appends old new [] → AtFault later Cause (bytes ++ rest) given old new
+at_fault count later Cause lines at given bytes text rest old new is counted cause wrote = record {
   lines = lines;
   at = at;
   more = [];
-  text = run.line.items;
+  text = text;
   rest = rest;
   read = record {
     walks = rw (append-nil given) is.read.walks;
     fit = is.read.fit;
-    spelled = spelled_rest bytes (journal_text lines) run.line.items rest is.read.spelled;
+    spelled = spelled_rest bytes (journal_text lines) text rest is.read.spelled;
     unbroken = is.read.unbroken;
   };
   cause = cause;
-  count = count ∙ is.count;
+  count = counted ∙ is.count_is;
   wrote = wrote;
 }
 
-unwritten : (run : Run) (lines : List Line) (at : Stage) (given : List Order) (bytes : List ℕ) (place : Place) (orders : List Order) (old new : Option (List ℕ))
-    → IsAt run lines at given bytes → LeadsTo at run.line.items place orders → AppendsFront old new (order_text orders)
+unwritten : (count : ℕ) (lines : List Line) (at : Stage) (given : List Order) (bytes text : List ℕ) (place : Place) (orders : List Order)
+    (old new : Option (List ℕ)) → Holds count lines at given bytes text → LeadsTo at text place orders → AppendsFront old new (order_text orders)
     → HalfWritten (bytes ++ 10 ∷ []) given old new
-unwritten run lines at given bytes place orders old new is leads wrote =
+unwritten count lines at given bytes text place orders old new is leads wrote =
     let line = leads.leads.line in
     record {
       lines = lines ++ line ∷ [];
@@ -93,75 +112,77 @@ unwritten run lines at given bytes place orders old new is leads wrote =
       read = record {
         walks = walked_more Fresh lines line at leads.to given orders is.read.walks leads.leads.stands;
         fit = all_fit_more lines line is.read.fit leads.leads.fits (rw leads.leads.spelled leads.leads.short);
-        spelled = line_spelled bytes run.line.items lines line is.read.spelled leads.leads.spelled;
+        spelled = line_spelled bytes text lines line is.read.spelled leads.leads.spelled;
         unbroken = refl;
       };
       wrote = wrote;
     }
 
-pub stopped_at_write : (end : End) (run later : Run) (lines : List Line) (at : Stage) (given : List Order) (bytes : List ℕ) (place : Place) (orders : List Order) (old new : Option (List ℕ))
-    → IsAt run lines at given bytes → LeadsTo at run.line.items place orders → later.lines ≡ run.lines → Unwrote end (order_text orders) old new
-    → StopsAt end later (bytes ++ 10 ∷ []) given old new
-stopped_at_write Misplaced run later lines at given bytes place orders old new is leads count wrote = absurd wrote
-stopped_at_write Refused run later lines at given bytes place orders old new is leads count wrote = absurd wrote
-stopped_at_write (Faulty fault) run later lines at given bytes place orders old new is leads count wrote = absurd wrote
-stopped_at_write NoMemory run later lines at given bytes place orders old new is leads count wrote =
-    at_fault run later Anything lines at given bytes (10 ∷ []) old new is count tt wrote
-stopped_at_write Unwritten run later lines at given bytes place orders old new is leads count wrote =
-    unwritten run lines at given bytes place orders old new is leads wrote
+pub stopped_at_write : (end : End) (count : ℕ) (later : Run) (lines : List Line) (at : Stage) (given : List Order) (bytes text : List ℕ)
+    (place : Place) (orders : List Order) (old new : Option (List ℕ)) → Holds count lines at given bytes text → LeadsTo at text place orders
+    → later.lines ≡ count → Unwrote end (order_text orders) old new → StopsAt end later (bytes ++ 10 ∷ []) given old new
+stopped_at_write Misplaced count later lines at given bytes text place orders old new is leads counted wrote = absurd wrote
+stopped_at_write Refused count later lines at given bytes text place orders old new is leads counted wrote = absurd wrote
+stopped_at_write (Faulty fault) count later lines at given bytes text place orders old new is leads counted wrote = absurd wrote
+stopped_at_write NoMemory count later lines at given bytes text place orders old new is leads counted wrote =
+    at_fault count later Anything lines at given bytes text (10 ∷ []) old new is counted tt wrote
+stopped_at_write Unwritten count later lines at given bytes text place orders old new is leads counted wrote =
+    unwritten count lines at given bytes text place orders old new is leads wrote
 
 whole : IsWhole (10 ∷ [])
 whole = record { behind = []; feed = refl }
 
-pub misplaced : (run later : Run) (lines : List Line) (at : Stage) (given : List Order) (bytes : List ℕ) (same : Option (List ℕ))
-    → IsAt run lines at given bytes → later.lines ≡ run.lines → IsMisplaced at run.line.items
+pub misplaced : (count : ℕ) (later : Run) (lines : List Line) (at : Stage) (given : List Order) (bytes text : List ℕ) (same : Option (List ℕ))
+    → Holds count lines at given bytes text → later.lines ≡ count → IsMisplaced at text
     → AtFault later OutsideGrammar (bytes ++ 10 ∷ []) given same same
-misplaced run later lines at given bytes same is count cause =
-    at_fault run later OutsideGrammar lines at given bytes (10 ∷ []) same same is count (inl (whole, cause)) (Appends-nil same)
+misplaced count later lines at given bytes text same is counted cause =
+    at_fault count later OutsideGrammar lines at given bytes text (10 ∷ []) same same is counted (inl (whole, cause)) (Appends-nil same)
 
-pub refused : (run later : Run) (lines : List Line) (at : Stage) (given : List Order) (bytes : List ℕ) (same : Option (List ℕ))
-    → IsAt run lines at given bytes → later.lines ≡ run.lines → IsRefused at run.line.items
+pub refused : (count : ℕ) (later : Run) (lines : List Line) (at : Stage) (given : List Order) (bytes text : List ℕ) (same : Option (List ℕ))
+    → Holds count lines at given bytes text → later.lines ≡ count → IsRefused at text
     → AtFault later NotAccepted (bytes ++ 10 ∷ []) given same same
-refused run later lines at given bytes same is count cause =
-    at_fault run later NotAccepted lines at given bytes (10 ∷ []) same same is count (whole, cause) (Appends-nil same)
+refused count later lines at given bytes text same is counted cause =
+    at_fault count later NotAccepted lines at given bytes text (10 ∷ []) same same is counted (whole, cause) (Appends-nil same)
 
-pub unconfigured : (run later : Run) (verdict : Verdict) (lines : List Line) (at : Stage) (given : List Order) (bytes : List ℕ) (same : Option (List ℕ))
-    → IsAt run lines at given bytes → later.lines ≡ run.lines → IsUnconfigured at run.line.items verdict
+pub unconfigured : (count : ℕ) (later : Run) (verdict : Verdict) (lines : List Line) (at : Stage) (given : List Order) (bytes text : List ℕ)
+    (same : Option (List ℕ)) → Holds count lines at given bytes text → later.lines ≡ count → IsUnconfigured at text verdict
     → AtFault later (NotConfigured verdict) (bytes ++ 10 ∷ []) given same same
-unconfigured run later verdict lines at given bytes same is count cause =
-    at_fault run later (NotConfigured verdict) lines at given bytes (10 ∷ []) same same is count (whole, cause) (Appends-nil same)
+unconfigured count later verdict lines at given bytes text same is counted cause =
+    at_fault count later (NotConfigured verdict) lines at given bytes text (10 ∷ []) same same is counted (whole, cause) (Appends-nil same)
 
-pub no_memory : (run later : Run) (lines : List Line) (at : Stage) (given : List Order) (bytes : List ℕ) (byte : ℕ) (same : Option (List ℕ))
-    → IsAt run lines at given bytes → later.lines ≡ run.lines
-    → AtFault later Anything (bytes ++ byte ∷ []) given same same
-no_memory run later lines at given bytes byte same is count =
-    at_fault run later Anything lines at given bytes (byte ∷ []) same same is count tt (Appends-nil same)
+pub no_memory : (count : ℕ) (later : Run) (lines : List Line) (at : Stage) (given : List Order) (bytes text more : List ℕ) (same : Option (List ℕ))
+    → Holds count lines at given bytes text → later.lines ≡ count → AtFault later Anything (bytes ++ more) given same same
+no_memory count later lines at given bytes text more same is counted =
+    at_fault count later Anything lines at given bytes text more same same is counted tt (Appends-nil same)
 
-pub too_long : (run : Run) (lines : List Line) (at : Stage) (given : List Order) (bytes : List ℕ) (byte : ℕ) (same : Option (List ℕ))
-    → IsAt run lines at given bytes → line_limit ≤ length run.line.items → (byte == 10) ≡ false
-    → AtFault run OutsideGrammar (bytes ++ byte ∷ []) given same same
-too_long run lines at given bytes byte same is long other = record {
+no_feed : (text more : List ℕ) → has_feed text ≡ false → has_feed more ≡ false → has_feed (text ++ more) ≡ false
+no_feed text more none others = list_any-append (λ (b : ℕ). b == 10) text more ∙ rw (none, others) refl
+
+pub too_long : (run : Run) (lines : List Line) (at : Stage) (given : List Order) (bytes more : List ℕ) (same : Option (List ℕ))
+    → IsAt run lines at given bytes → line_limit < length run.line.items + length more → has_feed more ≡ false
+    → AtFault run OutsideGrammar (bytes ++ more) given same same
+too_long run lines at given bytes more same is long other = record {
   lines = lines;
   at = at;
   more = [];
-  text = run.line.items ++ byte ∷ [];
+  text = run.line.items ++ more;
   rest = [];
   read = record {
     walks = rw (append-nil given) is.read.walks;
     fit = is.read.fit;
-    spelled = spelled_byte bytes (journal_text lines) run.line.items byte is.read.spelled;
-    unbroken = has_feed_more run.line.items byte is.read.unbroken other;
+    spelled = spelled_more bytes (journal_text lines) run.line.items more is.read.spelled;
+    unbroken = no_feed run.line.items more is.read.unbroken other;
   };
-  cause = inr (omega (arith, long, length-append run.line.items (byte ∷ [])));
+  cause = inr (omega (arith, long, length-append run.line.items more));
   count = is.count;
   wrote = Appends-nil same;
 }
 
-pub held_more : (run later : Run) (lines : List Line) (at : Stage) (given : List Order) (bytes : List ℕ) (byte : ℕ) (same : Option (List ℕ))
-    → IsAt run lines at given bytes → later.place ≡ run.place → later.lines ≡ run.lines → later.line.items ≡ run.line.items ++ byte ∷ []
-    → length run.line.items < line_limit → (byte == 10) ≡ false
-    → GoesOn later (bytes ++ byte ∷ []) given same same
-held_more run later lines at given bytes byte same is placed count held room other = record {
+pub held_more : (run later : Run) (lines : List Line) (at : Stage) (given : List Order) (bytes more : List ℕ) (same : Option (List ℕ))
+    → IsAt run lines at given bytes → later.place ≡ run.place → later.lines ≡ run.lines → later.line.items ≡ run.line.items ++ more
+    → length run.line.items + length more ≤ line_limit → has_feed more ≡ false
+    → GoesOn later (bytes ++ more) given same same
+held_more run later lines at given bytes more same is placed count held room other = record {
   lines = lines;
   at = at;
   more = [];
@@ -170,11 +191,11 @@ held_more run later lines at given bytes byte same is placed count held room oth
       walks = rw (append-nil given) is.read.walks;
       fit = is.read.fit;
       spelled =
-          spelled_byte bytes (journal_text lines) run.line.items byte is.read.spelled
+          spelled_more bytes (journal_text lines) run.line.items more is.read.spelled
           ∙ ap (λ (t : List ℕ). journal_text lines ++ (t ++ [])) (sym held);
-      unbroken = rw held (has_feed_more run.line.items byte is.read.unbroken other);
+      unbroken = rw held (no_feed run.line.items more is.read.unbroken other);
     };
-    short = rw held (omega (arith, room, length-append run.line.items (byte ∷ [])));
+    short = rw held (omega (arith, room, length-append run.line.items more));
     count = count ∙ is.count;
     place = rw placed is.place;
   };
@@ -267,25 +288,52 @@ stops_further Unwritten run later bytes piece more given one two three first ste
       wrote = wrote_front one two three first.more half.more first.wrote half.wrote;
     }
 
--- nothing was read yet
-pub goes_nowhere : (run : Run) (lines : List Line) (at : Stage) (given : List Order) (bytes : List ℕ) (same : Option (List ℕ))
-    → IsAt run lines at given bytes → GoesOn run (bytes ++ []) given same same
-goes_nowhere run lines at given bytes same is = record {
+-- nothing more was read
+pub goes_here : (run : Run) (lines : List Line) (at : Stage) (given : List Order) (bytes : List ℕ) (same : Option (List ℕ))
+    → IsAt run lines at given bytes → GoesOn run bytes given same same
+goes_here run lines at given bytes same is = record {
   lines = lines;
   at = at;
   more = [];
-  is_at = rw (append-nil given, append-nil bytes) is;
+  is_at = rw (append-nil given) is;
   wrote = Appends-nil same;
 }
 
-pub byte_more : (bytes piece : List ℕ) (i : ℕ) → i < length piece
-    → (bytes ++ take i piece) ++ get_or piece i 0 ∷ [] ≡ bytes ++ take (i + 1) piece
-byte_more bytes piece i below =
-    append_assoc bytes (take i piece) (get_or piece i 0 ∷ []) ∙ ap (λ (t : List ℕ). bytes ++ t) (sym (take_more piece i 0 below))
+-- the reading stopped within a line, whose line feed is there too
+pub stops_in_line : (end : End) (run later : Run) (lines : List Line) (at : Stage) (given : List Order) (bytes text : List ℕ) (same : Option (List ℕ))
+    → IsAt run lines at given bytes
+    → ((l : List Line) (a : Stage) (g : List Order) (b : List ℕ) → IsAt run l a g b → StopsAt end later (b ++ text) g same same)
+    → StopsAt end later (bytes ++ (text ++ 10 ∷ [])) given same same
+stops_in_line end run later lines at given bytes text same is step =
+    subst (λ (b : List ℕ). StopsAt end later b given same same) (append_assoc bytes text (10 ∷ []))
+    (stops_further end run later bytes text (10 ∷ []) given same same same (goes_here run lines at given bytes same is) step)
 
-pub byte_rest : (bytes piece : List ℕ) (i : ℕ) → i < length piece
-    → ((bytes ++ take i piece) ++ get_or piece i 0 ∷ []) ++ drop (i + 1) piece ≡ bytes ++ piece
-byte_rest bytes piece i below =
-    ap (λ (b : List ℕ). b ++ drop (i + 1) piece) (byte_more bytes piece i below)
-    ∙ append_assoc bytes (take (i + 1) piece) (drop (i + 1) piece)
-    ∙ ap (λ (t : List ℕ). bytes ++ t) (take-append-drop (i + 1) piece)
+-- the reading stopped at the line feed of a line
+pub stops_at_feed : (end : End) (run later : Run) (bytes text : List ℕ) (given : List Order) (one two three : Option (List ℕ))
+    → GoesOn run (bytes ++ text) given one two
+    → ((l : List Line) (a : Stage) (g : List Order) (b : List ℕ) → IsAt run l a g b → StopsAt end later (b ++ 10 ∷ []) g two three)
+    → StopsAt end later (bytes ++ (text ++ 10 ∷ [])) given one three
+stops_at_feed end run later bytes text given one two three first step =
+    subst (λ (b : List ℕ). StopsAt end later b given one three) (append-nil ((bytes ++ text) ++ 10 ∷ []) ∙ append_assoc bytes text (10 ∷ []))
+    (stops_further end run later (bytes ++ text) (10 ∷ []) [] given one two three first step)
+
+-- the reading went on past the line feed of a line
+pub goes_past_feed : (run later : Run) (bytes text : List ℕ) (given : List Order) (one two three : Option (List ℕ))
+    → GoesOn run (bytes ++ text) given one two
+    → ((l : List Line) (a : Stage) (g : List Order) (b : List ℕ) → IsAt run l a g b → GoesOn later (b ++ 10 ∷ []) g two three)
+    → GoesOn later (bytes ++ (text ++ 10 ∷ [])) given one three
+goes_past_feed run later bytes text given one two three first step =
+    subst (λ (b : List ℕ). GoesOn later b given one three) (append_assoc bytes text (10 ∷ []))
+    (goes_further run later (bytes ++ text) (10 ∷ []) given one two three first step)
+
+-- a piece is what was taken of it, the line that is cut off, and what is behind
+pub taken_to_line : (piece front rest line behind : List ℕ) → piece ≡ front ++ rest → IsCut rest line behind
+    → piece ≡ (front ++ (line ++ 10 ∷ [])) ++ behind
+taken_to_line piece front rest line behind split cut = rw (split, cut.is) (simp append_assoc)
+
+pub bytes_to_line : (bytes piece front rest line behind : List ℕ) → piece ≡ front ++ rest → IsCut rest line behind
+    → ((bytes ++ front) ++ (line ++ 10 ∷ [])) ++ behind ≡ bytes ++ piece
+bytes_to_line bytes piece front rest line behind split cut = rw (split, cut.is) (simp append_assoc)
+
+pub bytes_to_end : (bytes piece front rest : List ℕ) → piece ≡ front ++ rest → (bytes ++ front) ++ rest ≡ bytes ++ piece
+bytes_to_end bytes piece front rest split = rw split (append_assoc bytes front rest)

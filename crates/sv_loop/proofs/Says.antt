@@ -10,7 +10,7 @@ use Rattle.sv_journal.specs.declared.header.Program.{Program as Programs_line}
 use Rattle.sv_loop.proofs.SaysInputs.{says_inputs, quiet}
 use Rattle.sv_loop.proofs.SaysLong.{says_long}
 use Rattle.sv_loop.specs.JournalPlaces.{Line, titles, walks_on, walked, journal_text, order_text, AllFit}
-use Rattle.sv_loop.specs.JournalPlaces.Line.{Head, Said}
+use Rattle.sv_loop.specs.JournalPlaces.Line.{Head, Said, Noted}
 use Rattle.sv_loop.specs.JournalPlaces.Stage.{Fresh, Named, Long, Running}
 use Rattle.sv_loop.specs.JournalPlaces.Verdict.{Stands, Misplaced}
 use Rattle.sv_loop.specs.JournalPlaces.Walked.{Reaches}
@@ -18,18 +18,18 @@ use Rattle.sv_loop.specs.Replaying.{Done}
 use Rattle.sv_loop.specs.ShortHeader.{config_of, group_of, host_at, placed}
 use Rattle.sv_loop.specs.WholeJournal.Beginning.{Short as Of_programs, Long as Of_configuration}
 use Rattle.sv_loop.specs.declared.long.LongPlace.TheVariants.{Titled}
-use Rattle.sv_loop.specs.WholeJournal.{program_lines, input_lines, groups_of, AllAccepted, SaysJournal, WritesDeeds}
+use Rattle.sv_loop.specs.WholeJournal.{Entry, program_lines, entry_lines, inputs_in, groups_of, AllAccepted, SaysJournal, WritesDeeds}
 use Rattle.sv_out.specs.declared.input.Input.{Input}
 use Rattle.sv_out.specs.declared.order.Order.{Order}
 
 record SaysPrograms (groups : List GroupSpec) (lines : List Line) (m : Model) (given : List Order) : Type 0 where
   programs : List Programs_line
   start : ℕ
-  inputs : List Input
-  spelled : lines ≡ program_lines programs ++ Head (header_is.Go start) ∷ input_lines inputs
-  accepted : AllAccepted (opening (config_of (groups_of groups programs)) [] (host_at start)) inputs
-  state : m ≡ after (opening (config_of (groups_of groups programs)) [] (host_at start)) inputs
-  orders_are : given ≡ deeds (opening (config_of (groups_of groups programs)) [] (host_at start)) inputs
+  entries : List Entry
+  spelled : lines ≡ program_lines programs ++ Head (header_is.Go start) ∷ entry_lines entries
+  accepted : AllAccepted (opening (config_of (groups_of groups programs)) [] (host_at start)) (inputs_in entries)
+  state : m ≡ after (opening (config_of (groups_of groups programs)) [] (host_at start)) (inputs_in entries)
+  orders_are : given ≡ deeds (opening (config_of (groups_of groups programs)) [] (host_at start)) (inputs_in entries)
 
 says_go : (groups : List GroupSpec) (start : ℕ) (lines : List Line) (m : Model) (given : List Order)
     → walked (Named groups) (Head (header_is.Go start) ∷ lines) ≡ Reaches (Running m) given → SaysPrograms groups (Head (header_is.Go start) ∷ lines) m given
@@ -37,11 +37,11 @@ says_go [] start lines m given e = cc
 says_go (group ∷ groups) start lines m given e =
     let first = opening (config_of (group ∷ groups)) [] (host_at start) in
     let said = says_inputs first lines (Running m) given (quiet (walked (Running first) lines) (Running m) given e) in
-    let state : m ≡ after first said.inputs = let same = said.state in cc in
+    let state : m ≡ after first (inputs_in said.entries) = let same = said.state in cc in
     record {
       programs = [];
       start = start;
-      inputs = said.inputs;
+      entries = said.entries;
       spelled = ap (λ ls. Head (header_is.Go start) ∷ ls) said.spelled;
       accepted = said.accepted;
       state = state;
@@ -57,7 +57,7 @@ by_roster groups program lines m given true later e =
     record {
       programs = program ∷ rest.programs;
       start = rest.start;
-      inputs = rest.inputs;
+      entries = rest.entries;
       spelled = ap (λ ls. Head (header_is.Program program) ∷ ls) rest.spelled;
       accepted = rest.accepted;
       state = rest.state;
@@ -69,6 +69,7 @@ says_programs : (groups : List GroupSpec) (lines : List Line) (m : Model) (given
     → walked (Named groups) lines ≡ Reaches (Running m) given → SaysPrograms groups lines m given
 says_programs groups [] m given e = cc
 says_programs groups (Said input ∷ lines) m given e = cc
+says_programs groups (Noted order ∷ lines) m given e = cc
 says_programs groups (Head (header_is.Journal version) ∷ lines) m given e = cc
 says_programs groups (Head (header_is.Host other) ∷ lines) m given e = cc
 says_programs groups (Head (header_is.Here other) ∷ lines) m given e = cc
@@ -90,7 +91,7 @@ says_short lines m given e =
       beginning = Of_programs said.programs said.start;
       first = opening (config_of (groups_of [] said.programs)) [] (host_at said.start);
       begins = refl;
-      inputs = said.inputs;
+      entries = said.entries;
       spelled = ap (λ (ls : List Line). Head (header_is.Journal 0) ∷ ls) said.spelled;
       accepted = said.accepted;
       state = said.state;
@@ -105,7 +106,7 @@ says_configured lines m given e =
       beginning = Of_configuration said.host said.sizes said.conf said.included;
       first = said.first;
       begins = said.begun;
-      inputs = said.inputs;
+      entries = said.entries;
       spelled = ap (λ (ls : List Line). Head (header_is.Journal 1) ∷ ls) said.spelled;
       accepted = said.accepted;
       state = said.state;
@@ -121,6 +122,7 @@ says_title (suc (suc version)) lines m given e = cc
 pub says_journal : (lines : List Line) (m : Model) (given : List Order) → walked Fresh lines ≡ Reaches (Running m) given → SaysJournal lines m given
 says_journal [] m given e = cc
 says_journal (Said input ∷ lines) m given e = cc
+says_journal (Noted order ∷ lines) m given e = cc
 says_journal (Head (header_is.Journal version) ∷ lines) m given e = says_title version lines m given e
 says_journal (Head (header_is.Program program) ∷ lines) m given e = cc
 says_journal (Head (header_is.Host other) ∷ lines) m given e = cc
@@ -142,7 +144,7 @@ writes_deeds left left_after old new done =
       beginning = said.beginning;
       first = said.first;
       begins = said.begins;
-      inputs = said.inputs;
+      entries = said.entries;
       fit = subst F said.spelled done.read.fit;
       taken = subst C (done.read.spelled ∙ append-nil (journal_text done.lines) ∙ ap (λ (ls : List Line). journal_text ls) said.spelled) done.taken.consumed;
       at_end = done.at_end;

@@ -1,5 +1,5 @@
--- Lines that lead from the title of a long header behind `go` are the header's lines and inputs.
-use Rattle.std.proofs.Common.{◌≡◌, ℕ, List, [], ◌∷◌, ◌++◌, Bool, true, false, refl, sym, ap, subst, append_assoc, append-nil, Result, Ok, Err, if◌then◌else◌}
+-- Lines that lead from the title of a long header behind `go` are the header's lines, and inputs with orders that are passed over.
+use Rattle.std.proofs.Common.{◌≡◌, ℕ, List, [], ◌∷◌, ◌++◌, Bool, true, false, refl, sym, ap, subst, append_assoc, append-nil, Result, Ok, Err}
 use Rattle.sv_base.specs.declared.config.Config.{Config}
 use Rattle.sv_base.specs.declared.config.Host.{Host}
 use Rattle.sv_conf.specs.Configuration.{configuration_of}
@@ -9,12 +9,11 @@ use Rattle.sv_core.specs.MachineState.{Model, opening}
 use Rattle.sv_journal.specs.declared.header.Header.TheVariants as header_is
 use Rattle.sv_loop.proofs.SaysInputs.{says_inputs, quiet}
 use Rattle.sv_loop.specs.JournalPlaces.{Line, begins, described, moved, walked, walks_on}
-use Rattle.sv_loop.specs.JournalPlaces.Line.{Head, Said}
+use Rattle.sv_loop.specs.JournalPlaces.Line.{Head, Said, Noted}
 use Rattle.sv_loop.specs.JournalPlaces.Stage.{Long, Running}
-use Rattle.sv_loop.specs.JournalPlaces.Verdict.{Stands}
 use Rattle.sv_loop.specs.JournalPlaces.Walked.{Reaches}
 use Rattle.sv_loop.specs.LongHeader.{is_behind, host_of, with_variable, starting_at}
-use Rattle.sv_loop.specs.WholeJournal.{variable_lines, size_lines, include_lines, input_lines, AllAccepted, IsConfigured}
+use Rattle.sv_loop.specs.WholeJournal.{Entry, variable_lines, size_lines, include_lines, entry_lines, inputs_in, AllAccepted, IsConfigured}
 use Rattle.sv_loop.specs.declared.long.LongPlace.TheVariants.{Titled, Hosted, Located, Described, Configured}
 use Rattle.sv_out.specs.declared.input.Input.{Input}
 use Rattle.sv_out.specs.declared.order.Order.{Order}
@@ -25,28 +24,28 @@ record SaysFrom (first : Model) (inputs : List Input) (m : Model) (given : List 
   state : m ≡ after first inputs
   orders_are : given ≡ deeds first inputs
 
-abbrev go_lines : ℕ → List Input → List Line
-go_lines start inputs = Head (header_is.Go start) ∷ input_lines inputs
+abbrev go_lines : ℕ → List Entry → List Line
+go_lines start entries = Head (header_is.Go start) ∷ entry_lines entries
 
 record SaysIncludes (host : Host) (sizes : List (List ℕ × ℕ)) (conf : List ℕ) (included : List (List ℕ × List ℕ)) (lines : List Line) (m : Model) (given : List Order) : Type 0 where
   more : List (List ℕ × List ℕ)
   start : ℕ
   first : Model
   begun : IsConfigured (starting_at host start) sizes conf (included ++ more) first
-  inputs : List Input
-  spelled : lines ≡ include_lines more ++ go_lines start inputs
-  says : SaysFrom first inputs m given
+  entries : List Entry
+  spelled : lines ≡ include_lines more ++ go_lines start entries
+  says : SaysFrom first (inputs_in entries) m given
 
 begin_by : (host : Host) (sizes : List (List ℕ × ℕ)) (conf : List ℕ) (included : List (List ℕ × List ℕ)) (config : Result Config ConfFault)
     (lines : List Line) (m : Model) (given : List Order) → configuration_of conf included host ≡ config
     → walks_on (begins host sizes config) (λ next. walked next lines) ≡ Reaches (Running m) given
-    → (first : Model) × (inputs : List Input) × IsConfigured host sizes conf included first × (lines ≡ input_lines inputs) × SaysFrom first inputs m given
+    → (first : Model) × (entries : List Entry) × IsConfigured host sizes conf included first × (lines ≡ entry_lines entries) × SaysFrom first (inputs_in entries) m given
 begin_by host sizes conf included (Ok config) lines m given accepted e =
     let first = opening config sizes host in
     let said = says_inputs first lines (Running m) given (quiet (walked (Running first) lines) (Running m) given e) in
-    let state : m ≡ after first said.inputs = let same = said.state in cc in (
+    let state : m ≡ after first (inputs_in said.entries) = let same = said.state in cc in (
       first,
-      said.inputs,
+      said.entries,
       record { config = config; accepted = accepted; begins = refl },
       said.spelled,
       record { accepted = said.accepted; state = state; orders_are = said.orders_are },
@@ -57,6 +56,7 @@ says_includes : (host : Host) (sizes : List (List ℕ × ℕ)) (conf : List ℕ)
     → walked (Long (Configured host sizes conf included)) lines ≡ Reaches (Running m) given → SaysIncludes host sizes conf included lines m given
 says_includes host sizes conf included [] m given e = cc
 says_includes host sizes conf included (Said input ∷ lines) m given e = cc
+says_includes host sizes conf included (Noted order ∷ lines) m given e = cc
 says_includes host sizes conf included (Head (header_is.Journal version) ∷ lines) m given e = cc
 says_includes host sizes conf included (Head (header_is.Program program) ∷ lines) m given e = cc
 says_includes host sizes conf included (Head (header_is.Host other) ∷ lines) m given e = cc
@@ -74,7 +74,7 @@ says_includes host sizes conf included (Head (header_is.Include name more) ∷ l
       start = rest.start;
       first = rest.first;
       begun = subst P (append_assoc included ((name, more) ∷ []) rest.more) rest.begun;
-      inputs = rest.inputs;
+      entries = rest.entries;
       spelled = ap (λ (ls : List Line). Head (header_is.Include name more) ∷ ls) rest.spelled;
       says = rest.says;
     }
@@ -87,7 +87,7 @@ says_includes host sizes conf included (Head (header_is.Go start) ∷ lines) m g
       start = start;
       first = begun.0;
       begun = subst P (sym (append-nil included)) begun.2;
-      inputs = begun.1;
+      entries = begun.1;
       spelled = ap (λ (ls : List Line). Head (header_is.Go start) ∷ ls) begun.3;
       says = begun.4;
     }
@@ -99,9 +99,9 @@ record SaysSizes (host : Host) (sizes : List (List ℕ × ℕ)) (lines : List Li
   start : ℕ
   first : Model
   begun : IsConfigured (starting_at host start) (sizes ++ more) conf included first
-  inputs : List Input
-  spelled : lines ≡ size_lines more ++ Head (header_is.Conf conf) ∷ (include_lines included ++ go_lines start inputs)
-  says : SaysFrom first inputs m given
+  entries : List Entry
+  spelled : lines ≡ size_lines more ++ Head (header_is.Conf conf) ∷ (include_lines included ++ go_lines start entries)
+  says : SaysFrom first (inputs_in entries) m given
 
 -- the configuration's text, behind these sizes
 says_conf : (host : Host) (sizes : List (List ℕ × ℕ)) (conf : List ℕ) (lines : List Line) (m : Model) (given : List Order)
@@ -116,7 +116,7 @@ says_conf host sizes conf lines m given e =
       start = rest.start;
       first = rest.first;
       begun = subst P (sym (append-nil sizes)) rest.begun;
-      inputs = rest.inputs;
+      entries = rest.entries;
       spelled = ap (λ (ls : List Line). Head (header_is.Conf conf) ∷ ls) rest.spelled;
       says = rest.says;
     }
@@ -137,7 +137,7 @@ says_size host sizes file size lines m given true later e =
       start = rest.start;
       first = rest.first;
       begun = subst P (append_assoc sizes ((file, size) ∷ []) rest.more) rest.begun;
-      inputs = rest.inputs;
+      entries = rest.entries;
       spelled = ap (λ (ls : List Line). Head (header_is.Size file size) ∷ ls) rest.spelled;
       says = rest.says;
     }
@@ -147,6 +147,7 @@ says_sizes : (host : Host) (one : List ℕ × ℕ) (sizes : List (List ℕ × �
     → walked (Long (Described host (one ∷ sizes))) lines ≡ Reaches (Running m) given → SaysSizes host (one ∷ sizes) lines m given
 says_sizes host one sizes [] m given e = cc
 says_sizes host one sizes (Said input ∷ lines) m given e = cc
+says_sizes host one sizes (Noted order ∷ lines) m given e = cc
 says_sizes host one sizes (Head (header_is.Journal version) ∷ lines) m given e = cc
 says_sizes host one sizes (Head (header_is.Program program) ∷ lines) m given e = cc
 says_sizes host one sizes (Head (header_is.Host other) ∷ lines) m given e = cc
@@ -170,9 +171,9 @@ record SaysVariables (host : Host) (lines : List Line) (m : Model) (given : List
   start : ℕ
   first : Model
   begun : IsConfigured (starting_at (record host { environment = host.environment ++ variables }) start) sizes conf included first
-  inputs : List Input
-  spelled : lines ≡ variable_lines variables ++ (size_lines sizes ++ Head (header_is.Conf conf) ∷ (include_lines included ++ go_lines start inputs))
-  says : SaysFrom first inputs m given
+  entries : List Entry
+  spelled : lines ≡ variable_lines variables ++ (size_lines sizes ++ Head (header_is.Conf conf) ∷ (include_lines included ++ go_lines start entries))
+  says : SaysFrom first (inputs_in entries) m given
 
 -- no variable more
 says_rest : (host : Host) (lines : List Line) (m : Model) (given : List Order) → SaysSizes host [] lines m given → SaysVariables host lines m given
@@ -187,7 +188,7 @@ says_rest host lines m given rest =
       start = rest.start;
       first = rest.first;
       begun = subst P (sym (append-nil host.environment)) rest.begun;
-      inputs = rest.inputs;
+      entries = rest.entries;
       spelled = rest.spelled;
       says = rest.says;
     }
@@ -210,7 +211,7 @@ says_variable host name value lines m given true later e =
       start = rest.start;
       first = rest.first;
       begun = subst P (append_assoc host.environment ((name, value) ∷ []) rest.variables) rest.begun;
-      inputs = rest.inputs;
+      entries = rest.entries;
       spelled = ap (λ (ls : List Line). Head (header_is.Env name value) ∷ ls) rest.spelled;
       says = rest.says;
     }
@@ -227,6 +228,7 @@ says_variables : (host : Host) (lines : List Line) (m : Model) (given : List Ord
     → walked (Long (Described host [])) lines ≡ Reaches (Running m) given → SaysVariables host lines m given
 says_variables host [] m given e = cc
 says_variables host (Said input ∷ lines) m given e = cc
+says_variables host (Noted order ∷ lines) m given e = cc
 says_variables host (Head (header_is.Journal version) ∷ lines) m given e = cc
 says_variables host (Head (header_is.Program program) ∷ lines) m given e = cc
 says_variables host (Head (header_is.Host other) ∷ lines) m given e = cc
@@ -249,13 +251,13 @@ pub record SaysLong (lines : List Line) (m : Model) (given : List Order) : Type 
   pub included : List (List ℕ × List ℕ)
   pub first : Model
   pub begun : IsConfigured host sizes conf included first
-  pub inputs : List Input
+  pub entries : List Entry
   pub spelled : lines ≡
       Head (header_is.Host host.name) ∷ Head (header_is.Here host.here) ∷ Head (header_is.Pid host.pid)
-      ∷ (variable_lines host.environment ++ (size_lines sizes ++ Head (header_is.Conf conf) ∷ (include_lines included ++ Head (header_is.Go host.start) ∷ input_lines inputs)))
-  pub accepted : AllAccepted first inputs
-  pub state : m ≡ after first inputs
-  pub orders_are : given ≡ deeds first inputs
+      ∷ (variable_lines host.environment ++ (size_lines sizes ++ Head (header_is.Conf conf) ∷ (include_lines included ++ Head (header_is.Go host.start) ∷ entry_lines entries)))
+  pub accepted : AllAccepted first (inputs_in entries)
+  pub state : m ≡ after first (inputs_in entries)
+  pub orders_are : given ≡ deeds first (inputs_in entries)
 
 says_pid : (name here : List ℕ) (pid : ℕ) (lines : List Line) (m : Model) (given : List Order)
     → walked (Long (Described (host_of name here pid) [])) lines ≡ Reaches (Running m) given
@@ -269,7 +271,7 @@ says_pid name here pid lines m given e =
       included = rest.included;
       first = rest.first;
       begun = rest.begun;
-      inputs = rest.inputs;
+      entries = rest.entries;
       spelled = ap (λ (ls : List Line). Head (header_is.Host name) ∷ Head (header_is.Here here) ∷ Head (header_is.Pid pid) ∷ ls) rest.spelled;
       accepted = rest.says.accepted;
       state = rest.says.state;
@@ -280,6 +282,7 @@ says_located : (name here : List ℕ) (lines : List Line) (m : Model) (given : L
     → SaysLong (Head (header_is.Host name) ∷ Head (header_is.Here here) ∷ lines) m given
 says_located name here [] m given e = cc
 says_located name here (Said input ∷ lines) m given e = cc
+says_located name here (Noted order ∷ lines) m given e = cc
 says_located name here (Head (header_is.Journal version) ∷ lines) m given e = cc
 says_located name here (Head (header_is.Program program) ∷ lines) m given e = cc
 says_located name here (Head (header_is.Host other) ∷ lines) m given e = cc
@@ -296,6 +299,7 @@ says_hosted : (name : List ℕ) (lines : List Line) (m : Model) (given : List Or
     → SaysLong (Head (header_is.Host name) ∷ lines) m given
 says_hosted name [] m given e = cc
 says_hosted name (Said input ∷ lines) m given e = cc
+says_hosted name (Noted order ∷ lines) m given e = cc
 says_hosted name (Head (header_is.Journal version) ∷ lines) m given e = cc
 says_hosted name (Head (header_is.Program program) ∷ lines) m given e = cc
 says_hosted name (Head (header_is.Host other) ∷ lines) m given e = cc
@@ -312,6 +316,7 @@ pub says_long : (lines : List Line) (m : Model) (given : List Order) → walked 
     → SaysLong (lines) m given
 says_long [] m given e = cc
 says_long (Said input ∷ lines) m given e = cc
+says_long (Noted order ∷ lines) m given e = cc
 says_long (Head (header_is.Journal version) ∷ lines) m given e = cc
 says_long (Head (header_is.Program program) ∷ lines) m given e = cc
 says_long (Head (header_is.Host name) ∷ lines) m given e =

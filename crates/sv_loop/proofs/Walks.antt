@@ -1,13 +1,11 @@
 -- A list of lines with one more.
-use Rattle.std.proofs.Common.{◌≡◌, ℕ, List, [], ◌∷◌, ◌++◌, false, ◌==◌, ◌≤◌, length, refl, sym, ap, ◌∙◌, append_assoc, append-nil}
+use Rattle.std.proofs.Common.{◌≡◌, List, [], ◌∷◌, ◌++◌, ◌≤◌, length, refl, sym, ap, ◌∙◌, append_assoc, append-nil}
 use Rattle.std.proofs.lemmas.Grind.{flat_map-append}
-use Rattle.std.proofs.lemmas.List.Folds.{list_any-append}
 use Rattle.sv_journal.specs.JournalLine.{order_line}
 use Rattle.sv_journal.specs.Limits.{line_limit}
 use Rattle.sv_loop.specs.JournalPlaces.{Line, line_text, FitsLine, Stage, Verdict, judged, Walked, behind, walks_on, walked, journal_text, order_text, AllFit}
 use Rattle.sv_loop.specs.JournalPlaces.Verdict.{Stands, Misplaced, Refused, Faulty}
 use Rattle.sv_loop.specs.JournalPlaces.Walked.{Reaches, Stops}
-use Rattle.sv_loop.specs.Reading.{has_feed}
 use Rattle.sv_out.specs.declared.order.Order.{Order}
 
 pub order_text_append : (one other : List Order) → order_text (one ++ other) ≡ order_text one ++ order_text other
@@ -21,10 +19,6 @@ journal_text_more lines line =
 pub all_fit_more : (lines : List Line) (line : Line) → AllFit lines → FitsLine line → length (line_text line) ≤ line_limit → AllFit (lines ++ line ∷ [])
 all_fit_more [] line all fits short = (fits, short, tt)
 all_fit_more (x ∷ xs) line all fits short = (all.0, all.1, all_fit_more xs line all.2 fits short)
-
-pub has_feed_more : (text : List ℕ) (byte : ℕ) → has_feed text ≡ false → (byte == 10) ≡ false → has_feed (text ++ byte ∷ []) ≡ false
-has_feed_more text byte none other =
-    list_any-append (λ (b : ℕ). b == 10) text (byte ∷ []) ∙ rw (none, other) refl
 
 behind_more : (os : List Order) (one other : Walked) (to next : Stage) (given more : List Order)
     → ((g : List Order) → one ≡ Reaches to g → other ≡ Reaches next (g ++ more))

@@ -1,6 +1,6 @@
 -- The places of a journal: its title, its short or long header, `go`, then the inputs; what a line is at its place, and
 -- what a list of lines leads to.
-use Rattle.std.specs.Prelude.{◌≡◌, ℕ, zero, suc, List, [], ◌∷◌, ◌++◌, if◌then◌else◌, ◌≤◌, length, Bool, true, false, Option, Some, None, Result, Ok, Err}
+use Rattle.std.specs.Prelude.{◌≡◌, ℕ, zero, suc, List, [], ◌∷◌, ◌++◌, if◌then◌else◌, ◌≤◌, length, Bool, true, false, Option, Some, None, Result, Ok, Err, codes}
 use Rattle.std.specs.List.{flat_map}
 use Rattle.sv_base.specs.Roster.{is_roster}
 use Rattle.sv_base.specs.declared.config.Config.{Config}
@@ -11,6 +11,7 @@ use Rattle.sv_conf.specs.declared.fault.ConfFault.{ConfFault}
 use Rattle.sv_core.specs.MachineState.{Model, opening, accepts, next, orders}
 use Rattle.sv_journal.specs.JournalLine.{header_line, input_line, order_line, FitsHeader, FitsInput}
 use Rattle.sv_journal.specs.Limits.{line_limit}
+use Rattle.sv_journal.specs.Orders.{FitsOrder}
 use Rattle.sv_journal.specs.declared.header.Header.{Header}
 use Rattle.sv_journal.specs.declared.header.Header.TheVariants as header_is
 use Rattle.sv_loop.specs.LongHeader.{is_behind, host_of, with_variable, starting_at}
@@ -20,20 +21,23 @@ use Rattle.sv_loop.specs.declared.long.LongPlace.TheVariants.{Titled, Hosted, Lo
 use Rattle.sv_out.specs.declared.input.Input.{Input}
 use Rattle.sv_out.specs.declared.order.Order.{Order}
 
--- what a line of a journal says
+-- what a line of a journal says: a header, an input, or an order that a daemon has given
 pub data Line : Type 0 where
   Head : Header → Line
   Said : Input → Line
+  Noted : Order → Line
 
--- the line's text, without its line feed
+-- the line's text, without its line feed; a mark stands before an order's line
 abbrev pub line_text : Line → List ℕ
 line_text (Head header) = header_line header
 line_text (Said input) = input_line input
+line_text (Noted order) = codes "> " ++ order_line order
 
 -- it keeps the limits of its line
 abbrev pub FitsLine : Line → Type 0
 FitsLine (Head header) = FitsHeader header
 FitsLine (Said input) = FitsInput input
+FitsLine (Noted order) = FitsOrder order
 
 -- where in the journal a line stands: at its beginning, behind the title and some programs, in a long header, or
 -- behind `go`
@@ -111,10 +115,16 @@ abbrev pub says : Stage → Input → Verdict
 says (Running m) input = if accepts m input then Stands (Running (next m input)) (orders m input) else Refused
 says stage input = Misplaced
 
+-- what is to be said of an order's line: behind `go` it is passed over
+abbrev pub passes_over : Stage → Verdict
+passes_over (Running m) = Stands (Running m) []
+passes_over stage = Misplaced
+
 -- what is to be said of a line
 abbrev pub judged : Stage → Line → Verdict
 judged stage (Head header) = heads stage header
 judged stage (Said input) = says stage input
+judged stage (Noted order) = passes_over stage
 
 -- no line that stands at this place has the text
 abbrev pub IsMisplaced : Stage → List ℕ → Type 0

@@ -25,6 +25,17 @@ pub record IsRead (bytes : List ℕ) (given : List Order) (lines : List Line) (a
   pub spelled : bytes ≡ journal_text lines ++ (text ++ rest)
   pub unbroken : has_feed text ≡ false
 
+-- a line ends here: these bytes stand before the first line feed, and these after it
+pub record IsCut (bytes line behind : List ℕ) : Type 0 where
+  pub is : bytes ≡ line ++ 10 ∷ behind
+  pub unbroken : has_feed line ≡ false
+
+-- so many whole lines were taken, and this text of the next
+pub record Holds (count : ℕ) (lines : List Line) (at : Stage) (given : List Order) (bytes text : List ℕ) : Type 0 where
+  pub read : IsRead bytes given lines at text []
+  pub short : length text ≤ line_limit
+  pub count_is : count ≡ length lines
+
 -- the reader has taken these bytes
 pub record IsAt (run : Run) (lines : List Line) (at : Stage) (given : List Order) (bytes : List ℕ) : Type 0 where
   pub read : IsRead bytes given lines at run.line.items []

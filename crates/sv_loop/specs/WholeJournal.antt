@@ -1,4 +1,4 @@
--- A whole journal as what it says: how the daemon begins, and the inputs.
+-- A whole journal as what it says: how the daemon begins, and what stands behind `go`.
 use Rattle.std.specs.Prelude.{◌≡◌, ◌≤◌, ◌+◌, ℕ, List, [], ◌∷◌, ◌++◌, true, Option, Some, Ok, length}
 use Rattle.std.specs.Io.KnownBytes.{Appends, Consumes, IsAtEnd}
 use Rattle.sv_base.specs.declared.config.Config.{Config}
@@ -13,7 +13,7 @@ use Rattle.sv_journal.specs.declared.header.Header.{Header}
 use Rattle.sv_journal.specs.declared.header.Header.TheVariants as header
 use Rattle.sv_journal.specs.declared.header.Program.{Program}
 use Rattle.sv_loop.specs.JournalPlaces.{Line, Stage, Verdict, heads, journal_text, order_text, AllFit, walked}
-use Rattle.sv_loop.specs.JournalPlaces.Line.{Head, Said}
+use Rattle.sv_loop.specs.JournalPlaces.Line.{Head, Said, Noted}
 use Rattle.sv_loop.specs.JournalPlaces.Stage.{Fresh, Running}
 use Rattle.sv_loop.specs.JournalPlaces.Walked.{Reaches}
 use Rattle.sv_loop.specs.Replaying.{TellsWhy, journal_limit}
@@ -47,21 +47,33 @@ abbrev pub include_lines : List (List ℕ × List ℕ) → List Line
 include_lines [] = []
 include_lines (text ∷ more) = Head (header.Include text.0 text.1) ∷ include_lines more
 
--- a line for each input
-abbrev pub input_lines : List Input → List Line
-input_lines [] = []
-input_lines (input ∷ inputs) = Said input ∷ input_lines inputs
+-- what stands behind `go`: an input, or an order that a daemon has given
+pub data Entry : Type 0 where
+  Told : Input → Entry
+  Given : Order → Entry
 
--- a journal's lines: those of its header, then a line for each input
-abbrev pub journal_lines : Beginning → List Input → List Line
-journal_lines (Short programs start) inputs =
-    Head (header.Journal 0) ∷ (program_lines programs ++ Head (header.Go start) ∷ input_lines inputs)
-journal_lines (Long host sizes text included) inputs =
+-- a line for each
+abbrev pub entry_lines : List Entry → List Line
+entry_lines [] = []
+entry_lines (Told input ∷ entries) = Said input ∷ entry_lines entries
+entry_lines (Given order ∷ entries) = Noted order ∷ entry_lines entries
+
+-- the inputs among them
+abbrev pub inputs_in : List Entry → List Input
+inputs_in [] = []
+inputs_in (Told input ∷ entries) = input ∷ inputs_in entries
+inputs_in (Given order ∷ entries) = inputs_in entries
+
+-- a journal's lines: those of its header, then a line for each entry
+abbrev pub journal_lines : Beginning → List Entry → List Line
+journal_lines (Short programs start) entries =
+    Head (header.Journal 0) ∷ (program_lines programs ++ Head (header.Go start) ∷ entry_lines entries)
+journal_lines (Long host sizes text included) entries =
     Head (header.Journal 1) ∷ Head (header.Host host.name) ∷ Head (header.Here host.here) ∷ Head (header.Pid host.pid)
     ∷ (variable_lines host.environment
     ++ (size_lines sizes
     ++ Head (header.Conf text) ∷ (include_lines included
-    ++ Head (header.Go host.start) ∷ input_lines inputs)))
+    ++ Head (header.Go host.start) ∷ entry_lines entries)))
 
 -- the groups with those of the programs, each in its place
 abbrev pub groups_of : List GroupSpec → List Program → List GroupSpec
@@ -84,16 +96,16 @@ abbrev pub AllAccepted : Model → List Input → Type 0
 AllAccepted m [] = Unit {0}
 AllAccepted m (input ∷ inputs) = (accepts m input ≡ true) × AllAccepted (next m input) inputs
 
--- the lines are a journal, its inputs are accepted, and these are its deeds
+-- the lines are a journal, its inputs are accepted, and these are their deeds
 pub record SaysJournal (lines : List Line) (m : Model) (given : List Order) : Type 0 where
   pub beginning : Beginning
   pub first : Model
   pub begins : BeginsAs beginning first
-  pub inputs : List Input
-  pub spelled : lines ≡ journal_lines beginning inputs
-  pub accepted : AllAccepted first inputs
-  pub state : m ≡ after first inputs
-  pub orders : given ≡ deeds first inputs
+  pub entries : List Entry
+  pub spelled : lines ≡ journal_lines beginning entries
+  pub accepted : AllAccepted first (inputs_in entries)
+  pub state : m ≡ after first (inputs_in entries)
+  pub orders : given ≡ deeds first (inputs_in entries)
 
 -- the source was read to its end, and gave a journal whose inputs are each accepted; the sink was written the lines of
 -- the deeds of these inputs, and nothing else
@@ -101,12 +113,12 @@ pub record WritesDeeds (left left_after written written_after : Option (List ℕ
   pub beginning : Beginning
   pub first : Model
   pub begins : BeginsAs beginning first
-  pub inputs : List Input
-  pub fit : AllFit (journal_lines beginning inputs)
-  pub taken : Consumes left left_after (journal_text (journal_lines beginning inputs))
+  pub entries : List Entry
+  pub fit : AllFit (journal_lines beginning entries)
+  pub taken : Consumes left left_after (journal_text (journal_lines beginning entries))
   pub at_end : IsAtEnd left_after
-  pub accepted : AllAccepted first inputs
-  pub wrote : Appends written written_after (order_text (deeds first inputs))
+  pub accepted : AllAccepted first (inputs_in entries)
+  pub wrote : Appends written written_after (order_text (deeds first (inputs_in entries)))
 
 -- the source holds a good journal: each line is in the grammar of its place, they lead behind `go`, each input is accepted,
 -- and it has no more bytes than a journal may have

@@ -1,5 +1,5 @@
 //! What is to be said of one line at its place.
-ghost use Rattle.std.specs.Prelude.{◌≡◌, ◌↔◌, [], IsTrue, IsSome, IfOk, IfSome};
+ghost use Rattle.std.specs.Prelude.{◌≡◌, ◌≢◌, ◌↔◌, ◌++◌, List, ℕ, [], IsTrue, IsSome, IfOk, IfSome, MatchOption, codes};
 ghost use Rattle.sv_base.specs.Roster.{is_roster};
 ghost use Rattle.sv_core.specs.MachineState.{Model};
 ghost use Rattle.sv_core.specs.StandsFor.{StandsFor};
@@ -19,8 +19,12 @@ use sv_conf::fault::ConfFault;
 use sv_core::machine::Machine;
 use sv_journal::fault::LineFault;
 use sv_journal::header::{Header, Program};
-use sv_journal::read::{read_header, read_input};
+use sv_journal::read::{LINE_LIMIT, read_header, read_input};
+use sv_journal::reading_orders::read_order;
 use sv_out::order::Order;
+
+/// The length of the mark that stands before an order's line in a daemon's journal.
+const MARK_LENGTH: usize = 2;
 
 /// Where in a journal the next line stands: at the beginning, behind the title and some programs, in a long header, or
 /// behind `go`.
@@ -175,7 +179,45 @@ pub(crate) fn running(alloc: Global, machine: Machine) -> Judged
     }
 }
 
+/// Behind `go` stand inputs, and orders behind a mark, which are passed over.
 fn judge_input(alloc: Global, machine: Box<Machine>, line: &[u8]) -> Judged
+    ensures { (m : Model) → StandsFor machine.value m → JudgedAs result (Running m) line.now }
+{
+    match behind_mark(line) {
+        Some(order) => judge_noted(alloc, machine, order),
+        None => judge_said(alloc, machine, line),
+    }
+}
+
+/// What stands behind the mark of an order's line, if the line begins with it.
+fn behind_mark(line: &[u8]) -> Option<&[u8]>
+    ensures { MatchOption result ((rest : List ℕ) → line.now ≢ codes "> " ++ rest)
+        (λ order. line.now ≡ codes "> " ++ order.now) }
+{
+    match line {
+        [b'>', b' ', order @ ..] => Some(order),
+        _ => None,
+    }
+}
+
+/// The order that stands behind the mark was given by a daemon; this machine gives its own.
+fn judge_noted(alloc: Global, machine: Box<Machine>, order: &[u8]) -> Judged
+    ensures { (m : Model) → StandsFor machine.value m
+        → JudgedAs result (Running m) (codes "> " ++ order.now) }
+{
+    if order.len() > LINE_LIMIT - MARK_LENGTH {
+        return Judged::Misplaced;
+    }
+    match read_order(alloc, order) {
+        Ok(_) => Judged::Stands(Place::Running(machine), Vec::new(alloc)),
+        Err(LineFault::BadLine(_)) => Judged::Misplaced,
+        Err(LineFault::OutOfMemory) => Judged::NoMemory,
+    }
+}
+
+#[tactic(auto, using(crate::proofs::Judged::misplaced_said))]
+fn judge_said(alloc: Global, machine: Box<Machine>, line: &[u8]) -> Judged
+    requires { (rest : List ℕ) → line.now ≢ codes "> " ++ rest }
     ensures { (m : Model) → StandsFor machine.value m → JudgedAs result (Running m) line.now }
 {
     let mut machine = machine;

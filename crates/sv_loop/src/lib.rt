@@ -1,6 +1,8 @@
-//! The top calls: a recorded journal through the daemon's machine.
+//! The top calls: a recorded journal, or a generated run, through the daemon's machine.
 #![tactic(auto)]
 
+mod cutting;
+mod generating;
 mod judge;
 mod long;
 mod orders;

@@ -1,7 +1,8 @@
-//! The call that reads a journal, runs the machine on it and writes its orders.
-ghost use Rattle.std.specs.Prelude.{◌≡◌, ◌≢◌, ◌≤◌, ◌<◌, ◌↔◌, IsTrue, codes, ◌++◌, ◌∷◌, [], Err, IfOk, OnErr, length, take, string_bytes};
+//! The call that reads a journal, runs the machine on it and writes its orders; or that goes through a generated run.
+ghost use Rattle.std.specs.Prelude.{◌≡◌, ◌≢◌, ◌≤◌, ◌<◌, ◌↔◌, ℕ, IsTrue, codes, ◌++◌, ◌∷◌, [], Err, IfOk, OnErr, length, take, string_bytes};
 ghost use Rattle.std.specs.Fmt.{decimal};
 ghost use Rattle.std.specs.Io.KnownBytes.{Appends, Consumes, IsAtEnd, Keeps};
+ghost use Rattle.sv_loop.specs.Generating.{AreGen, Generates};
 ghost use Rattle.sv_loop.specs.JournalPlaces.Stage.{Fresh};
 ghost use Rattle.sv_loop.specs.Reading.{IsAt};
 ghost use Rattle.sv_loop.specs.Replaying.{AreRun, Ended, Refuses, Replays, ReplaysAs, bad_line, configuration_fault, fault_line, status_number};
@@ -10,6 +11,7 @@ ghost use Rattle.sv_loop.specs.WholeJournal.{HoldsGoodJournal, HoldsUnconfigured
 ghost use Rattle.sv_loop.specs.declared.replaying.Status.{Status};
 ghost use Rattle.sv_out.specs.Faults.{HasCause, Rose};
 
+use crate::generating::{generate, number_in};
 use crate::judge::Place;
 use crate::run::{End, Run};
 use std::alloc::{AllocError, Global};
@@ -89,7 +91,7 @@ fn read_piece<R: Source>(source: &mut R, buffer: &mut [u8], most: usize) -> Resu
 }
 
 /// Tells this text, which is the last; the status is then this one, unless the sink fails.
-fn tell<K: Sink>(text: &[u8], status: Status, sink: &mut K) -> Status
+pub(crate) fn tell<K: Sink>(text: &[u8], status: Status, sink: &mut K) -> Status
     ensures tells { Tells text.now status (K.written sink.old) (K.written sink.new) result }
     ensures later { K.faults sink.old ≤ K.faults sink.new }
     ensures failed { status ≢ Status.SinkFailed → result ≡ Status.SinkFailed
@@ -303,17 +305,23 @@ fn run<R: Source, K: Sink>(alloc: Global, source: &mut R, sink: &mut K) -> Statu
     close(alloc, &run, ending, sink)
 }
 
-/// Runs a recorded journal through the daemon's machine. The words are the one word `run`. The journal's lines are taken
-/// one at a time, and the order lines of each are written before the next is judged.
+/// Runs a journal or a generated run through the daemon's machine.
 ///
-/// The answer is 0 where the journal was read to its end, behind `go`, and each of its lines stood at its place; 1 where
-/// the source failed; 2 where the words are refused; 3 for want of memory; 4 where the sink failed; 5 where a line is
-/// outside the grammar of its place, or the journal ends before `go`; 6 where the header's configuration is refused; 7 where
-/// an input isn't accepted; 8 where the source has more than 67,108,864 bytes. A line that tells of it was then written, but
-/// at 0, 3 and 4.
+/// With the one word `run` it is a recorded journal. Its lines are taken one at a time, and the order lines of each are
+/// written before the next is judged. With the words `gen N`, where N is a number from 1 to 1,000,000 without leading
+/// zeros, it is a run of N inputs that are made up by a generator of numbers. The source isn't read, and the one line
+/// `inputs N spawns A kills B edges C` is written, which tells how many spawns, signals and reports of an edge the machine
+/// gave.
+///
+/// The answer is 0 where the journal was read to its end, behind `go`, and each of its lines stood at its place, or the
+/// line of the generated run was written; 1 where the source failed; 2 where the words are refused; 3 for want of memory;
+/// 4 where the sink failed; 5 where a line is outside the grammar of its place, or the journal ends before `go`; 6 where
+/// the header's configuration is refused; 7 where an input isn't accepted; 8 where the source has more than 67,108,864
+/// bytes. A line that tells of it was then written, but at 0, 3 and 4.
 pub fn replay<R: Source, K: Sink>(alloc: Global, words: &[Text], source: &mut R, sink: &mut K) -> u8
     ensures statuses { (status : Status) × (result ≡ status_number status) }
     ensures refused { (AreRun words.now → ⊥) →
+        ((number : ℕ) → AreGen words.now number → ⊥) →
         Refuses result (R.left source.old) (R.left source.new) (K.written sink.old)
         (K.written sink.new) }
     ensures replays { AreRun words.now →
@@ -327,13 +335,19 @@ pub fn replay<R: Source, K: Sink>(alloc: Global, words: &[Text], source: &mut R,
         → IsDoneOrHindered result }
     ensures unconfigured { AreRun words.now → HoldsUnconfigured (R.left source.old)
         → IsUnconfiguredOrHindered result }
+    ensures generates { (number : ℕ) → AreGen words.now number →
+        Generates number result (R.left source.old) (R.left source.new) (K.written sink.old)
+        (K.written sink.new) }
     ensures source_failed { result ≡ 1 → Rose (R.faults source.old) (R.faults source.new) }
     ensures sink_failed { result ≡ 4 → Rose (K.faults sink.old) (K.faults sink.new) }
 {
     if are_run(words) {
         return run(alloc, source, sink).number();
     }
-    tell(USAGE, Status::WordsRefused, sink).number()
+    match number_in(words) {
+        Some(number) => generate(alloc, number, sink).number(),
+        None => tell(USAGE, Status::WordsRefused, sink).number(),
+    }
 }
 
 const USAGE: &[u8] = b"Error: usage: sv_replay run or sv_replay gen N\n";

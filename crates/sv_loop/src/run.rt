@@ -1,10 +1,13 @@
-//! The lines of a journal, byte by byte.
-ghost use Rattle.std.specs.Prelude.{◌≡◌, ◌≤◌, ◌<◌, ◌+◌, ◌^◌, ◌∷◌, ◌++◌, [], List, ℕ, OnOk, IfErr, Err, length};
+//! The lines of a journal, piece by piece.
+ghost use Rattle.std.specs.Prelude.{◌≡◌, ◌≤◌, ◌<◌, ◌+◌, ◌^◌, ◌∷◌, ◌++◌, [], List, ℕ, OnOk, IfErr, Err, Option, false, ◌≢◌, length};
 ghost use Rattle.sv_loop.specs.JournalPlaces.{Line, Stage};
 ghost use Rattle.sv_loop.specs.JournalPlaces.Stage.{Fresh};
+ghost use Rattle.sv_loop.specs.Judging.{JudgedAs};
+ghost use Rattle.sv_loop.specs.Reading.{Holds, has_feed};
 ghost use Rattle.sv_out.specs.Faults.{Rose};
 ghost use Rattle.sv_out.specs.declared.order.Order.{Order};
 
+use crate::cutting::cut;
 use crate::judge::{Judged, Place, judge};
 use crate::orders::write_orders;
 use std::alloc::Global;
@@ -72,46 +75,91 @@ impl Run {
             StopsAt end self.new (bytes ++ piece.now) given (K.written sink.old)
             (K.written sink.new)) }
     {
-        for byte in piece {
-            match self.take_byte(alloc, *byte, sink) {
-                Ok(()) => {}
-                Err(end) => return Err(end),
-            }
+        let mut rest = piece;
+        while let Some((line, behind)) = cut(rest) {
+            self.take_line(alloc, line, sink)?;
+            rest = behind;
         }
-        Ok(())
+        self.hold(rest)
     }
 
-    fn take_byte<K: Sink>(&mut self, alloc: Global, byte: u8, sink: &mut K) -> Result<(), End>
-        requires { self.old.lines < 2 ^ 32 }
+    /// Takes the end of a line, its line feed left out. A line that lies in the piece is judged there; one of which
+    /// something is held is joined first.
+    fn take_line<K: Sink>(&mut self, alloc: Global, line: &[u8], sink: &mut K) -> Result<(), End>
+        requires few { self.old.lines < 2 ^ 32 }
+        requires unbroken { has_feed line.now ≡ false }
         ensures few { self.new.lines ≤ self.old.lines + 1 }
         ensures later { K.faults sink.old ≤ K.faults sink.new }
         ensures failed { result ≡ Err End.Unwritten → Rose (K.faults sink.old) (K.faults sink.new) }
         ensures goes_on { OnOk result ((lines : List Line) (at : Stage) (given : List Order)
             (bytes : List ℕ) →
             IsAt self.old lines at given bytes →
-            GoesOn self.new (bytes ++ byte ∷ []) given (K.written sink.old) (K.written sink.new)) }
+            GoesOn self.new (bytes ++ (line.now ++ 10 ∷ [])) given (K.written sink.old)
+            (K.written sink.new)) }
         ensures stops { IfErr result (λ end. (lines : List Line) (at : Stage) (given : List Order)
             (bytes : List ℕ) →
             IsAt self.old lines at given bytes →
-            StopsAt end self.new (bytes ++ byte ∷ []) given (K.written sink.old)
+            StopsAt end self.new (bytes ++ (line.now ++ 10 ∷ [])) given (K.written sink.old)
             (K.written sink.new)) }
     {
-        if byte == b'\n' {
-            return match self.end_line(alloc, sink) {
-                Ok(()) => Ok(()),
-                Err(end) => Err(end),
-            };
+        if self.line.as_slice().is_empty() {
+            return self.judge_line(alloc, line, sink);
         }
-        if self.line.len() >= LINE_LIMIT {
+        self.hold(line)?;
+        self.end_line(alloc, sink)
+    }
+
+    /// Holds what came of a line that isn't whole yet.
+    fn hold(&mut self, more: &[u8]) -> Result<(), End>
+        requires { has_feed more.now ≡ false }
+        ensures few { self.new.lines ≡ self.old.lines }
+        ensures goes_on { OnOk result ((lines : List Line) (at : Stage) (given : List Order)
+            (bytes : List ℕ) (written : Option (List ℕ)) →
+            IsAt self.old lines at given bytes →
+            GoesOn self.new (bytes ++ more.now) given written written) }
+        ensures stops { IfErr result (λ end. (lines : List Line) (at : Stage) (given : List Order)
+            (bytes : List ℕ) (written : Option (List ℕ)) →
+            IsAt self.old lines at given bytes →
+            StopsAt end self.new (bytes ++ more.now) given written written) }
+        ensures written { result ≢ Err End.Unwritten }
+    {
+        if self.line.len() + more.len() > LINE_LIMIT {
             return Err(End::Misplaced);
         }
-        match self.line.push(byte) {
+        match self.line.extend_from_slice(more) {
             Ok(()) => Ok(()),
             Err(_) => Err(End::NoMemory),
         }
     }
 
-    /// The line in hand is whole.
+    /// A whole line lies in the piece, and nothing is held: it is judged where it lies.
+    fn judge_line<K: Sink>(&mut self, alloc: Global, line: &[u8], sink: &mut K) -> Result<(), End>
+        requires few { self.old.lines < 2 ^ 32 }
+        requires empty { self.old.line.items ≡ [] }
+        requires unbroken { has_feed line.now ≡ false }
+        ensures few { self.new.lines ≤ self.old.lines + 1 }
+        ensures later { K.faults sink.old ≤ K.faults sink.new }
+        ensures failed { result ≡ Err End.Unwritten → Rose (K.faults sink.old) (K.faults sink.new) }
+        ensures goes_on { OnOk result ((lines : List Line) (at : Stage) (given : List Order)
+            (bytes : List ℕ) →
+            IsAt self.old lines at given bytes →
+            GoesOn self.new (bytes ++ (line.now ++ 10 ∷ [])) given (K.written sink.old)
+            (K.written sink.new)) }
+        ensures stops { IfErr result (λ end. (lines : List Line) (at : Stage) (given : List Order)
+            (bytes : List ℕ) →
+            IsAt self.old lines at given bytes →
+            StopsAt end self.new (bytes ++ (line.now ++ 10 ∷ [])) given (K.written sink.old)
+            (K.written sink.new)) }
+    {
+        if line.len() > LINE_LIMIT {
+            return Err(End::Misplaced);
+        }
+        let place = mem::replace(&mut self.place, Place::Fresh);
+        let judged = judge(alloc, place, line);
+        self.go_on(alloc, judged, sink)
+    }
+
+    /// The line that is held is whole, and is judged.
     fn end_line<K: Sink>(&mut self, alloc: Global, sink: &mut K) -> Result<(), End>
         requires { self.old.lines < 2 ^ 32 }
         ensures few { self.new.lines ≤ self.old.lines + 1 }
@@ -128,7 +176,27 @@ impl Run {
             (K.written sink.new)) }
     {
         let place = mem::replace(&mut self.place, Place::Fresh);
-        match judge(alloc, place, self.line.as_slice()) {
+        let judged = judge(alloc, place, self.line.as_slice());
+        self.go_on(alloc, judged, sink)
+    }
+
+    /// What was said of the line in hand: its orders are written, and the next line begins.
+    fn go_on<K: Sink>(&mut self, alloc: Global, judged: Judged, sink: &mut K) -> Result<(), End>
+        requires { self.old.lines < 2 ^ 32 }
+        ensures few { self.new.lines ≤ self.old.lines + 1 }
+        ensures later { K.faults sink.old ≤ K.faults sink.new }
+        ensures failed { result ≡ Err End.Unwritten → Rose (K.faults sink.old) (K.faults sink.new) }
+        ensures goes_on { OnOk result ((lines : List Line) (at : Stage) (given : List Order)
+            (bytes text : List ℕ) →
+            Holds self.old.lines lines at given bytes text → JudgedAs judged at text →
+            GoesOn self.new (bytes ++ 10 ∷ []) given (K.written sink.old) (K.written sink.new)) }
+        ensures stops { IfErr result (λ end. (lines : List Line) (at : Stage) (given : List Order)
+            (bytes text : List ℕ) →
+            Holds self.old.lines lines at given bytes text → JudgedAs judged at text →
+            StopsAt end self.new (bytes ++ 10 ∷ []) given (K.written sink.old)
+            (K.written sink.new)) }
+    {
+        match judged {
             Judged::Stands(place, orders) => {
                 match write_orders(alloc, orders.as_slice(), sink) {
                     Ok(()) => {

@@ -9,6 +9,8 @@ mod clear_tests;
 #[cfg(test)]
 mod closing_tests;
 #[cfg(test)]
+mod generated_tests;
+#[cfg(test)]
 mod group_tests;
 #[cfg(test)]
 mod link_tests;
@@ -20,6 +22,8 @@ mod log_tests;
 mod long_tests;
 #[cfg(test)]
 mod main_log_tests;
+#[cfg(test)]
+mod noted_tests;
 #[cfg(test)]
 mod order_tests;
 #[cfg(test)]

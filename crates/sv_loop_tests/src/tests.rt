@@ -18,7 +18,7 @@ pub(crate) struct Case {
     pub(crate) written: &'static str,
 }
 
-const CASES: [Case; 39] = [
+const CASES: [Case; 42] = [
     Case {
         name: "starts_stays_up_and_exits",
         journal: "supervisor-journal 0\nprogram x 1 3 unexpected 0 TERM 10\ngo 0\n0 tick\npid 12\n1000 tick\n2000 exit 1 code 0\n",
@@ -142,6 +142,24 @@ const CASES: [Case; 39] = [
     Case {
         name: "a_last_line_without_line_feed",
         journal: "supervisor-journal 0\nprogram x 1 3 unexpected 0 TERM 10\ngo 0\n0 tick",
+        status: 5,
+        written: "fault 5 line 4\n",
+    },
+    Case {
+        name: "an_empty_first_line",
+        journal: "\nsupervisor-journal 0\nprogram x 1 3 unexpected 0 TERM 10\ngo 0\n",
+        status: 5,
+        written: "fault 5 line 1\n",
+    },
+    Case {
+        name: "an_empty_line_behind_the_title",
+        journal: "supervisor-journal 0\n\nprogram x 1 3 unexpected 0 TERM 10\ngo 0\n",
+        status: 5,
+        written: "fault 5 line 2\n",
+    },
+    Case {
+        name: "an_empty_last_line",
+        journal: "supervisor-journal 0\nprogram x 1 3 unexpected 0 TERM 10\ngo 0\n\n",
         status: 5,
         written: "fault 5 line 4\n",
     },
@@ -316,11 +334,16 @@ fn break_sink(rt: &impl Abort, alloc: Global, case: &Case, failing: u64) {
     }
 }
 
+/// The most bytes of a piece: single bytes; 16, so that the title lies over two pieces and a program's line over three; all of the
+/// title but its line feed; the whole title; and the whole journal.
+const PIECES: [usize; 5] = [1, 16, 20, 21, 1_000_000];
+
 #[test]
 fn journals_are_replayed(rt: HostRuntime) {
     for case in &CASES {
-        play(&rt, rt.alloc(), case, 1);
-        play(&rt, rt.alloc(), case, 1_000_000);
+        for most in PIECES {
+            play(&rt, rt.alloc(), case, most);
+        }
         for failing in 1..20 {
             break_source(&rt, rt.alloc(), case, failing);
             break_sink(&rt, rt.alloc(), case, failing);
@@ -342,7 +365,7 @@ fn refuse(
     assert!(rt; sink.written() == written);
 }
 
-const USAGE: &[u8] = b"Error: usage: sv_replay run or sv_replay gen N\n";
+pub(crate) const USAGE: &[u8] = b"Error: usage: sv_replay run or sv_replay gen N\n";
 
 /// A journal cut after each byte: whole behind the line feed of `go` or of a later line, else at fault.
 fn cut(rt: &impl Abort, alloc: Global, journal: &[u8], at: usize, go: usize) {

@@ -1,4 +1,5 @@
-//! `sv_replay run`: a recorded journal from standard input through the daemon's machine, its orders to standard output.
+//! `sv_replay run`: a recorded journal from standard input through the daemon's machine, its orders to standard output; and
+//! `sv_replay gen N`: a generated run through it, of which one line goes there.
 #![tactic(auto)]
 
 use std::alloc::{AllocError, Global};

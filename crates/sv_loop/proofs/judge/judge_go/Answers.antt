@@ -1,4 +1,4 @@
-use Rattle.std.proofs.Common.{[], ◌≡◌, false, ◌==◌, length, sym, ◌∙◌}
+use Rattle.std.proofs.Common.{[], ◌≡◌, false, ◌==◌, length}
 use Rattle.sv_core.specs.MachineState.{opening}
 use Rattle.sv_loop.proofs.Judged.{go_leads}
 use Rattle.sv_loop.specs.ShortHeader.{config_of, host_at}

@@ -5,6 +5,6 @@ use Rattle.sv_loop.proofs.judge.judge_header.Goals as goal
 
 pub returns-in-Ok : goal.returns-in-Ok
 returns-in-Ok c =
-    judged_by_head c.judge_head.result (Named c.args.groups) c.in-Ok.header c.args.line.now (λ input. refl)
+    judged_by_head c.judge_head.result (Named c.args.groups) c.in-Ok.header c.args.line.now (λ input. refl) refl
     (λ h fits spelled short. c.in-Ok.ensures.only h fits spelled short)
     c.in-Ok.ensures.fits c.in-Ok.ensures.found c.in-Ok.ensures.short c.judge_head.ensures

@@ -4,7 +4,7 @@ use Rattle.sv_core.specs.StandsFor.{StandsFor}
 use Rattle.sv_core.specs.declared.machine.Machine.{Machine}
 use Rattle.sv_loop.specs.JournalPlaces.Line.{Said}
 use Rattle.sv_loop.specs.JournalPlaces.Stage.{Running}
-use Rattle.sv_loop.proofs.judge.judge_input.Goals as goal
+use Rattle.sv_loop.proofs.judge.judge_said.Goals as goal
 
 pub returns-in-Ok-step : goal.returns-in-Ok-step
 returns-in-Ok-step c = λ m s.
