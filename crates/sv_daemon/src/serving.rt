@@ -55,8 +55,17 @@ pub fn serve<E: Engine + Drop, W: World, L: Lines, J: Sink>(
     ensures later { J.faults journal.old ≤ J.faults journal.new }
 {
     let mut machine = machine;
+    let mut text = Vec::new(alloc);
     for before in 0..u64::MAX {
-        match take_one(alloc, &mut machine, before + 1, world, lines, journal) {
+        match take_one(
+            alloc,
+            &mut machine,
+            before + 1,
+            world,
+            lines,
+            &mut text,
+            journal,
+        ) {
             Ok(()) => {}
             Err(end) => return end,
         }
@@ -64,13 +73,14 @@ pub fn serve<E: Engine + Drop, W: World, L: Lines, J: Sink>(
     End::Full
 }
 
-/// Takes the next input, which is the one of this number.
+/// Takes the next input, which is the one of this number. `text` is room for what is told of it.
 fn take_one<E: Engine, W: World, L: Lines, J: Sink>(
     alloc: Global,
     machine: &mut E,
     number: u64,
     world: &mut W,
     lines: &L,
+    text: &mut Vec<u8>,
     journal: &mut J,
 ) -> Result<(), End>
     ensures goes_on { OnOk result ((m : E.Model) → E.stands machine.old m → E.rules.halted m ≡ false
@@ -99,19 +109,20 @@ fn take_one<E: Engine, W: World, L: Lines, J: Sink>(
     if !machine.accepts(&input) {
         return Err(End::Misplaced(number));
     }
-    match work_off(alloc, machine, input, world, lines, journal) {
+    match work_off(alloc, machine, input, world, lines, text, journal) {
         Ok(()) => Ok(()),
         Err(end) => Err(end),
     }
 }
 
-/// Works off an input that the machine accepts.
+/// Works off an input that the machine accepts. `text` is room for what is told of it.
 fn work_off<E: Engine, W: World, L: Lines, J: Sink>(
     alloc: Global,
     machine: &mut E,
     input: Input,
     world: &mut W,
     lines: &L,
+    text: &mut Vec<u8>,
     journal: &mut J,
 ) -> Result<(), End>
     requires { IsTrue (E.fits machine.old input) }
@@ -127,14 +138,14 @@ fn work_off<E: Engine, W: World, L: Lines, J: Sink>(
     ensures faults { W.faults world.old ≤ W.faults world.new }
     ensures later { J.faults journal.old ≤ J.faults journal.new }
 {
-    let mut text = Vec::new(alloc);
-    if lines.put_input(alloc, &input, &mut text).is_err() {
+    text.clear();
+    if lines.put_input(alloc, &input, text).is_err() {
         return Err(End::NoMemory);
     }
     let Ok(orders) = machine.step(alloc, input) else {
         return Err(End::NoMemory);
     };
-    if put_orders(alloc, lines, orders.as_slice(), &mut text).is_err() {
+    if put_orders(alloc, lines, orders.as_slice(), text).is_err() {
         return Err(End::NoMemory);
     }
     if write_all(journal, text.as_slice()).is_err() {

@@ -2,5 +2,7 @@
 #![tactic(auto)]
 
 mod outcome;
+#[cfg(test)]
+mod tests;
 
 pub use outcome::Outcome;
