@@ -1,0 +1,104 @@
+//! The lines of inputs and orders.
+ghost use Rattle.std.specs.Prelude.{◌≡◌, ◌++◌, ◌∷◌, [], Err, OnOk};
+ghost use Rattle.sv_out.specs.Faults.{RisesWhere};
+ghost use Rattle.sv_record.specs.Begun.{Begins};
+ghost use Rattle.sv_record.specs.Header.{header_text};
+
+use crate::header::header_text;
+use std::alloc::{AllocError, Global};
+use sv_base::{Bytes, Host, Text};
+use sv_daemon::Lines;
+use sv_journal::{write_input, write_order};
+use sv_out::input::Input;
+use sv_out::order::Order;
+use sv_out::sink::{Sink, write_all};
+
+/// Whether a journal is kept of what the daemon takes and gives.
+#[derive(Clone, Copy, Debug, PartialEq, Eq)]
+pub enum JournalLines {
+    /// Each input has its line, and each order one after the mark `> `.
+    Kept,
+    /// Nothing is told.
+    Quiet,
+}
+
+impl Lines for JournalLines {
+    ghost use Rattle.sv_record.specs.Lines.{texts_of};
+
+    ghost texts = { texts_of };
+
+    fn put_input(
+        &self,
+        alloc: Global,
+        input: &Input,
+        text: &mut Vec<u8>,
+    ) -> Result<(), AllocError> {
+        match self {
+            JournalLines::Kept => put_line(text, "", write_input(alloc, input)?.as_str()),
+            JournalLines::Quiet => Ok(()),
+        }
+    }
+
+    fn put_order(
+        &self,
+        alloc: Global,
+        order: &Order,
+        text: &mut Vec<u8>,
+    ) -> Result<(), AllocError> {
+        match self {
+            JournalLines::Kept => put_line(text, "> ", write_order(alloc, order)?.as_str()),
+            JournalLines::Quiet => Ok(()),
+        }
+    }
+}
+
+/// Adds a line after a mark.
+fn put_line(text: &mut Vec<u8>, mark: &str, line: &str) -> Result<(), AllocError>
+    ensures { OnOk result
+        (text.new.items ≡ text.old.items ++ (mark.now ++ line.now ++ 10 ∷ [])) }
+{
+    text.extend_from_slice(mark.as_bytes())?;
+    text.extend_from_slice(line.as_bytes())?;
+    text.push(b'\n')?;
+    Ok(())
+}
+
+/// Why a journal has no whole header.
+#[derive(Clone, Copy, Debug, PartialEq, Eq)]
+pub enum HeaderFault {
+    /// It couldn't be written; the journal's count of faults rose, and a prefix was written.
+    Unwritten,
+    /// Memory was refused, and nothing was written.
+    OutOfMemory,
+}
+
+impl JournalLines {
+    /// Writes the header in one piece, where a journal is kept.
+    pub fn begin<J: Sink>(
+        self,
+        alloc: Global,
+        host: &Host,
+        sizes: &[(Text, u64)],
+        main: &Bytes,
+        included: &[(Text, Bytes)],
+        journal: &mut J,
+    ) -> Result<(), HeaderFault>
+        ensures begins { Begins self (header_text host.now sizes.now main.now included.now)
+            (J.written journal.old) (J.written journal.new) result }
+        ensures cause { RisesWhere (J.faults journal.old) (J.faults journal.new)
+            (result ≡ Err HeaderFault.Unwritten) }
+    {
+        match self {
+            JournalLines::Quiet => Ok(()),
+            JournalLines::Kept => {
+                let Ok(text) = header_text(alloc, host, sizes, main, included) else {
+                    return Err(HeaderFault::OutOfMemory);
+                };
+                match write_all(journal, text.as_slice()) {
+                    Ok(()) => Ok(()),
+                    Err(_) => Err(HeaderFault::Unwritten),
+                }
+            }
+        }
+    }
+}

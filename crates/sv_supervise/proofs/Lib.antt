@@ -1,0 +1,5 @@
+pub mod Accepted
+pub mod Deeds
+pub mod Ends
+pub mod Scripts
+pub mod Statuses

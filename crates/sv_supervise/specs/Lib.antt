@@ -1,0 +1,4 @@
+pub mod Machines
+pub mod Supervising
+pub mod Completeness
+pub mod SameDeeds
