@@ -1,0 +1,4 @@
+mod DaemonText
+mod DaemonWalk
+mod NonzeroSizes
+mod Rerun
