@@ -1,8 +1,8 @@
 //! What a journal tells of inputs and orders, as the loop sees it.
-ghost use Rattle.std.specs.Prelude.{◌≡◌, ◌++◌, OnOk};
+ghost use Rattle.std.specs.Prelude.{◌≡◌, ◌++◌, OnOk, string_bytes};
 ghost use Rattle.sv_daemon.specs.Journal.{orders_text};
 
-use std::alloc::{AllocError, Global};
+use std::alloc::AllocError;
 use sv_out::input::Input;
 use sv_out::order::Order;
 
@@ -13,28 +13,27 @@ pub trait Lines {
     ghost texts: { Self → Texts };
 
     /// Adds what is told of an input.
-    fn put_input(&self, alloc: Global, input: &Input, text: &mut Vec<u8>) -> Result<(), AllocError>
+    fn put_input(&self, input: &Input, text: &mut String) -> Result<(), AllocError>
         ensures { OnOk result
-            (text.new.items ≡ text.old.items ++ (texts self.now).of_input input.now) };
+            (string_bytes text.new ≡ string_bytes text.old ++ (texts self.now).of_input input.now) };
 
     /// Adds what is told of an order.
-    fn put_order(&self, alloc: Global, order: &Order, text: &mut Vec<u8>) -> Result<(), AllocError>
+    fn put_order(&self, order: &Order, text: &mut String) -> Result<(), AllocError>
         ensures { OnOk result
-            (text.new.items ≡ text.old.items ++ (texts self.now).of_order order.now) };
+            (string_bytes text.new ≡ string_bytes text.old ++ (texts self.now).of_order order.now) };
 }
 
 /// Adds what is told of each of these orders, in their order.
 pub(crate) fn put_orders<L: Lines>(
-    alloc: Global,
     lines: &L,
     orders: &[Order],
-    text: &mut Vec<u8>,
+    text: &mut String,
 ) -> Result<(), AllocError>
     ensures { OnOk result
-        (text.new.items ≡ text.old.items ++ orders_text (L.texts lines.now) orders.now) }
+        (string_bytes text.new ≡ string_bytes text.old ++ orders_text (L.texts lines.now) orders.now) }
 {
     for order in orders {
-        lines.put_order(alloc, order, text)?;
+        lines.put_order(order, text)?;
     }
     Ok(())
 }

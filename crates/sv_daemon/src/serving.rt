@@ -55,7 +55,7 @@ pub fn serve<E: Engine + Drop, W: World, L: Lines, J: Sink>(
     ensures later { J.faults journal.old ≤ J.faults journal.new }
 {
     let mut machine = machine;
-    let mut text = Vec::new(alloc);
+    let mut text = String::new(alloc);
     for before in 0..u64::MAX {
         match take_one(
             alloc,
@@ -80,7 +80,7 @@ fn take_one<E: Engine, W: World, L: Lines, J: Sink>(
     number: u64,
     world: &mut W,
     lines: &L,
-    text: &mut Vec<u8>,
+    text: &mut String,
     journal: &mut J,
 ) -> Result<(), End>
     ensures goes_on { OnOk result ((m : E.Model) → E.stands machine.old m → E.rules.halted m ≡ false
@@ -122,7 +122,7 @@ fn work_off<E: Engine, W: World, L: Lines, J: Sink>(
     input: Input,
     world: &mut W,
     lines: &L,
-    text: &mut Vec<u8>,
+    text: &mut String,
     journal: &mut J,
 ) -> Result<(), End>
     requires { IsTrue (E.fits machine.old input) }
@@ -139,16 +139,16 @@ fn work_off<E: Engine, W: World, L: Lines, J: Sink>(
     ensures later { J.faults journal.old ≤ J.faults journal.new }
 {
     text.clear();
-    if lines.put_input(alloc, &input, text).is_err() {
+    if lines.put_input(&input, text).is_err() {
         return Err(End::NoMemory);
     }
     let Ok(orders) = machine.step(alloc, input) else {
         return Err(End::NoMemory);
     };
-    if put_orders(alloc, lines, orders.as_slice(), text).is_err() {
+    if put_orders(lines, orders.as_slice(), text).is_err() {
         return Err(End::NoMemory);
     }
-    if write_all(journal, text.as_slice()).is_err() {
+    if write_all(journal, text.as_str().as_bytes()).is_err() {
         return Err(End::Unwritten);
     }
     if hand_over(alloc, orders.as_slice(), world).is_err() {

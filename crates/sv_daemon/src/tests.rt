@@ -84,24 +84,12 @@ struct Letters;
 impl Lines for Letters {
     ghost texts = { λ _. record { of_input = λ _. 105 ∷ []; of_order = λ _. 111 ∷ [] } };
 
-    fn put_input(
-        &self,
-        _alloc: Global,
-        _input: &Input,
-        text: &mut Vec<u8>,
-    ) -> Result<(), AllocError> {
-        text.push(b'i')?;
-        Ok(())
+    fn put_input(&self, _input: &Input, text: &mut String) -> Result<(), AllocError> {
+        text.push_str("i")
     }
 
-    fn put_order(
-        &self,
-        _alloc: Global,
-        _order: &Order,
-        text: &mut Vec<u8>,
-    ) -> Result<(), AllocError> {
-        text.push(b'o')?;
-        Ok(())
+    fn put_order(&self, _order: &Order, text: &mut String) -> Result<(), AllocError> {
+        text.push_str("o")
     }
 }
 

@@ -29,5 +29,5 @@ pub use crate::fault::LineFault;
 pub use crate::header::{Header, Program};
 pub use crate::read::{LINE_LIMIT, read_header, read_input};
 pub use crate::reading_orders::read_order;
-pub use crate::write::{write_input, write_order};
+pub use crate::write::{put_input, put_order, write_input, write_order};
 pub use crate::writing_headers::write_header;

@@ -35,7 +35,8 @@ pub fn write_order(alloc: Global, order: &Order) -> Result<Text, AllocError>
     Ok(Text::from_string(line))
 }
 
-fn put_input(line: &mut String, input: &Input) -> Result<(), AllocError>
+/// Adds the line of this input, without its line feed, to a text. Where memory is refused a part of it may have been added.
+pub fn put_input(line: &mut String, input: &Input) -> Result<(), AllocError>
     ensures { OnOk result (string_bytes line.new ≡ string_bytes line.old ++ input_line input.now) }
 {
     match input {
@@ -218,7 +219,8 @@ fn put_how(line: &mut String, how: How) -> Result<(), AllocError>
     }
 }
 
-fn put_order(line: &mut String, order: &Order) -> Result<(), AllocError>
+/// Adds the line of this order, without its line feed, to a text. Where memory is refused a part of it may have been added.
+pub fn put_order(line: &mut String, order: &Order) -> Result<(), AllocError>
     ensures { OnOk result (string_bytes line.new ≡ string_bytes line.old ++ order_line order.now) }
 {
     match order {

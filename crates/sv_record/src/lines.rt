@@ -1,5 +1,5 @@
 //! The lines of inputs and orders.
-ghost use Rattle.std.specs.Prelude.{◌≡◌, ◌++◌, ◌∷◌, [], Err, OnOk};
+ghost use Rattle.std.specs.Prelude.{◌≡◌, Err};
 ghost use Rattle.sv_out.specs.Faults.{RisesWhere};
 ghost use Rattle.sv_record.specs.Begun.{Begins};
 ghost use Rattle.sv_record.specs.Header.{header_text};
@@ -8,7 +8,7 @@ use crate::header::header_text;
 use std::alloc::{AllocError, Global};
 use sv_base::{Bytes, Host, Text};
 use sv_daemon::Lines;
-use sv_journal::{write_input, write_order};
+use sv_journal::{put_input, put_order};
 use sv_out::input::Input;
 use sv_out::order::Order;
 use sv_out::sink::{Sink, write_all};
@@ -27,40 +27,26 @@ impl Lines for JournalLines {
 
     ghost texts = { texts_of };
 
-    fn put_input(
-        &self,
-        alloc: Global,
-        input: &Input,
-        text: &mut Vec<u8>,
-    ) -> Result<(), AllocError> {
+    fn put_input(&self, input: &Input, text: &mut String) -> Result<(), AllocError> {
         match self {
-            JournalLines::Kept => put_line(text, "", write_input(alloc, input)?.as_str()),
+            JournalLines::Kept => {
+                put_input(text, input)?;
+                text.push_str("\n")
+            }
             JournalLines::Quiet => Ok(()),
         }
     }
 
-    fn put_order(
-        &self,
-        alloc: Global,
-        order: &Order,
-        text: &mut Vec<u8>,
-    ) -> Result<(), AllocError> {
+    fn put_order(&self, order: &Order, text: &mut String) -> Result<(), AllocError> {
         match self {
-            JournalLines::Kept => put_line(text, "> ", write_order(alloc, order)?.as_str()),
+            JournalLines::Kept => {
+                text.push_str("> ")?;
+                put_order(text, order)?;
+                text.push_str("\n")
+            }
             JournalLines::Quiet => Ok(()),
         }
     }
-}
-
-/// Adds a line after a mark.
-fn put_line(text: &mut Vec<u8>, mark: &str, line: &str) -> Result<(), AllocError>
-    ensures { OnOk result
-        (text.new.items ≡ text.old.items ++ (mark.now ++ line.now ++ 10 ∷ [])) }
-{
-    text.extend_from_slice(mark.as_bytes())?;
-    text.extend_from_slice(line.as_bytes())?;
-    text.push(b'\n')?;
-    Ok(())
 }
 
 /// Why a journal has no whole header.

@@ -47,10 +47,12 @@ fn short(rt: &impl Abort, alloc: Global) -> Result<Vec<u8>, AllocError> {
         at: Moment::zero(),
         signal,
     };
+    let mut told = String::new(alloc);
     for lines in [JournalLines::Kept, JournalLines::Quiet] {
-        lines.put_input(alloc, &input, &mut text)?;
-        lines.put_order(alloc, &Order::Halt, &mut text)?;
+        lines.put_input(&input, &mut told)?;
+        lines.put_order(&Order::Halt, &mut told)?;
     }
+    text.extend_from_slice(told.as_str().as_bytes())?;
     Ok(text)
 }
 
