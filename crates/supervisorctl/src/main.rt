@@ -26,7 +26,7 @@ fn main(rt: HostRuntime) -> ExitCode {
     let Ok(host) = host_of(&rt, words.as_slice()) else {
         return ExitCode::from(NO_MEMORY);
     };
-    let mut shelf = OsShelf::new(&rt);
+    let mut shelf = OsShelf::new(rt);
     let mut dial = OsDial::new(&rt);
     let mut input = ReadSource::new(rt.reader());
     let mut out = WriteSink::new(io::writer(&rt));

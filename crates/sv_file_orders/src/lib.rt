@@ -1,8 +1,8 @@
-//! The loop's side of files: orders to write files become calls of the shelf, and the two that ask for something are
+//! The loop's side of files: orders to write files become calls of the shelf, and those that ask for something are
 //! answered by what the shelf gives.
 #![tactic(auto)]
 
-pub use asking::{FileAnswer, clear_file, read_file};
+pub use asking::{FileAnswer, clear_file, file_names, file_size, read_file};
 pub use writing::{append, fresh, shift};
 
 mod asking;

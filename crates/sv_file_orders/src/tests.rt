@@ -1,6 +1,6 @@
 //! Orders to a shelf in memory, worked by hand.
 
-use crate::asking::{FileAnswer, clear_file, read_file};
+use crate::asking::{FileAnswer, clear_file, file_names, file_size, read_file};
 use crate::writing::{append, fresh, shift};
 use std::alloc::{AllocError, Global};
 use sv_base::{Bytes, Text};
@@ -69,6 +69,13 @@ fn answer_letter(answer: &FileAnswer) -> char {
         },
         FileAnswer::Done => 'd',
         FileAnswer::Missing => 'm',
+        FileAnswer::Names(names) => match names.as_slice() {
+            [] => '0',
+            [_] => '1',
+            _ => '2',
+        },
+        FileAnswer::Size(6) => '6',
+        FileAnswer::Size(_) => 's',
         FileAnswer::Failed => 'f',
     }
 }
@@ -102,6 +109,38 @@ fn questions_are_answered(rt: HostRuntime) -> Result<(), AllocError> {
         let mut shelf = shelf_of(alloc, &[failing])?;
         shelf.set(Text::fixed("/l"), Bytes::from_slice(alloc, b"abcdef")?)?;
         let text = asked(alloc, &mut shelf)?;
+        assert_eq!(rt; text.as_str(), letters);
+    }
+    Ok(())
+}
+
+/// Asks which names `/l*` matches, which `/n*` matches, for the size of `/l`, and for that of `/none`.
+fn looked(alloc: Global, shelf: &mut MapShelf) -> Result<String, AllocError> {
+    let mut text = String::new(alloc);
+    text.push(answer_letter(&file_names(alloc, shelf, &Text::fixed("/l*"))?))?;
+    text.push(answer_letter(&file_names(alloc, shelf, &Text::fixed("/n*"))?))?;
+    text.push(answer_letter(&file_size(alloc, shelf, &Text::fixed("/l"))?))?;
+    text.push(answer_letter(&file_size(alloc, shelf, &Text::fixed("/none"))?))?;
+    Ok(text)
+}
+
+/// The calls that fail, and a letter for each answer: the number of names; `6` for the size of `/l`.
+const LOOKED: [(u64, &str); 5] = [
+    (0, "206m"),
+    (1, "f06m"),
+    (2, "2f6m"),
+    (3, "20fm"),
+    (4, "206f"),
+];
+
+#[test]
+fn names_and_sizes_are_answered(rt: HostRuntime) -> Result<(), AllocError> {
+    let alloc = rt.alloc();
+    for (failing, letters) in LOOKED {
+        let mut shelf = shelf_of(alloc, &[failing])?;
+        shelf.set(Text::fixed("/l"), Bytes::from_slice(alloc, b"abcdef")?)?;
+        shelf.set(Text::fixed("/l.1"), Bytes::from_slice(alloc, b"ab")?)?;
+        let text = looked(alloc, &mut shelf)?;
         assert_eq!(rt; text.as_str(), letters);
     }
     Ok(())

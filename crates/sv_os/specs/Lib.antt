@@ -1,1 +1,3 @@
 pub mod Missing
+pub mod Signals
+pub mod Addresses

@@ -13,18 +13,18 @@ use sv_out::{Shelf, ShelfFault};
 /// A shelf over files. It counts each error but a missing file and out of memory as a fault, and tells nothing of the
 /// content.
 #[derive(Drop)]
-pub struct OsShelf<'a, R> {
-    rt: &'a R,
+pub struct OsShelf<R> {
+    rt: R,
     faults: u64,
 }
 
-impl<'a, R: Files + AllocGlobal + Clone + Drop> OsShelf<'a, R> {
+impl<R: Files + AllocGlobal + Clone + Drop> OsShelf<R> {
     ghost use Rattle.sv_out.specs.Faults.{RisesWhere, Rose};
     ghost use Rattle.sv_out.specs.Files.{IsFailure};
     ghost use Rattle.sv_os.specs.Missing.{IsUntold};
 
     /// A shelf that has not failed yet.
-    pub fn new(rt: &'a R) -> OsShelf<'a, R>
+    pub fn new(rt: R) -> OsShelf<R>
         ensures { result.faults ≡ 0 }
     {
         OsShelf { rt, faults: 0 }
@@ -68,23 +68,23 @@ impl<'a, R: Files + AllocGlobal + Clone + Drop> OsShelf<'a, R> {
     }
 }
 
-impl<R: Files + AllocGlobal + Clone + Drop> Shelf for OsShelf<'_, R> {
+impl<R: Files + AllocGlobal + Clone + Drop> Shelf for OsShelf<R> {
     ghost files = { λ _. None };
 
     ghost faults = { λ s. s.faults };
 
     fn read(&mut self, _alloc: Global, name: &str) -> Result<Bytes, ShelfFault> {
-        let answer = fs::read(self.rt, name);
+        let answer = fs::read(&self.rt, name);
         Ok(Bytes::from_vec(self.judged(answer)?))
     }
 
     fn size(&mut self, _alloc: Global, name: &str) -> Result<u64, ShelfFault> {
-        let answer = fs::metadata(self.rt, name);
+        let answer = fs::metadata(&self.rt, name);
         Ok(self.judged(answer)?.len())
     }
 
     fn names(&mut self, alloc: Global, pattern: &str) -> Result<Vec<Text>, ShelfFault> {
-        let answer = names_on(alloc, self.rt, pattern);
+        let answer = names_on(alloc, &self.rt, pattern);
         self.demanded(answer)
     }
 
@@ -95,17 +95,17 @@ impl<R: Files + AllocGlobal + Clone + Drop> Shelf for OsShelf<'_, R> {
         start: u64,
         length: u64,
     ) -> Result<Bytes, ShelfFault> {
-        let answer = part_on(alloc, self.rt, name, start, length);
+        let answer = part_on(alloc, &self.rt, name, start, length);
         self.judged(answer)
     }
 
     fn append(&mut self, _alloc: Global, name: &str, piece: &[u8]) -> Result<(), ShelfFault> {
-        let answer = append_on(self.rt, name, piece);
+        let answer = append_on(&self.rt, name, piece);
         self.demanded(answer)
     }
 
     fn shift(&mut self, _alloc: Global, from: &str, to: &str) -> Result<(), ShelfFault> {
-        let answer = match fs::rename(self.rt, from, to) {
+        let answer = match fs::rename(&self.rt, from, to) {
             Err(error) if error.kind() == ErrorKind::NotFound => Ok(()),
             answer => answer,
         };
@@ -113,7 +113,7 @@ impl<R: Files + AllocGlobal + Clone + Drop> Shelf for OsShelf<'_, R> {
     }
 
     fn fresh(&mut self, _alloc: Global, name: &str) -> Result<(), ShelfFault> {
-        let answer = fs::write(self.rt, name, b"".as_slice());
+        let answer = fs::write(&self.rt, name, b"".as_slice());
         self.demanded(answer)
     }
 }

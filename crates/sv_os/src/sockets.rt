@@ -2,6 +2,7 @@
 ghost use Rattle.std.specs.Prelude.{◌≡◌, None};
 ghost use Rattle.std.specs.Io.{ReadsAtMost, WritesAtMost};
 
+use crate::streams::{read_some, write_some};
 use std::alloc::{AllocError, Global};
 use std::io;
 use std::io::{ErrorKind, Read, Write};
@@ -13,7 +14,7 @@ use sv_out::{Dial, DialFault, Link};
 
 /// The two kinds of sockets.
 #[derive(Drop)]
-enum Socket<S> {
+pub(crate) enum Socket<S> {
     Inet(S),
     Unix(UnixStream),
 }
@@ -22,8 +23,30 @@ enum Socket<S> {
 /// the content.
 #[derive(Drop)]
 pub struct OsLink<S> {
-    socket: Socket<S>,
+    pub(crate) socket: Socket<S>,
     faults: u64,
+}
+
+impl<S> OsLink<S> {
+    /// A link over TCP that has not failed yet.
+    pub(crate) fn over_tcp(stream: S) -> OsLink<S>
+        ensures { result.faults ≡ 0 }
+    {
+        OsLink {
+            socket: Socket::Inet(stream),
+            faults: 0,
+        }
+    }
+
+    /// A link over a Unix socket that has not failed yet.
+    pub(crate) fn over_unix(stream: UnixStream) -> OsLink<S>
+        ensures { result.faults ≡ 0 }
+    {
+        OsLink {
+            socket: Socket::Unix(stream),
+            faults: 0,
+        }
+    }
 }
 
 impl<S: Read + Write> OsLink<S> {
@@ -32,8 +55,8 @@ impl<S: Read + Write> OsLink<S> {
         ensures faults { self.new.faults ≡ self.old.faults }
     {
         match &mut self.socket {
-            Socket::Inet(stream) => stream.read(into),
-            Socket::Unix(stream) => stream.read(into),
+            Socket::Inet(stream) => read_some(stream, into),
+            Socket::Unix(stream) => read_some(stream, into),
         }
     }
 
@@ -42,8 +65,8 @@ impl<S: Read + Write> OsLink<S> {
         ensures faults { self.new.faults ≡ self.old.faults }
     {
         match &mut self.socket {
-            Socket::Inet(stream) => stream.write(piece),
-            Socket::Unix(stream) => stream.write(piece),
+            Socket::Inet(stream) => write_some(stream, piece),
+            Socket::Unix(stream) => write_some(stream, piece),
         }
     }
 }

@@ -1,7 +1,9 @@
 //! Streams over std's readers and writers.
 ghost use Rattle.std.specs.Prelude.{◌≡◌, None};
+ghost use Rattle.std.specs.Io.{ReadsAtMost, WritesAtMost};
 
-use std::io::{Read, Write};
+use std::io;
+use std::io::{ErrorKind, Read, Write};
 use sv_out::failed::Failed;
 use sv_out::sink::Sink;
 use sv_out::source::Source;
@@ -28,7 +30,7 @@ impl<R: Read> Source for ReadSource<R> {
     ghost faults = { λ s. s.faults };
 
     fn read(&mut self, into: &mut [u8]) -> Result<usize, Failed> {
-        match self.inner.read(into) {
+        match read_some(&mut self.inner, into) {
             Ok(count) => Ok(count),
             Err(_) => {
                 self.faults = self.faults.saturating_add(1);
@@ -64,7 +66,7 @@ impl<W: Write> Sink for WriteSink<W> {
         if piece.is_empty() {
             return Ok(0);
         }
-        match self.inner.write(piece) {
+        match write_some(&mut self.inner, piece) {
             Ok(count) if count > 0 => Ok(count),
             _ => {
                 self.faults = self.faults.saturating_add(1);
@@ -72,4 +74,33 @@ impl<W: Write> Sink for WriteSink<W> {
             }
         }
     }
+}
+
+/// How often a call is made that is interrupted each time.
+const TRIES: u32 = 1_000;
+
+/// Reads once; a call that was interrupted is made again.
+pub(crate) fn read_some<R: Read>(reader: &mut R, into: &mut [u8]) -> io::Result<usize>
+    ensures { ReadsAtMost result into.new }
+{
+    for _ in 0..TRIES {
+        match reader.read(into) {
+            Err(error) if error.kind() == ErrorKind::Interrupted => {}
+            answer => return answer,
+        }
+    }
+    Err(io::Error::from(ErrorKind::Interrupted))
+}
+
+/// Writes once; a call that was interrupted is made again.
+pub(crate) fn write_some<W: Write>(writer: &mut W, piece: &[u8]) -> io::Result<usize>
+    ensures { WritesAtMost result piece.now }
+{
+    for _ in 0..TRIES {
+        match writer.write(piece) {
+            Err(error) if error.kind() == ErrorKind::Interrupted => {}
+            answer => return answer,
+        }
+    }
+    Err(io::Error::from(ErrorKind::Interrupted))
 }

@@ -4,19 +4,19 @@ use crate::disk::OsShelf;
 use crate::sockets::OsDial;
 use crate::streams::{ReadSource, WriteSink};
 use std::alloc::Global;
-use std::io::{Read, Write};
+use std::io::{ErrorKind, Read, Write};
 use std::net::{Ipv4Addr, SocketAddr, TcpListener};
 use std::os::unix::net::UnixListener;
 use std::process::Abort;
 use std::test::Fail;
-use std::{env, fs, process};
+use std::{env, fs, io, process};
 use sv_base::{Place, Text};
 use sv_out::sink::Sink;
 use sv_out::source::Source;
 use sv_out::{Dial, DialFault, Link, Shelf, ShelfFault};
 
 /// A new directory of this process alone.
-fn new_directory(rt: &HostRuntime, name: &str) -> Result<String, Fail> {
+pub(crate) fn new_directory(rt: &HostRuntime, name: &str) -> Result<String, Fail> {
     let above = env::temp_dir(rt)?;
     let above = above.display();
     let pid = process::id(rt.process());
@@ -32,7 +32,7 @@ fn files_come_through(rt: HostRuntime) -> Result<(), Fail> {
     let second = format!(in rt.alloc(); "{directory}/b.log")?;
     let pattern = format!(in rt.alloc(); "{directory}/?.l*")?;
     let (first, second) = (first.as_str(), second.as_str());
-    let mut shelf = OsShelf::new(&rt);
+    let mut shelf = OsShelf::new(rt);
     assert!(rt; matches!(shelf.read(rt.alloc(), first), Err(ShelfFault::Missing)));
     shelf
         .append(rt.alloc(), first, b"ab")
@@ -123,6 +123,31 @@ fn connections_come_through(rt: HostRuntime) -> Result<(), Fail> {
     drop(peer);
     talk(&rt, rt.alloc(), &mut dial, link);
     fs::remove_dir_all(&rt, directory.as_str())?;
+    Ok(())
+}
+
+/// A reader whose first calls are interrupted, so many of them.
+#[derive(Drop)]
+struct Interrupted(u32);
+
+impl Read for Interrupted {
+    fn read(&mut self, into: &mut [u8]) -> io::Result<usize> {
+        if 0 < self.0 {
+            self.0 -= 1;
+            return Err(io::Error::from(ErrorKind::Interrupted));
+        }
+        into.fill(b'x');
+        Ok(into.len())
+    }
+}
+
+#[test]
+fn interrupted_calls_are_made_again(rt: HostRuntime) -> Result<(), Fail> {
+    let mut buffer = [0u8; 2];
+    for (interrupted, read) in [(0, true), (999, true), (1_000, false)] {
+        let mut source = ReadSource::new(Interrupted(interrupted));
+        assert!(rt; matches!(source.read(&mut buffer), Ok(2)) == read);
+    }
     Ok(())
 }
 

@@ -1,0 +1,3 @@
+pub mod JobWords
+pub mod RunWords
+pub mod Spawned

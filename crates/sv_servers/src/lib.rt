@@ -1,0 +1,8 @@
+//! The servers of the configuration that a daemon of these words begins with, for the program that opens their addresses before it.
+#![tactic(auto)]
+
+mod reading;
+#[cfg(test)]
+mod tests;
+
+pub use reading::servers;

@@ -1,0 +1,184 @@
+//! How a world of threads begins.
+ghost use Rattle.std.specs.Prelude.{IfOk, is_some};
+ghost use Rattle.sv_outside.specs.declared.jobs.JobWord.TheVariants.{Console, Ticker};
+ghost use Rattle.sv_threads.specs.Starting.{Hands, HandsLinks, HasNoLink, Starts};
+
+use crate::world::{Accepted, ThreadWorld};
+use std::alloc::{AllocError, Global};
+use std::collections::VecDeque;
+use std::sync::Wait;
+use sv_base::Side;
+use sv_gate::{Ready, hand};
+use sv_job_types::{AnyJob, ConsoleJob, LinksJob, TickerJob};
+use sv_jobs::Note;
+use sv_lane::{Poster, Taker, lane};
+use sv_link_orders::LiveLinks;
+use sv_out::files::Shelf;
+use sv_out::sink::Sink;
+use sv_out::source::Source;
+use sv_outside::{Clock, Gate, Job, Listen, Spawner, Waiter};
+use sv_run_orders::LiveRuns;
+
+/// The most items in the lane of the notes.
+const NOTES: u32 = 256;
+
+/// The most links of a side that were accepted and aren't taken in.
+const LINKS: u32 = 64;
+
+impl<
+    P: Spawner + Drop,
+    L: Listen + Drop,
+    Q: Source + Drop,
+    C: Clock + Drop,
+    B: Job,
+    S: Shelf + Drop,
+    G: Gate<AnyJob<P::Stdin, P::Stdout, P::Stderr, P::Waiter, L, Q, C, B>> + Drop,
+    R: Wait + Copy,
+> ThreadWorld<P, L, Q, C, B, S, G, R> {
+    ghost use Rattle.std.specs.Prelude.{◌≡◌, [], None};
+    ghost use Rattle.sv_lane.specs.Ends.{taken};
+
+    /// A world over these parts. The gate is handed the job of the console, that of the ticker, and one for each server
+    /// that is given, that of the internet before that of the Unix socket. A job that comes back is let go: such a
+    /// server accepts no links.
+    pub fn new(
+        rt: R,
+        alloc: Global,
+        spawner: P,
+        inet: Option<L>,
+        unix: Option<L>,
+        console: Q,
+        ticker: C,
+        clock: C,
+        shelf: S,
+        gate: G,
+    ) -> Result<ThreadWorld<P, L, Q, C, B, S, G, R>, AllocError>
+        requires { G.ready gate }
+        ensures starts { IfOk result (λ w. Starts (is_some inet) (is_some unix)
+            (G.kept gate) (G.faults gate) w.gate.0 w.gate.1) }
+        ensures spawner { IfOk result (λ w. w.runs.spawner ≡ spawner) }
+        ensures lives { IfOk result (λ w. w.runs.lives.items ≡ []) }
+        ensures links { IfOk result (λ w. HasNoLink w.links) }
+        ensures shelf { IfOk result (λ w. w.shelf ≡ shelf) }
+        ensures clock { IfOk result (λ w. w.clock ≡ clock) }
+        ensures none { IfOk result (λ w. taken w.notes ≡ []) }
+        ensures number { IfOk result (λ w. w.number ≡ 0) }
+        ensures failures { IfOk result (λ w. w.failures.items ≡ []) }
+        ensures answer { IfOk result (λ w. w.answer ≡ None) }
+        ensures faults { IfOk result (λ w. w.faults ≡ 0) }
+    {
+        let (notes, mut seats) = lane(alloc, NOTES)?;
+        let (inet_links, inet_poster) = links_lane(alloc)?;
+        let (unix_links, unix_poster) = links_lane(alloc)?;
+        let console_job = ConsoleJob {
+            source: console,
+            poster: seats.seat()?,
+            alloc,
+        };
+        let ticker_job = TickerJob {
+            clock: ticker,
+            turns: u64::MAX,
+            poster: seats.seat()?,
+        };
+        let inet_seat = seats.seat()?;
+        let unix_seat = seats.seat()?;
+        let mut gate = Ready::new(gate);
+        hand_console(&mut gate, console_job);
+        hand_ticker(&mut gate, ticker_job);
+        hand_links(&mut gate, Side::Inet, inet, inet_seat, inet_poster);
+        hand_links(&mut gate, Side::Unix, unix, unix_seat, unix_poster);
+        Ok(ThreadWorld {
+            rt,
+            runs: LiveRuns::new(alloc, spawner),
+            links: LiveLinks::new(alloc),
+            accepted: Accepted {
+                inet: inet_links,
+                unix: unix_links,
+            },
+            shelf,
+            clock,
+            gate,
+            seats,
+            notes,
+            number: 0,
+            failures: VecDeque::new(alloc),
+            answer: None,
+            faults: 0,
+        })
+    }
+}
+
+/// The lane of the accepted links of a side, with one seat.
+fn links_lane<K: Drop>(alloc: Global) -> Result<(Taker<K>, Poster<K>), AllocError> {
+    let (taker, mut seats) = lane(alloc, LINKS)?;
+    let poster = seats.seat()?;
+    Ok((taker, poster))
+}
+
+/// Hands the gate the job of the console.
+fn hand_console<
+    K: Sink + Drop,
+    O: Source + Drop,
+    E: Source + Drop,
+    W: Waiter + Drop,
+    L: Listen + Drop,
+    Q: Source + Drop,
+    C: Clock + Drop,
+    B: Job,
+    G: Gate<AnyJob<K, O, E, W, L, Q, C, B>> + Drop,
+>(gate: &mut Ready<AnyJob<K, O, E, W, L, Q, C, B>, G>, job: ConsoleJob<Q>)
+    ensures { Hands Console gate.old.0 gate.old.1 gate.new.0 gate.new.1 }
+{
+    hand(gate, AnyJob::Console(job));
+}
+
+/// Hands the gate the job of the ticker.
+fn hand_ticker<
+    K: Sink + Drop,
+    O: Source + Drop,
+    E: Source + Drop,
+    W: Waiter + Drop,
+    L: Listen + Drop,
+    Q: Source + Drop,
+    C: Clock + Drop,
+    B: Job,
+    G: Gate<AnyJob<K, O, E, W, L, Q, C, B>> + Drop,
+>(gate: &mut Ready<AnyJob<K, O, E, W, L, Q, C, B>, G>, job: TickerJob<C>)
+    ensures { Hands Ticker gate.old.0 gate.old.1 gate.new.0 gate.new.1 }
+{
+    hand(gate, AnyJob::Ticker(job));
+}
+
+/// Hands the gate the job that accepts the links of a side, where there is a server.
+fn hand_links<
+    K: Sink + Drop,
+    O: Source + Drop,
+    E: Source + Drop,
+    W: Waiter + Drop,
+    L: Listen + Drop,
+    Q: Source + Drop,
+    C: Clock + Drop,
+    B: Job,
+    G: Gate<AnyJob<K, O, E, W, L, Q, C, B>> + Drop,
+>(
+    gate: &mut Ready<AnyJob<K, O, E, W, L, Q, C, B>, G>,
+    side: Side,
+    listen: Option<L>,
+    poster: Poster<Note>,
+    links: Poster<L::Link>,
+)
+    ensures { HandsLinks side (is_some listen) gate.old.0 gate.old.1 gate.new.0 gate.new.1 }
+{
+    if let Some(listen) = listen {
+        hand(
+            gate,
+            AnyJob::Links(LinksJob {
+                side,
+                listen,
+                turns: u64::MAX,
+                poster,
+                links,
+            }),
+        );
+    }
+}
