@@ -1,10 +1,9 @@
 //! Measures how long `find` takes among 1,024 names of processes and among 16. `bench/find` runs it.
-#![tactic(auto)]
 
 use std::alloc::{AllocError, Global};
+use std::io;
 use std::rt::Clock;
 use std::time::Instant;
-use std::{env, io};
 use sv_base::config::{ClientSpec, Config};
 use sv_base::groups::Groups;
 use sv_base::items::Items;
@@ -31,11 +30,7 @@ struct Case {
     names: Vec<String>,
 }
 
-fn main(rt: HostRuntime) -> io::Result<()> {
-    // Run without an argument it measures nothing, so that what it prints is always the same.
-    if env::args(&rt)?.count() < 2 {
-        return Ok(());
-    }
+pub(crate) fn run(rt: HostRuntime) -> io::Result<()> {
     match (case_of(rt.alloc(), 256)?, case_of(rt.alloc(), 4)?) {
         (Some(many), Some(few)) => measure(&rt, &many, &few),
         _ => Ok(()),

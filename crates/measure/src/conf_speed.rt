@@ -1,5 +1,4 @@
 //! Reads a configuration text from standard input, and prints how many groups and processes it has, or its fault.
-#![tactic(auto)]
 
 use std::alloc::{AllocError, Global};
 use std::io;
@@ -11,7 +10,7 @@ use sv_base::spec::GroupSpec;
 use sv_base::text::Text;
 use sv_conf::config::config;
 
-fn main(rt: HostRuntime) -> io::Result<()> {
+pub(crate) fn run(rt: HostRuntime) -> io::Result<()> {
     let alloc = rt.alloc();
     let mut bytes = Vec::new(alloc);
     let mut reader = rt.reader();
