@@ -35,6 +35,7 @@ fn most_of(text: &str) -> usize
 {
     match text {
         "1" => 1,
+        "65536" => 65_536,
         _ => 9,
     }
 }
@@ -89,13 +90,20 @@ fn long_input(rt: &impl Abort, alloc: Global, count: usize) -> Vec<u8> {
 #[test]
 fn a_line_has_at_most_4096_bytes(rt: HostRuntime) {
     let alloc = rt.alloc();
-    for (count, notes) in [(4_090, 4_094), (4_091, 2), (20_000, 2)] {
-        let mut source = ListSource::new(long_input(&rt, alloc, count), 5_000, Vec::new(alloc));
+    for (count, most, notes) in [
+        (4_090, "1", 4_094),
+        (4_090, "65536", 4_094),
+        (4_091, "1", 2),
+        (4_091, "65536", 2),
+        (20_000, "65536", 2),
+    ] {
+        let input = long_input(&rt, alloc, count);
+        let mut source = ListSource::new(input, most_of(most), Vec::new(alloc));
         let (mut taker, mut poster) = lane_of(&rt, alloc);
         let came = console(&rt, alloc, &mut source, &mut poster);
         assert!(rt; came == PumpEnd::Ended);
         let text = notes_of(&rt, alloc, &mut taker, &mut poster);
-        assert_eq!(rt; text.as_str().len(), notes, "{count}");
+        assert_eq!(rt; text.as_str().len(), notes, "{count} {most}");
     }
 }
 

@@ -8,7 +8,7 @@ use std::collections::VecDeque;
 use std::process::Abort;
 use std::sync::Wait;
 use sv_base::{Bytes, LinkId, Place, Text};
-use sv_jobs::{LinkWord, serve_link};
+use sv_jobs::{LinkWord, Note, serve_link};
 use sv_lane::Poster;
 use sv_out::{Dial, Link, Script, ScriptDial, ScriptLink};
 use sv_outside::PumpEnd;
@@ -112,4 +112,34 @@ fn a_link_is_served_word_by_word(rt: HostRuntime) {
     for line in LINKS.lines() {
         serve_line(&rt, rt.alloc(), line);
     }
+}
+
+#[test]
+fn pieces_of_a_link_grow_while_reads_fill_them(rt: HostRuntime) {
+    let alloc = rt.alloc();
+    let bytes = Vec::from_elem(alloc, b'x', 200_000).expect(&rt, "ample memory");
+    let script = Script::new(bytes, 65_536, Vec::new(alloc));
+    let mut link = ScriptLink::new(alloc, Place::Unix(Text::fixed("/s")), script);
+    let (mut taker, mut poster) = lane_of(&rt, alloc);
+    let (mut words_taker, mut words_poster) = lane_of(&rt, alloc);
+    post_words(&rt, alloc, &mut words_poster, "+ + + + + + + .");
+    let came = serve_link(
+        &rt,
+        alloc,
+        &mut link,
+        LinkId(7),
+        &mut poster,
+        &mut words_taker,
+    );
+    assert!(rt; came == PumpEnd::Ended);
+    for expected in [4_096, 8_192, 16_384, 32_768, 65_536, 65_536, 7_488] {
+        match taker.take(&rt) {
+            Note::Piece(number, piece) => {
+                assert!(rt; number == LinkId(7));
+                assert_eq!(rt; piece.as_slice().len(), expected);
+            }
+            note => assert!(rt; false, "{note:?}"),
+        }
+    }
+    assert!(rt; matches!(taker.take(&rt), Note::LinkEnd(LinkId(7))));
 }
