@@ -13,6 +13,8 @@ mod generated_tests;
 #[cfg(test)]
 mod group_tests;
 #[cfg(test)]
+mod idle_cut_tests;
+#[cfg(test)]
 mod link_tests;
 #[cfg(test)]
 mod listener_tests;
