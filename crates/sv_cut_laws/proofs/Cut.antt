@@ -17,11 +17,14 @@ use Rattle.sv_cut_laws.proofs.Both.{later}
 use Rattle.sv_cut_laws.proofs.Followed.{Ends, after_ends, ended_so}
 use Rattle.sv_cut_laws.proofs.Handing.{IsFollowed}
 use Rattle.sv_cut_laws.proofs.Handing.IsFollowed.{runs as runs_on, over, waits}
+use Rattle.sv_cut_laws.proofs.HaveRuns.{HaveRuns}
 use Rattle.sv_cut_laws.proofs.IdleTurn.{brought, one_is, two_are}
+use Rattle.sv_cut_laws.proofs.Keeps.{Keeps}
 use Rattle.sv_cut_laws.proofs.Loud.{bare, bare_later}
+use Rattle.sv_cut_laws.proofs.Reached.{after_keeps, runs_so}
 use Rattle.sv_cut_laws.proofs.Serves.{AllServe, all_served, sent_fed}
 use Rattle.sv_cut_laws.proofs.Turns.{IsLater, after_pass_later, still_later, turn_later, world_later}
-use Rattle.sv_cut_laws.specs.IdleCut.{AreAccepted, AreFit, ChangesNothing, Cut, HaveRuns, IsIdle, one_less}
+use Rattle.sv_cut_laws.specs.IdleCut.{AreAccepted, AreFit, ChangesNothing, Cut, IsIdle, one_less}
 use Rattle.sv_links.specs.LinkBook.{busy_links, fed, is_issued, takes_piece}
 use Rattle.sv_out.specs.declared.input.Input.{Input}
 use Rattle.sv_out.specs.declared.input.Input.TheVariants.{Piece}
@@ -282,8 +285,9 @@ asked_none m at link bytes accepted =
     (both (is_none (asked_of (hand m))) (is_issued link (now m).links && takes_piece link (now m).links)
     (same_all m (is_none (asked_of (hand m)) && (is_issued link (now m).links && takes_piece link (now m).links)) accepted)).0
 
-pub cut_changes_nothing : (m : Model) (c : Cut) → (now m).given ≡ [] → Ends IsFollowed (hand m) → IsIdle m c → ChangesNothing m c
-cut_changes_nothing m c none ends idle =
+pub cut_changes_nothing : (m : Model) (c : Cut) → (now m).given ≡ [] → Ends IsFollowed (hand m) → Keeps (hand m) → IsIdle m c
+    → ChangesNothing m c
+cut_changes_nothing m c none ends keeps idle =
     let one = Piece c.at c.link c.first in
     let two = Piece c.at c.link c.second in
     let rest = one ∷ two ∷ c.later in
@@ -291,10 +295,12 @@ cut_changes_nothing m c none ends idle =
     let parts = accepted_parts m c.before rest idle.accepted in
     let few = within m c.before rest (length (now n).given) parts.0 refl none
     (subst (λ (os : List Order). length os < 2 ^ 64) (deeds_parts m c.before rest parts.0) idle.few) in
-    let followed = ended_so (hand n) (asked_none n c.at c.link c.first parts.1.0) (after_ends m c.before ends) in
-    let accepted = accepted_whole n c.at c.link c.first c.second idle.runs followed idle.fit parts.1.0 parts.1.1.0 idle.more
+    let free = asked_none n c.at c.link c.first parts.1.0 in
+    let followed = ended_so (hand n) free (after_ends m c.before ends) in
+    let runs = runs_so (hand n) free (after_keeps m c.before keeps) in
+    let accepted = accepted_whole n c.at c.link c.first c.second runs followed idle.fit parts.1.0 parts.1.1.0 idle.more
     c.later parts.1.1.1 few in
-    let same = deeds_of_whole n c.at c.link c.first c.second idle.runs followed idle.fit parts.1.0 parts.1.1.0 idle.more
+    let same = deeds_of_whole n c.at c.link c.first c.second runs followed idle.fit parts.1.0 parts.1.1.0 idle.more
     c.later parts.1.1.1 few in
     let whole = Piece c.at c.link (c.first ++ c.second) ∷ map one_less c.later in
     record {

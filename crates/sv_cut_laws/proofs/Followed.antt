@@ -60,7 +60,7 @@ use Rattle.sv_runs.specs.RunBook.{living, lost, stdin_lost}
 told_course : (w v : World) → Tells w v → v.course ≡ w.course
 told_course w v told = ap (λ (x : World). x.course) told.is
 
-told_crew : (w v : World) → Tells w v → v.children ≡ w.children
+pub told_crew : (w v : World) → Tells w v → v.children ≡ w.children
 told_crew w v told = ap (λ (x : World). x.children) told.is
 
 edge_course : (c pid : ℕ) (edge : Edge) (w : World) → (goes_edge None c pid edge w).course ≡ w.course
@@ -157,14 +157,14 @@ one_handed : (run : Option Run) (c : ℕ) (w : World) → ((sends_to run c w).co
 one_handed None c w = (refl, refl)
 one_handed (Some run) c w = (refl, refl)
 
-all_handed : (left c : ℕ) (w : World) → ((hands_from left c w).course ≡ w.course) × ((hands_from left c w).children ≡ w.children)
+pub all_handed : (left c : ℕ) (w : World) → ((hands_from left c w).course ≡ w.course) × ((hands_from left c w).children ≡ w.children)
 all_handed zero c w = (refl, refl)
 all_handed (suc left) c w =
     let one = one_handed (ready_of (slice_get w.children.all c) w.runs) c w in
     let rest = all_handed left (c + 1) (hands_to c w) in
     (rest.0 ∙ one.0, rest.1 ∙ one.1)
 
-all_closed : (links : List LinkId) (w : World) → ((closes_all links w).course ≡ w.course) × ((closes_all links w).children ≡ w.children)
+pub all_closed : (links : List LinkId) (w : World) → ((closes_all links w).course ≡ w.course) × ((closes_all links w).children ≡ w.children)
 all_closed [] w = (refl, refl)
 all_closed (link ∷ links) w = all_closed links (closes link w)
 
@@ -216,13 +216,13 @@ plain_rejections place (p ∷ ps) =
     plain_both (reports_of_rejection place p) (flat_map (reports_of_rejection place) ps)
     (plain_if (is_holding place p) (room_reports p) (plain_report p.group (dropped_for_room p.lists))) (plain_rejections place ps)
 
-returned : (c : ℕ) (w : World) → ((gives_back c w).course ≡ w.course) × ((gives_back c w).children ≡ w.children)
+pub returned : (c : ℕ) (w : World) → ((gives_back c w).course ≡ w.course) × ((gives_back c w).children ≡ w.children)
 returned c w =
     let u = record w { pools = rejects (id_of c) w.pools } in
     let told = tells_each (rejection_reports (id_of c) w.pools) u (plain_rejections (id_of c) w.pools.each) in
     (told_course u (gives_back c w) told, told_crew u (gives_back c w) told)
 
-lost_one : (child : Option ℕ) (run : Run) (w : World) → ((loses_of child run w).course ≡ w.course) × ((loses_of child run w).children ≡ w.children)
+pub lost_one : (child : Option ℕ) (run : Run) (w : World) → ((loses_of child run w).course ≡ w.course) × ((loses_of child run w).children ≡ w.children)
 lost_one None run w = (refl, refl)
 lost_one (Some c) run w = by_holder (holds (id_of c) w.pools) where
   by_holder : (b : Bool) → ((if b then gives_back c (record w { runs = lost run w.runs }) else w).course ≡ w.course)

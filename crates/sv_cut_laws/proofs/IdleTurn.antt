@@ -17,6 +17,7 @@ use Rattle.sv_core.specs.declared.part.Cause.TheVariants as cause_is
 use Rattle.sv_cut_laws.proofs.Both.{halts_later, later}
 use Rattle.sv_cut_laws.proofs.Handing.IsFollowed.{runs as runs_on, over, waits}
 use Rattle.sv_cut_laws.proofs.Handing.{IsFollowed, followed_once, halted_or, handed_out, speaks_still}
+use Rattle.sv_cut_laws.proofs.HaveRuns.{HaveRuns}
 use Rattle.sv_cut_laws.proofs.Links.{all_given, all_more, all_more_is, fed_twice, mores, one_more_given}
 use Rattle.sv_cut_laws.proofs.Loud.{IsNatural, Loud, Speaks, Starts, bare, bare_later, grown, is_more}
 use Rattle.sv_cut_laws.proofs.Past.{ticks_past}
@@ -25,7 +26,6 @@ use Rattle.sv_cut_laws.proofs.Serves.{AllServe}
 use Rattle.sv_cut_laws.proofs.Tells.{Tells, announced_once, are_plain, having_announced, having_looked, is_plain, looked_once, plain_both, tells_announced, tells_ticks}
 use Rattle.sv_cut_laws.proofs.Time.{AllStand, time_passes, time_tells}
 use Rattle.sv_cut_laws.proofs.Turns.{after_links_later, after_pass_later}
-use Rattle.sv_cut_laws.specs.IdleCut.{HaveRuns}
 use Rattle.sv_groups.specs.StartOrder.{span_of}
 use Rattle.sv_links.specs.LinkBook.{LinkRecord, busy_links, fed, more_given, more_is_due, takes_piece}
 use Rattle.sv_out.specs.declared.order.Order.{Order}

@@ -5,12 +5,16 @@ mod Cut
 mod Edges
 mod Followed
 mod Handing
+mod HaveRuns
 mod IdleTurn
+mod Keeps
 mod Links
 mod Loud
 mod Past
 mod Plans
+mod Reached
 mod Rewinding
+mod SameCrew
 mod Serves
 mod Tells
 mod There

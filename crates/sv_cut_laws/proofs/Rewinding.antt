@@ -13,7 +13,7 @@ use Rattle.sv_children.proofs.Waking.{rewound_settled, settled_same}
 use Rattle.sv_children.specs.Crew.{Crew}
 use Rattle.sv_children.specs.Rewound.{all_rewound, crew_rewound}
 use Rattle.sv_children.specs.Spans.{are_at_rest}
-use Rattle.sv_cut_laws.specs.IdleCut.{HaveRuns, has_run}
+use Rattle.sv_cut_laws.proofs.HaveRuns.{HaveRuns, has_run}
 use Rattle.sv_groups.specs.StartOrder.{processes}
 use Rattle.sv_groups.specs.declared.order.Span.{Span}
 

@@ -26,10 +26,10 @@ use Rattle.sv_core.specs.Sweeps.{Turn, does_noted, meets, sweeps}
 use Rattle.sv_core.specs.World.{World}
 use Rattle.sv_cut_laws.proofs.Both.{noted_both, sweeps_both}
 use Rattle.sv_cut_laws.proofs.Edges.{edge_loud}
+use Rattle.sv_cut_laws.proofs.HaveRuns.{HaveRuns, has_run}
 use Rattle.sv_cut_laws.proofs.Loud.{IsNatural, Loud, loud_at}
 use Rattle.sv_cut_laws.proofs.Tells.{plain_both, tells_note}
 use Rattle.sv_cut_laws.proofs.Turns.{IsLater, of_questions}
-use Rattle.sv_cut_laws.specs.IdleCut.{HaveRuns, has_run}
 use Rattle.sv_facts.specs.EdgeFacts.{pid_at}
 use Rattle.sv_groups.specs.StartOrder.{pairs_of}
 use Rattle.sv_lines.specs.EdgeLines.{how_of, killing_at}

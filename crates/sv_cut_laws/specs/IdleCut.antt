@@ -1,12 +1,8 @@
 -- A cut of a client's bytes (RFC 9112, section 2.2: a message is read from a sequence of octets, however they arrive): two pieces
 -- of a link at one moment, where the first one is answered by More and by nothing else.
-use Rattle.std.specs.Prelude.{◌≡◌, ◌<◌, ◌^◌, ◌-◌, ◌++◌, ◌∷◌, ℕ, List, [], Bool, true, Option, Some, is_some, map, length, slice_get}
+use Rattle.std.specs.Prelude.{◌≡◌, ◌<◌, ◌^◌, ◌-◌, ◌++◌, ◌∷◌, ℕ, List, [], true, is_some, map, length}
 use Rattle.sv_base.specs.declared.ids.LinkId.{LinkId}
-use Rattle.sv_base.specs.declared.ids.Run.{Run}
-use Rattle.sv_base.specs.declared.state.State.{State}
-use Rattle.sv_base.specs.declared.state.State.TheVariants.{Stopping}
 use Rattle.sv_calls.specs.CallBook.{call_at}
-use Rattle.sv_child.specs.declared.child.Child.{Child}
 use Rattle.sv_core.specs.Deeds.{after, deeds}
 use Rattle.sv_core.specs.MachineState.{Model, accepts, next, now, orders}
 use Rattle.sv_core.specs.World.{World}
@@ -45,15 +41,6 @@ without_cut c = c.before ++ Piece c.at c.link (c.first ++ c.second) ∷ map one_
 
 -- ---- the state before an idle cut
 
--- a child that stops has a run
-abbrev pub has_run : State → Option Run → Bool
-has_run Stopping run = is_some run
-has_run state run = true
-
--- each of these children does
-abbrev pub HaveRuns : List Child → Type 0
-HaveRuns children = (place : ℕ) (child : Child) → slice_get children place ≡ Some child → has_run child.state child.run ≡ true
-
 -- each call in hand is one whose answer would be sent: its link neither ended nor failed
 abbrev pub AreFit : World → Type 0
 AreFit w = (link : LinkId) → is_some (call_at link w.calls) ≡ true → is_sent link w.links ≡ true
@@ -66,7 +53,6 @@ pub record IsIdle (m : Model) (c : Cut) : Type 0 where
   pub accepted : AreAccepted m (with_cut c)
   pub few : length (deeds m (with_cut c)) < 2 ^ 64
   pub more : orders (after m c.before) (Piece c.at c.link c.first) ≡ order.More c.link ∷ []
-  pub runs : HaveRuns (now (after m c.before)).children.all
   pub fit : AreFit (now (after m c.before))
 
 -- it changes nothing: without it the inputs are accepted too, and their deeds are the same but for that More
