@@ -14,7 +14,7 @@ use Rattle.sv_child.specs.ChildTable.Stimulus.{Start, Stop, Spawned, Spawn_faile
 use Rattle.sv_child.specs.Moves.{Answer, backs_off, entered, exited, exited_too_quickly, goes, has_tired, is_first_start, is_killed, is_reached, is_running, leads_over, new_child, nothing, restarts, starts}
 use Rattle.sv_child.specs.declared.child.Child.{Child}
 use Rattle.sv_child.specs.declared.step.ChildDeed.{ChildDeed}
-use Rattle.sv_child.specs.declared.step.ChildDeed.TheVariants.{Spawn, Kill}
+use Rattle.sv_child.specs.declared.step.ChildDeed.TheVariants.{Spawn}
 use Rattle.sv_children.proofs.Places.{set_here}
 use Rattle.sv_children.specs.Crew.{Crew, Member, member_at, member_of}
 use Rattle.sv_children.specs.News.{deed_of, is_living_run, moved, said, said_at, said_to, step_of, stimulus_of, stimulus_told}

@@ -10,7 +10,6 @@ use Rattle.sv_base.specs.declared.spec.GroupSpec.{GroupSpec}
 use Rattle.sv_base.specs.declared.spec.Spec.{Spec}
 use Rattle.sv_base.specs.declared.state.How.{How}
 use Rattle.sv_calls.specs.CallBook as call_book
-use Rattle.sv_calls.specs.declared.setback.Setback.TheVariants as setback
 use Rattle.sv_child.specs.Moves.{Answer as Answered, is_running}
 use Rattle.sv_child.specs.declared.step.ChildDeed.{ChildDeed}
 use Rattle.sv_child.specs.declared.step.ChildDeed.TheVariants.{Spawn, Kill}
@@ -21,25 +20,24 @@ use Rattle.sv_children.specs.Rewound.{crew_rewound}
 use Rattle.sv_children.specs.Spans.{span_meant}
 use Rattle.sv_children.specs.declared.news.News.{News}
 use Rattle.sv_children.specs.declared.news.News.TheVariants as news_is
-use Rattle.sv_core.specs.Calling.{acts_left, answers_call, asks_read, begins_one, begins_part_if, begins_several, calls, calls_all, calls_left, calls_parts, checks_wait, comes_of, ends_call, file_reply, goes_on, read_answered, reads, replies, scene_of, takes_up}
+use Rattle.sv_core.specs.Calling.{acts_left, answers_call, asks_read, begins_one, begins_part_if, begins_several, calls, calls_all, calls_left, checks_wait, comes_of, ends_call, file_reply, goes_on, read_answered, replies, scene_of, takes_up}
 use Rattle.sv_core.specs.Events.{announces, offers, ticks}
 use Rattle.sv_core.specs.HandingOut.{hands_out}
-use Rattle.sv_core.specs.Listening.{exits, exits_of, gives_back}
+use Rattle.sv_core.specs.Listening.{exits, exits_of}
 use Rattle.sv_core.specs.Logging.{notes_if}
-use Rattle.sv_core.specs.Moves.{answered, begins_as, comes, fails, kills, moves, orders_spawn, says, started_as, told_of}
+use Rattle.sv_core.specs.Moves.{answered, comes, fails, kills, moves, orders_spawn, says, started_as, told_of}
 use Rattle.sv_core.specs.Openings.{guard_at, opens}
 use Rattle.sv_core.specs.Output.{ends_pipe, hears_on}
 use Rattle.sv_core.specs.Requests.{asks_clear, asks_start, carries_if, carries_request, clear_answered, clears_all, does_all, run_of, spawns_for, start_answered, start_fails, start_setback, starts, starts_as, starts_by, tells_call, writes}
 use Rattle.sv_core.specs.Serving.{gives_more, serves_all, serves_ask, serves_asks, serves_left}
 use Rattle.sv_core.specs.Shutdown.{begins_shutdown, drops_group, follows_plan, halts, has_come_to_rest, heeds, moves_on, tells_group}
-use Rattle.sv_core.specs.Stops.{signals, stops, stops_all, stops_from}
-use Rattle.sv_core.specs.Sweeps.{Turn, asks, does, does_noted, meets, spawns, spawns_as, sweeps, sweeps_over}
+use Rattle.sv_core.specs.Stops.{stops, stops_all, stops_from}
+use Rattle.sv_core.specs.Sweeps.{Turn, asks, does, meets, spawns, spawns_as, sweeps, sweeps_over}
 use Rattle.sv_core.specs.Sweeps.Turn.{Done, Ask}
-use Rattle.sv_core.specs.Turn.{after_links, after_pass, after_stimulus, applies, passes, rewinds, turn}
+use Rattle.sv_core.specs.Turn.{after_links, after_pass, after_stimulus, applies, rewinds, turn}
 use Rattle.sv_core.specs.World.{World, gives}
 use Rattle.sv_core.specs.declared.part.Cause.{Cause}
 use Rattle.sv_core.specs.declared.part.Cause.TheVariants as cause_is
-use Rattle.sv_core.specs.declared.part.Question.TheVariants as question
 use Rattle.sv_core.specs.declared.part.Reply.{Reply}
 use Rattle.sv_core.specs.declared.part.Reply.TheVariants.{Refused}
 use Rattle.sv_cut_laws.proofs.Followed.{all_handed, returned, told_crew}
