@@ -3,17 +3,7 @@
 #![tactic(auto)]
 
 #[cfg(test)]
-mod act_tests;
-#[cfg(test)]
-mod clear_tests;
-#[cfg(test)]
-mod closing_tests;
-#[cfg(test)]
 mod generated_tests;
-#[cfg(test)]
-mod group_tests;
-#[cfg(test)]
-mod idle_cut_tests;
 #[cfg(test)]
 mod link_tests;
 #[cfg(test)]
@@ -29,18 +19,6 @@ mod noted_tests;
 #[cfg(test)]
 mod order_tests;
 #[cfg(test)]
-mod scripts;
-#[cfg(test)]
-mod several_tests;
-#[cfg(test)]
 mod shutdown_tests;
 #[cfg(test)]
-mod signal_tests;
-#[cfg(test)]
-mod start_tests;
-#[cfg(test)]
 mod tests;
-#[cfg(test)]
-mod turn_tests;
-#[cfg(test)]
-mod wait_tests;
