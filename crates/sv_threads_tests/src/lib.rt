@@ -3,25 +3,13 @@
 #![tactic(auto)]
 
 #[cfg(test)]
-mod client_tests;
-#[cfg(test)]
-mod clients;
-#[cfg(test)]
 mod course;
-#[cfg(test)]
-mod daemon;
-#[cfg(test)]
-mod daemon_tests;
 #[cfg(test)]
 mod held_tests;
 #[cfg(test)]
 mod memory_tests;
 #[cfg(test)]
 mod parts;
-#[cfg(test)]
-mod programs;
-#[cfg(test)]
-mod real_tests;
 #[cfg(test)]
 mod start_gate;
 #[cfg(test)]
