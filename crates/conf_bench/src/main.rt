@@ -1,4 +1,5 @@
 //! Reads a configuration text from standard input, and prints how many groups and processes it has, or its fault.
+#![tactic(auto)]
 
 use std::alloc::{AllocError, Global};
 use std::io;
@@ -10,7 +11,7 @@ use sv_base::spec::GroupSpec;
 use sv_base::text::Text;
 use sv_conf::config::config;
 
-pub(crate) fn run(rt: HostRuntime) -> io::Result<()> {
+fn main(rt: HostRuntime) -> io::Result<()> {
     let alloc = rt.alloc();
     let mut bytes = Vec::new(alloc);
     let mut reader = rt.reader();

@@ -1,10 +1,11 @@
 //! Measures how fast requests are read: small calls in large pieces, and a large body in small pieces and in single
 //! bytes. `bench/http` runs it.
+#![tactic(auto)]
 
 use std::alloc::{AllocError, Global};
-use std::io;
 use std::rt::Clock;
 use std::time::Instant;
+use std::{env, io};
 use sv_base::config::Password;
 use sv_base::text::Text;
 use sv_http::guard::Guard;
@@ -36,7 +37,11 @@ struct Speed {
     megabytes: u64,
 }
 
-pub(crate) fn run(rt: HostRuntime) -> io::Result<()> {
+fn main(rt: HostRuntime) -> io::Result<()> {
+    // Run without an argument it measures nothing, so that what it prints is always the same.
+    if env::args(&rt)?.count() < 2 {
+        return Ok(());
+    }
     let alloc = rt.alloc();
     let small = measure(&rt, alloc, small_calls(alloc)?.as_slice(), PIECE, 2_000)?;
     print(&rt, "small calls in pieces of 65536 bytes", &small)?;

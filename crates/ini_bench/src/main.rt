@@ -1,11 +1,12 @@
 //! Reads a configuration text from standard input, and prints how many sections and keys it has, or its fault.
+#![tactic(auto)]
 
 use std::io;
 use std::io::Read;
 use sv_ini::section::Section;
 use sv_ini::sections::sections;
 
-pub(crate) fn run(rt: HostRuntime) -> io::Result<()> {
+fn main(rt: HostRuntime) -> io::Result<()> {
     let alloc = rt.alloc();
     let mut bytes = Vec::new(alloc);
     let mut reader = rt.reader();

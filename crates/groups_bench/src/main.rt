@@ -1,9 +1,10 @@
 //! Measures how long `find` takes among 1,024 names of processes and among 16. `bench/find` runs it.
+#![tactic(auto)]
 
 use std::alloc::{AllocError, Global};
-use std::io;
 use std::rt::Clock;
 use std::time::Instant;
+use std::{env, io};
 use sv_base::config::{ClientSpec, Config};
 use sv_base::groups::Groups;
 use sv_base::items::Items;
@@ -30,7 +31,11 @@ struct Case {
     names: Vec<String>,
 }
 
-pub(crate) fn run(rt: HostRuntime) -> io::Result<()> {
+fn main(rt: HostRuntime) -> io::Result<()> {
+    // Run without an argument it measures nothing, so that what it prints is always the same.
+    if env::args(&rt)?.count() < 2 {
+        return Ok(());
+    }
     match (case_of(rt.alloc(), 256)?, case_of(rt.alloc(), 4)?) {
         (Some(many), Some(few)) => measure(&rt, &many, &few),
         _ => Ok(()),
