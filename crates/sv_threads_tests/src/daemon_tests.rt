@@ -1,0 +1,134 @@
+//! A daemon over a world of threads, whose journal is replayed: the same orders both times.
+
+use crate::course::{Course, Parts, go_over};
+use crate::daemon::{ROOM, journal_of, orders_of, words};
+use crate::parts::StillClock;
+use crate::programs::{ALL_RUNS, LateConsole, RUNS, SignalWaiter, TenSpawner, ten_of_each};
+use crate::start_gate::{StartGate, receive_and_work};
+use crossbeam_channel::Receiver;
+use std::alloc::{AllocError, Global};
+use std::process::Abort;
+use std::sync::Wait;
+use std::thread;
+use sv_base::Bytes;
+use sv_job_types::{AnyJob, NoBoard};
+use sv_loop::replay;
+use sv_out::MapShelf;
+use sv_out::sink::ListSink;
+use sv_out::source::ListSource;
+use sv_outside::ScriptListen;
+use sv_world::World;
+
+/// The programs.
+const NAMES: [&str; 20] = [
+    "p00", "p01", "p02", "p03", "p04", "p05", "p06", "p07", "p08", "p09", "p10", "p11", "p12",
+    "p13", "p14", "p15", "p16", "p17", "p18", "p19",
+];
+
+type DaemonJob<R> = AnyJob<
+    ListSink,
+    ListSource,
+    ListSource,
+    SignalWaiter<R>,
+    ScriptListen,
+    LateConsole<R>,
+    StillClock<R>,
+    NoBoard,
+>;
+
+/// The configuration: twenty programs that are started again at each exit, whose output goes to one log.
+fn configuration(alloc: Global) -> Result<Bytes, AllocError> {
+    let mut text = String::new(alloc);
+    text.push_str("[supervisord]\nlogfile=NONE\n")?;
+    for name in NAMES {
+        text.push_str("[program:")?;
+        text.push_str(name)?;
+        text.push_str("]\ncommand=/bin/x\nstartsecs=0\nautorestart=true\nstdout_logfile=/log/")?;
+        text.push_str(name)?;
+        text.push_str("\nstderr_logfile=NONE\n")?;
+    }
+    Bytes::from_slice(alloc, text.as_bytes())
+}
+
+/// How many programs of this name were started by these orders; all of them for the empty name.
+fn starts_of(orders: &str, name: &str) -> u8 {
+    let mut count = 0u8;
+    for line in orders.split('\n') {
+        if line.starts_with("spawn ") && line.contains(name) {
+            count = count.saturating_add(1);
+        }
+    }
+    count
+}
+
+/// What is done: the daemon runs, and its journal is replayed.
+struct Supervised;
+
+impl Course for Supervised {
+    fn over<W: World>(&self, rt: &impl Abort, alloc: Global, world: &mut W) {
+        supervise_and_replay(rt, alloc, world).expect(rt, "ample memory");
+    }
+}
+
+fn supervise_and_replay<W: World>(
+    rt: &impl Abort,
+    alloc: Global,
+    world: &mut W,
+) -> Result<(), AllocError> {
+    let journal = journal_of(rt, alloc, configuration(alloc)?, world)?;
+    replayed(rt, alloc, journal.written())
+}
+
+/// Each program was started ten times; a replay writes the orders that the journal has.
+fn replayed(rt: &impl Abort, alloc: Global, journal: &[u8]) -> Result<(), AllocError> {
+    let text = std::str::from_utf8(journal).expect(rt, "a journal's text");
+    let orders = orders_of(alloc, text)?;
+    assert!(rt; starts_of(orders.as_str(), "") == ALL_RUNS);
+    for name in NAMES {
+        assert!(rt; starts_of(orders.as_str(), name) == RUNS, "{name}");
+    }
+    let bytes = Vec::from_slice(alloc, journal)?;
+    let mut source = ListSource::new(bytes, 4_096, Vec::new(alloc));
+    let mut lines = ListSink::new(alloc, ROOM, Vec::new(alloc));
+    let status = replay(
+        alloc,
+        words(alloc, &["run"])?.as_slice(),
+        &mut source,
+        &mut lines,
+    );
+    assert!(rt; status == 0);
+    assert!(rt; lines.written() == orders.as_bytes());
+    Ok(())
+}
+
+/// The parts: twenty programs and a console that wait for each other.
+fn parts<R: Abort + Wait + std::time::Clock + Copy>(
+    rt: R,
+    alloc: Global,
+) -> Result<
+    Parts<TenSpawner<R>, ScriptListen, LateConsole<R>, StillClock<R>, MapShelf>,
+    AllocError,
+> {
+    let (spawner, console) = ten_of_each(rt, alloc)?;
+    Ok(Parts {
+        spawner,
+        inet: None,
+        console,
+        ticker: StillClock::new(rt),
+        clock: StillClock::new(rt),
+        shelf: MapShelf::new(alloc, Vec::new(alloc)),
+    })
+}
+
+#[test]
+fn a_daemon_over_threads_is_replayed(rt: HostRuntime) {
+    let gate = StartGate::new(
+        rt,
+        rt.alloc(),
+        move |from: Receiver<DaemonJob<HostRuntime>>| {
+            thread::spawn(&rt, move || receive_and_work(&rt, &from)).is_ok()
+        },
+    );
+    let parts = parts(rt, rt.alloc()).expect(&rt, "ample memory");
+    go_over(rt, rt.alloc(), parts, gate, &Supervised);
+}

@@ -1,0 +1,116 @@
+//! A daemon over a real program, with real pipes, threads and the real clock.
+ghost use Rattle.std.specs.Prelude.{None};
+
+use crate::course::{Course, Parts, go_over};
+use crate::daemon::{journal_of, orders_of};
+use crate::start_gate::{StartGate, receive_and_work};
+use crossbeam_channel::Receiver;
+use std::alloc::{AllocError, Global};
+use std::process::{Abort, Processes};
+use std::rt::Files;
+use std::thread;
+use std::time::Duration;
+use sv_base::Bytes;
+use sv_job_types::{AnyJob, NoBoard};
+use sv_os::{OsClock, OsSpawner};
+use sv_out::MapShelf;
+use sv_out::failed::Failed;
+use sv_out::source::{ListSource, Source};
+use sv_outside::{ScriptListen, Spawner};
+use sv_world::World;
+
+/// The configuration: one program, which copies its standard input to its output until it gets a signal.
+const CAT: &str = "[supervisord]\nlogfile=NONE\n[program:cat]\ncommand=/bin/cat\nstartsecs=0\n\
+stdout_logfile=NONE\nstderr_logfile=NONE\n";
+
+/// The states of the program, in their order.
+const STATES: [&str; 3] = [
+    "state cat cat STARTING RUNNING",
+    "state cat cat RUNNING STOPPING",
+    "state cat cat STOPPING STOPPED",
+];
+
+/// A console that asks for the end half a second after it is read first.
+#[derive(Drop)]
+struct PausedConsole<R: Drop> {
+    rt: R,
+    text: ListSource,
+}
+
+impl<R: std::time::Clock + Drop> Source for PausedConsole<R> {
+    ghost left = { λ s. None };
+
+    ghost faults = { λ s. ⟦<ListSource as Source>⟧.faults s.text };
+
+    fn read(&mut self, into: &mut [u8]) -> Result<usize, Failed> {
+        thread::sleep(&self.rt, Duration::from_millis(500));
+        self.text.read(into)
+    }
+}
+
+type RealJob<R> = AnyJob<
+    <OsSpawner<R> as Spawner>::Stdin,
+    <OsSpawner<R> as Spawner>::Stdout,
+    <OsSpawner<R> as Spawner>::Stderr,
+    <OsSpawner<R> as Spawner>::Waiter,
+    ScriptListen,
+    PausedConsole<R>,
+    OsClock<R>,
+    NoBoard,
+>;
+
+/// What is done: the daemon runs until the console ends it, and its program has all states.
+struct Copying;
+
+impl Course for Copying {
+    fn over<W: World>(&self, rt: &impl Abort, alloc: Global, world: &mut W) {
+        copy_until_signal(rt, alloc, world).expect(rt, "ample memory");
+    }
+}
+
+fn copy_until_signal<W: World>(
+    rt: &impl Abort,
+    alloc: Global,
+    world: &mut W,
+) -> Result<(), AllocError> {
+    let configuration = Bytes::from_slice(alloc, CAT.as_bytes())?;
+    let journal = journal_of(rt, alloc, configuration, world)?;
+    let text = std::str::from_utf8(journal.written()).expect(rt, "a journal's text");
+    let orders = orders_of(alloc, text)?;
+    for state in STATES {
+        assert!(rt; orders.as_str().contains(state), "{state}");
+    }
+    Ok(())
+}
+
+/// The parts: the real spawner and the real clock.
+fn parts<R: Processes + Files + std::time::Clock + Copy>(
+    rt: R,
+    alloc: Global,
+) -> Result<Parts<OsSpawner<R>, ScriptListen, PausedConsole<R>, OsClock<R>, MapShelf>, AllocError> {
+    let text = Vec::from_slice(alloc, b"signal TERM\n")?;
+    Ok(Parts {
+        spawner: OsSpawner::new(rt),
+        inet: None,
+        console: PausedConsole {
+            rt,
+            text: ListSource::new(text, 9, Vec::new(alloc)),
+        },
+        ticker: OsClock::new(rt),
+        clock: OsClock::new(rt),
+        shelf: MapShelf::new(alloc, Vec::new(alloc)),
+    })
+}
+
+#[test]
+fn a_real_program_runs_until_the_console_ends_it(rt: HostRuntime) {
+    let gate = StartGate::new(
+        rt,
+        rt.alloc(),
+        move |from: Receiver<RealJob<HostRuntime>>| {
+            thread::spawn(&rt, move || receive_and_work(&rt, &from)).is_ok()
+        },
+    );
+    let parts = parts(rt, rt.alloc()).expect(&rt, "ample memory");
+    go_over(rt, rt.alloc(), parts, gate, &Copying);
+}
