@@ -6,8 +6,6 @@ mod read;
 mod request;
 mod sent;
 mod several;
-#[cfg(test)]
-mod tests;
 
 pub use read::{FileReply, Reading, read_back};
 pub use request::{Heard, hear, subject_of};

@@ -2,7 +2,5 @@
 #![tactic(auto)]
 
 pub mod arguments;
-#[cfg(test)]
-mod tests;
 
 pub use arguments::{Arguments, arguments_of};

@@ -5,8 +5,6 @@ mod asking;
 mod fault;
 mod hearing;
 mod server;
-#[cfg(test)]
-mod tests;
 mod url;
 
 pub use asking::ask;

@@ -9,8 +9,6 @@ mod calls;
 mod setback;
 mod several;
 mod task;
-#[cfg(test)]
-mod tests;
 
 pub use answer::Answer;
 pub use calls::Calls;

@@ -8,8 +8,6 @@ pub mod laws;
 mod moves;
 mod rewind;
 pub mod step;
-#[cfg(test)]
-mod tests;
 
 pub use crate::child::Child;
 pub use crate::laws::{each_life_is_a_walk, worked_lives};

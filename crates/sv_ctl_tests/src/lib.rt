@@ -1,7 +1,9 @@
-//! The tests of `sv_ctl`: conversations over dials in memory, worked by hand. A crate of their own, so that `sv_ctl` is
-//! proved once and not a second time with its tests.
+//! The tests of `sv_ask` and `sv_ctl`: calls and conversations over dials in memory, worked by hand. A crate of their own, so
+//! that these are proved once and not a second time with their tests.
 #![tactic(auto)]
 
+#[cfg(test)]
+mod ask_tests;
 #[cfg(test)]
 mod commands;
 #[cfg(test)]

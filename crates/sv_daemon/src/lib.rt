@@ -5,8 +5,6 @@
 mod engine;
 mod lines;
 mod serving;
-#[cfg(test)]
-mod tests;
 
 pub use engine::Engine;
 pub use lines::Lines;

@@ -4,7 +4,5 @@
 #![tactic(auto)]
 
 pub mod dates;
-#[cfg(test)]
-mod tests;
 
 pub use crate::dates::{Day, date_of};

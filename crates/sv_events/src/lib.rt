@@ -5,8 +5,6 @@
 pub mod covers;
 pub mod event;
 pub mod fact;
-#[cfg(test)]
-mod tests;
 pub mod ticks;
 mod write;
 

@@ -2,7 +2,5 @@
 #![tactic(auto)]
 
 mod edge_facts;
-#[cfg(test)]
-mod tests;
 
 pub use edge_facts::{fact_at, is_expected, kind_of, pid_at};

@@ -6,6 +6,4 @@ pub use asking::{FileAnswer, clear_file, file_names, file_size, read_file};
 pub use writing::{append, fresh, shift};
 
 mod asking;
-#[cfg(test)]
-mod tests;
 mod writing;

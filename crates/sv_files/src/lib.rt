@@ -9,8 +9,6 @@ mod carrying;
 pub mod known;
 pub mod laws;
 mod opening;
-#[cfg(test)]
-mod tests;
 
 pub use crate::known::KnownSizes;
 pub use crate::laws::each_file_has_what_was_logged;

@@ -6,5 +6,3 @@ pub use ready::Ready;
 
 mod handing;
 mod ready;
-#[cfg(test)]
-mod tests;

@@ -6,8 +6,6 @@ mod begin;
 mod draw;
 mod generated;
 pub mod laws;
-#[cfg(test)]
-mod tests;
 
 pub use begin::generate;
 pub use draw::Draw;

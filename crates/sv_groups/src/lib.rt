@@ -9,8 +9,6 @@ mod lookup;
 mod names;
 mod order;
 mod seat;
-#[cfg(test)]
-mod tests;
 
 pub use fault::GroupFault;
 pub use lookup::Found;

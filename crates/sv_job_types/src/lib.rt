@@ -11,5 +11,3 @@ pub mod any_job;
 pub mod links;
 pub mod runs;
 pub mod short;
-#[cfg(test)]
-mod tests;

@@ -5,8 +5,6 @@
 mod child_lines;
 mod edge_lines;
 pub mod line;
-#[cfg(test)]
-mod tests;
 
 pub use crate::child_lines::{killing_at, spawned_at};
 pub use crate::edge_lines::{how_of, line_at};

@@ -7,7 +7,5 @@ mod kept_link;
 pub mod laws;
 mod links;
 mod open_link;
-#[cfg(test)]
-mod tests;
 
 pub use links::{LINK_LIMIT, Links};

@@ -5,8 +5,6 @@
 mod fault;
 mod listing;
 mod loading;
-#[cfg(test)]
-mod tests;
 mod texts;
 
 pub use fault::LoadFault;

@@ -9,8 +9,6 @@
 pub mod line;
 pub mod plan;
 pub mod spans;
-#[cfg(test)]
-mod tests;
 
 pub use crate::line::main_line;
 pub use crate::plan::LogPlan;

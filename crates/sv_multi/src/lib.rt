@@ -7,8 +7,6 @@ pub mod fault;
 pub mod gather;
 pub mod part;
 pub mod parts;
-#[cfg(test)]
-mod tests;
 
 pub use crate::fault::MultiFault;
 pub use crate::gather::Gather;

@@ -5,8 +5,6 @@
 mod clock;
 mod disk;
 mod gate;
-#[cfg(test)]
-mod gate_tests;
 mod host;
 #[cfg(test)]
 mod listen_tests;
@@ -19,8 +17,6 @@ mod program_tests;
 mod programs;
 mod sockets;
 mod streams;
-#[cfg(test)]
-mod tests;
 
 pub use clock::OsClock;
 pub use disk::OsShelf;

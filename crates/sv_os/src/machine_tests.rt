@@ -1,9 +1,8 @@
 //! The machine as it is told to a configuration.
 
 use crate::clock::{OsClock, moment_of};
-use crate::host::{directory_of, environment_of, host_of};
+use crate::host::{directory_of, environment_of};
 use std::env::FillError;
-use std::process;
 use std::rt::Env;
 use std::test::Fail;
 use std::time::Duration;
@@ -94,15 +93,5 @@ fn time_has_its_limits(rt: HostRuntime) -> Result<(), Fail> {
     assert!(rt; Moment::zero() < before);
     clock.pause(2);
     assert!(rt; before < clock.now());
-    Ok(())
-}
-
-#[test]
-fn the_machine_is_told(rt: HostRuntime) -> Result<(), Fail> {
-    let pid = process::id(rt.process());
-    let host = host_of(&rt, pid, Some("/etc/s.conf"))?;
-    assert!(rt; host.pid == pid && host.here.as_str() == "/etc");
-    assert!(rt; !host.name.as_str().is_empty() && !host.name.as_str().ends_with('\n'));
-    assert!(rt; Moment::zero() < host.start);
     Ok(())
 }

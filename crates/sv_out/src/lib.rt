@@ -24,5 +24,3 @@ pub mod rising;
 pub mod script;
 pub mod sink;
 pub mod source;
-#[cfg(test)]
-mod tests;

@@ -2,7 +2,5 @@
 #![tactic(auto)]
 
 mod outcome;
-#[cfg(test)]
-mod tests;
 
 pub use outcome::Outcome;

@@ -20,6 +20,4 @@ pub mod jobs;
 pub mod listening;
 pub mod script_spawner;
 pub mod spawner;
-#[cfg(test)]
-mod tests;
 pub mod waiter;

@@ -4,14 +4,10 @@
 //! for the whole stream so far: what it answers is what is new in the one cut of that stream.
 #![tactic(auto)]
 
-#[cfg(test)]
-mod capture_tests;
 pub mod captured;
 pub mod laws;
 pub mod parts;
 pub mod talk;
-#[cfg(test)]
-mod tests;
 pub mod tokens;
 mod word;
 

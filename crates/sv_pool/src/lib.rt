@@ -5,8 +5,6 @@
 pub mod account;
 pub mod pool;
 pub mod taken;
-#[cfg(test)]
-mod tests;
 
 pub use crate::account::{a_rejected_event_is_the_front, each_event_is_in_one_place};
 pub use crate::pool::Pool;

@@ -4,8 +4,6 @@
 
 mod group_pool;
 mod pools;
-#[cfg(test)]
-mod tests;
 
 pub use group_pool::GroupPool;
 pub use pools::Pools;

@@ -3,8 +3,6 @@
 
 mod header;
 mod lines;
-#[cfg(test)]
-mod tests;
 
 pub use header::header_text;
 pub use lines::{HeaderFault, JournalLines};

@@ -4,7 +4,5 @@
 
 mod open_run;
 mod runs;
-#[cfg(test)]
-mod tests;
 
 pub use runs::Runs;

@@ -3,8 +3,6 @@
 
 mod fault;
 mod sizes;
-#[cfg(test)]
-mod tests;
 
 pub use fault::SizesFault;
 pub use sizes::sizes_of;

@@ -7,8 +7,6 @@ pub mod laws;
 mod open_run;
 mod owner;
 mod streams;
-#[cfg(test)]
-mod tests;
 
 pub use owner::Owner;
 pub use streams::Streams;

@@ -7,8 +7,6 @@ pub mod due;
 mod list;
 mod looked;
 mod row;
-#[cfg(test)]
-mod tests;
 mod tree;
 
 pub use crate::agenda::{Agenda, Next};

@@ -4,8 +4,6 @@
 
 mod copies;
 mod script_world;
-#[cfg(test)]
-mod tests;
 mod world;
 
 pub use copies::{copy_input, copy_order};

@@ -1,0 +1,18 @@
+//! The tests of `sv_load`, `sv_sizes`, `sv_arguments`, `sv_daemon`, `sv_outcome`, `sv_record` and `sv_servers`, worked by hand: how
+//! a daemon begins, goes on and ends. A crate of their own, so that these are proved once.
+#![tactic(auto)]
+
+#[cfg(test)]
+mod arguments_tests;
+#[cfg(test)]
+mod daemon_tests;
+#[cfg(test)]
+mod load_tests;
+#[cfg(test)]
+mod outcome_tests;
+#[cfg(test)]
+mod record_tests;
+#[cfg(test)]
+mod servers_tests;
+#[cfg(test)]
+mod sizes_tests;

@@ -1,0 +1,73 @@
+//! Outcomes with the lines and the statuses that are told of them.
+
+use std::alloc::{AllocError, Global};
+use sv_base::Text;
+use sv_out::sink::ListSink;
+use sv_outcome::Outcome;
+
+/// An outcome as a letter, its status, and its line.
+const OUTCOMES: [(u8, u8, &str); 11] = [
+    (b'0', 0, ""),
+    (
+        b'u',
+        2,
+        "Error: usage: supervisord -c FILE [--journal] [-n]\n",
+    ),
+    (b'f', 2, "Error: no file /s.conf\n"),
+    (b'r', 2, "Error: conf 1 Ini 2 BadLine 1\n"),
+    (b'3', 3, ""),
+    (b'4', 4, "Error: the world failed\n"),
+    (b'5', 5, "Error: the input ended\n"),
+    (b'6', 6, "Error: too many inputs\n"),
+    (b'7', 7, ""),
+    (b'8', 8, "Error: cannot read /d/*.ini\n"),
+    (b'9', 9, "Error: misplaced input 18446744073709551615\n"),
+];
+
+fn outcome_of(letter: u8) -> Outcome {
+    match letter {
+        b'0' => Outcome::Halted,
+        b'u' => Outcome::Usage,
+        b'f' => Outcome::NoFile(Text::fixed("/s.conf")),
+        b'r' => Outcome::Refused(Text::fixed("1 Ini 2 BadLine 1")),
+        b'3' => Outcome::NoMemory,
+        b'4' => Outcome::WorldFailed,
+        b'5' => Outcome::InputEnded,
+        b'6' => Outcome::Full,
+        b'7' => Outcome::Unwritten,
+        b'8' => Outcome::Unreadable(Text::fixed("/d/*.ini")),
+        _ => Outcome::Misplaced(u64::MAX),
+    }
+}
+
+/// A sink that takes 7 bytes at a time, and whose call of this number fails.
+fn sink(alloc: Global, call: u64) -> Result<ListSink, AllocError> {
+    let mut failing = Vec::new(alloc);
+    failing.push(call)?;
+    Ok(ListSink::new(alloc, 7, failing))
+}
+
+#[test]
+fn each_outcome_leaves_its_line(rt: HostRuntime) {
+    for (letter, status, line) in OUTCOMES {
+        let outcome = outcome_of(letter);
+        let mut out = sink(rt.alloc(), 0).expect(&rt, "ample memory");
+        let told = outcome.tell(rt.alloc(), &mut out);
+        assert_eq!(&rt; told, status, "{letter}");
+        let written = String::from_utf8_lossy(rt.alloc(), out.written()).expect(&rt, "memory");
+        assert_eq!(&rt; written.as_str(), line);
+    }
+}
+
+#[test]
+fn a_line_that_cannot_be_written_gives_7(rt: HostRuntime) {
+    for (letter, status, line) in OUTCOMES {
+        let outcome = outcome_of(letter);
+        let mut out = sink(rt.alloc(), 2).expect(&rt, "ample memory");
+        let told = outcome.tell(rt.alloc(), &mut out);
+        let expected = if line.is_empty() { status } else { 7 };
+        assert_eq!(&rt; told, expected, "{letter}");
+        let length = if line.is_empty() { 0usize } else { 7 };
+        assert!(&rt; out.written().len() == length, "{letter}");
+    }
+}

@@ -1,0 +1,147 @@
+//! Sizes that are read from shelves, worked by hand: the log files `/e`, `/m` and `/p` in this order, one of which two processes
+//! write.
+
+use std::alloc::{AllocError, Global};
+use std::process::Abort;
+use sv_base::config::{ClientSpec, Config};
+use sv_base::groups::Groups;
+use sv_base::items::Items;
+use sv_base::number::{Backups, CaptureBytes, Retries, Seconds};
+use sv_base::signal::Signal;
+use sv_base::spec::{GroupSpec, LogSpec, Spec};
+use sv_base::state::{Autorestart, Level};
+use sv_base::{Bytes, Text};
+use sv_out::MapShelf;
+use sv_sizes::{SizesFault, sizes_of};
+
+/// What is told where the call of this number fails; with none all sizes are.
+const TOLD: [(u64, &str); 4] = [
+    (0, "/e=0 /m=3 /p=10"),
+    (1, "failed /e"),
+    (2, "failed /m"),
+    (3, "failed /p"),
+];
+
+fn log(rt: &impl Abort, file: Option<&'static str>) -> LogSpec {
+    LogSpec {
+        file: file.map(|file| Text::fixed(file)),
+        maxbytes: 0,
+        backups: Backups::new(0).expect(rt, "a number of backups"),
+        capture: CaptureBytes::least(),
+        events: false,
+    }
+}
+
+/// A process that logs to `/p`, and to this file what it writes to its stderr.
+fn process(rt: &impl Abort, alloc: Global, stderr: Option<&'static str>) -> Spec {
+    Spec {
+        group: Text::fixed("g"),
+        name: Text::fixed("p"),
+        words: Items::new(alloc),
+        priority: 999,
+        autostart: true,
+        startsecs: Seconds::least(),
+        startretries: Retries::least(),
+        autorestart: Autorestart::Never,
+        exitcodes: Items::new(alloc),
+        stopsignal: Signal::Term,
+        stopwaitsecs: Seconds::least(),
+        stopasgroup: false,
+        killasgroup: false,
+        redirect_stderr: false,
+        stdout: log(rt, Some("/p")),
+        stderr: log(rt, stderr),
+        environment: Items::new(alloc),
+        directory: Text::fixed(""),
+        umask: Text::fixed(""),
+        user: Text::fixed(""),
+    }
+}
+
+fn group(
+    rt: &impl Abort,
+    alloc: Global,
+    name: &'static str,
+    stderr: Option<&'static str>,
+) -> GroupSpec {
+    let mut members = Items::new(alloc);
+    members
+        .push(process(rt, alloc, stderr))
+        .expect(rt, "ample memory");
+    GroupSpec {
+        name: Text::fixed(name),
+        priority: 999,
+        members,
+        pool: None,
+    }
+}
+
+fn config(rt: &impl Abort, alloc: Global) -> Config {
+    let mut groups = Vec::new(alloc);
+    groups
+        .push(group(rt, alloc, "g", Some("/e")))
+        .expect(rt, "ample memory");
+    groups
+        .push(group(rt, alloc, "h", None))
+        .expect(rt, "ample memory");
+    Config {
+        identifier: Text::fixed("sv"),
+        main: log(rt, Some("/m")),
+        level: Level::Info,
+        groups: Groups::new(groups).expect(rt, "a roster"),
+        servers: Items::new(alloc),
+        client: ClientSpec {
+            url: Text::fixed(""),
+            username: Text::fixed(""),
+            password: Text::fixed(""),
+        },
+        rpc: false,
+    }
+}
+
+/// A shelf with the files `/m` and `/p` and one that is no log, which fails at this call.
+fn shelf(alloc: Global, call: u64) -> Result<MapShelf, AllocError> {
+    let mut failing = Vec::new(alloc);
+    failing.push(call)?;
+    let mut shelf = MapShelf::new(alloc, failing);
+    for (name, held) in [("/m", "abc"), ("/p", "0123456789"), ("/x", "x")] {
+        shelf.set(
+            Text::from_str(alloc, name)?,
+            Bytes::from_slice(alloc, held.as_bytes())?,
+        )?;
+    }
+    Ok(shelf)
+}
+
+fn told(alloc: Global, config: &Config, shelf: &mut MapShelf) -> Result<String, AllocError> {
+    let mut text = String::new(alloc);
+    match sizes_of(alloc, config, shelf) {
+        Ok(sizes) => {
+            for (file, size) in sizes.as_slice() {
+                if !text.is_empty() {
+                    text.push(' ')?;
+                }
+                let file = file.as_str();
+                text.push_str(format!(in alloc; "{file}={size}")?.as_str())?;
+            }
+        }
+        Err(SizesFault::Failed(file)) => {
+            text.push_str("failed ")?;
+            text.push_str(file.as_str())?;
+        }
+        Err(SizesFault::OutOfMemory) => return Err(AllocError),
+    }
+    Ok(text)
+}
+
+#[test]
+fn each_log_file_is_asked_once(rt: HostRuntime) {
+    let config = config(&rt, rt.alloc());
+    for (call, expected) in TOLD {
+        let mut shelf = shelf(rt.alloc(), call).expect(&rt, "ample memory");
+        let text = told(rt.alloc(), &config, &mut shelf).expect(&rt, "ample memory");
+        assert_eq!(&rt; text.as_str(), expected, "{call}");
+        let failed = if call == 0 { 0 } else { 1 };
+        assert!(&rt; shelf.faults() == failed, "{call}");
+    }
+}

@@ -1,0 +1,42 @@
+//! Jobs that are handed to a gate in memory.
+
+use std::alloc::AllocError;
+use std::sync::Wait;
+use sv_gate::{Ready, hand};
+use sv_outside::{HoldGate, Job, JobWord, PumpEnd};
+
+/// A job that has nothing to do.
+#[derive(Drop)]
+struct Idle {}
+
+impl Job for Idle {
+    ghost use Rattle.std.specs.Prelude.{◌≡◌};
+    ghost use Rattle.sv_outside.specs.declared.jobs.JobWord.TheVariants.{Console};
+    ghost use Rattle.sv_outside.specs.declared.jobs.PumpEnd.TheVariants.{Ended};
+
+    ghost names = { λ j. Console };
+
+    ghost does = { λ j end k. end ≡ Ended };
+
+    fn word(&self) -> JobWord {
+        JobWord::Console
+    }
+
+    fn work<R: Wait>(&mut self, _rt: &R) -> PumpEnd {
+        PumpEnd::Ended
+    }
+}
+
+#[test]
+fn a_gate_keeps_jobs_while_it_has_room(rt: HostRuntime) -> Result<(), AllocError> {
+    let held: HoldGate<Idle> = HoldGate::new(rt.alloc(), 1, Vec::new(rt.alloc()))?;
+    let mut gate = Ready::new(held);
+    assert!(rt; hand(&mut gate, Idle {}));
+    assert!(rt; !hand(&mut gate, Idle {}));
+    let Err(mut back) = gate.start(Idle {}) else {
+        return Err(AllocError);
+    };
+    assert!(rt; back.word() == JobWord::Console);
+    assert!(rt; back.work(&rt) == PumpEnd::Ended);
+    Ok(())
+}

@@ -1,0 +1,29 @@
+//! The tests of `sv_child`, `sv_groups`, `sv_timers`, `sv_events`, `sv_pool`, `sv_pools`, `sv_dates`, `sv_logs`, `sv_files`,
+//! `sv_facts`, `sv_lines` and `sv_generate`, worked by hand: the parts of which the machine is made. A crate of their own, so that
+//! these are proved once.
+#![tactic(auto)]
+
+#[cfg(test)]
+mod child_tests;
+#[cfg(test)]
+mod dates_tests;
+#[cfg(test)]
+mod events_tests;
+#[cfg(test)]
+mod facts_tests;
+#[cfg(test)]
+mod files_tests;
+#[cfg(test)]
+mod generate_tests;
+#[cfg(test)]
+mod groups_tests;
+#[cfg(test)]
+mod lines_tests;
+#[cfg(test)]
+mod logs_tests;
+#[cfg(test)]
+mod pool_tests;
+#[cfg(test)]
+mod pools_tests;
+#[cfg(test)]
+mod timers_tests;

@@ -1,0 +1,204 @@
+//! Talks, worked by hand from the manual's protocol.
+
+use std::alloc::{AllocError, Global};
+use std::process::Abort;
+use sv_pipes::{ListenerTalk, TalkState, Token};
+
+// Each line is a talk, in steps that `|` divides. `^` sends an event. Every other step is a piece, in which `~` stands
+// for a line feed, then `>` and what is told: `R` for Ready, `=` with the bytes for a result, `!` for Wrong, and at
+// last the first letter of the state.
+const TALKS: &str = "\
+READY~>RR|^|RESULT 2~OK>=OKA|READY~>RR
+READY~>RR|^|RESULT 2~OKREADY~>=OKRR
+READY~>RR|^|RESULT 4~FAIL>=FAILA
+READY~>RR|^|RESULT 0~>=A|READY~>RR
+READY~>RR|^|RESULT 0000002~OK>=OKA
+READY~>RR|^|RESULT 1~~>=~A
+READY~>RR|^|RESULT 1048576~>B
+READY~>RR|^|RESULT >B|1>B|0>B|4>B|8>B|5>B|7>B|7>!U|~READY~>U
+READY~>RR|^|RESULT 000000>B|0>B|1>!U
+READY~>RR|^|RESULT 9999999>!U
+READY~>RR|^|RESULT ~>!U
+READY~>RR|^|RESULT x>!U
+READY~>RR|^|RESULT 2~O>B|K>=OKA
+READY~>RR|^|RESULT 2~OKRESULT>=OK!U
+READY~>RR|^|READY~>!U
+READY~RESULT 2~OK>R!U|READY~>U
+READY~>RR|~>!U|READY~>U
+READYREADY~>!U|READY~>U
+READY >!U
+READ>A|Y>A|~>RR
+RESULT 2~OK>!U
+ready~>!U
+>A
+";
+
+// Talks, in which `^` sends an event and `~` stands for a line feed, and how many of their bytes aren't decided yet.
+const HELD: [(&str, u64); 15] = [
+    ("", 0),
+    ("READ", 4),
+    ("READY", 5),
+    ("READY~", 0),
+    ("READY~^", 0),
+    ("READY~^RESULT", 6),
+    ("READY~^RESULT ", 7),
+    ("READY~^RESULT 12", 9),
+    ("READY~^RESULT 12~", 10),
+    ("READY~^RESULT 12~hello", 15),
+    ("READY~^RESULT 0000002~O", 16),
+    ("READY~^RESULT 2~OK", 0),
+    ("READY~^RESULT 0~", 0),
+    ("READY~^RESULT 2~OKREA", 3),
+    ("READY~^RESUME", 0),
+];
+
+// A talk of 23 bytes, in which an event is sent behind the sixth.
+const TALK: &str = "READY\nRESULT 2\nOKREADY\n";
+
+/// Adds what is told to a text.
+fn tell(told: &mut String, tokens: &[Token]) -> Result<(), AllocError> {
+    for token in tokens {
+        match token {
+            Token::Ready => told.push('R')?,
+            Token::Wrong => told.push('!')?,
+            Token::Result(body) => {
+                told.push('=')?;
+                for byte in body.as_slice() {
+                    told.push(if *byte == b'\n' {
+                        '~'
+                    } else {
+                        char::from(*byte)
+                    })?;
+                }
+            }
+        }
+    }
+    Ok(())
+}
+
+fn letter(state: TalkState) -> char {
+    match state {
+        TalkState::Acknowledged => 'A',
+        TalkState::Ready => 'R',
+        TalkState::Busy => 'B',
+        TalkState::Unknown => 'U',
+    }
+}
+
+fn bytes_of(rt: &impl Abort, alloc: Global, text: &str) -> Vec<u8> {
+    let mut bytes = Vec::new(alloc);
+    for byte in text.as_bytes() {
+        bytes
+            .push(if *byte == b'~' { b'\n' } else { *byte })
+            .expect(rt, "ample memory");
+    }
+    bytes
+}
+
+fn feed(rt: &impl Abort, alloc: Global, talk: &mut ListenerTalk, piece: &[u8], told: &mut String) {
+    let tokens = talk.feed(alloc, piece).expect(rt, "ample memory");
+    tell(told, tokens.as_slice()).expect(rt, "ample memory");
+}
+
+fn send(rt: &impl Abort, talk: &mut ListenerTalk) {
+    assert!(rt; talk.state() == TalkState::Ready);
+    talk.sent();
+}
+
+fn play(rt: &impl Abort, alloc: Global, line: &str) {
+    let mut talk = ListenerTalk::new(alloc);
+    for step in line.split('|') {
+        if step == "^" {
+            send(rt, &mut talk);
+        } else {
+            let (piece, expected) = step.split_once('>').expect(rt, "a piece and what is told");
+            let piece = bytes_of(rt, alloc, piece);
+            let mut told = String::new(alloc);
+            feed(rt, alloc, &mut talk, piece.as_slice(), &mut told);
+            told.push(letter(talk.state())).expect(rt, "ample memory");
+            assert_eq!(rt; told.as_str(), expected);
+        }
+    }
+}
+
+/// So many bytes of this talk aren't decided yet.
+fn check_held(rt: &impl Abort, alloc: Global, text: &str, expected: u64) {
+    let mut talk = ListenerTalk::new(alloc);
+    let mut told = String::new(alloc);
+    let mut has_begun = false;
+    for piece in text.split('^') {
+        if has_begun {
+            send(rt, &mut talk);
+        }
+        has_begun = true;
+        let piece = bytes_of(rt, alloc, piece);
+        feed(rt, alloc, &mut talk, piece.as_slice(), &mut told);
+    }
+    assert_eq!(rt; talk.held(), expected);
+}
+
+/// The worked talk, cut behind so many bytes, and where the event is sent.
+fn play_cut(rt: &impl Abort, alloc: Global, first: usize, second: usize) {
+    let mut talk = ListenerTalk::new(alloc);
+    let mut told = String::new(alloc);
+    let mut piece = Vec::new(alloc);
+    let mut count = 0usize;
+    for byte in TALK.as_bytes() {
+        piece.push(*byte).expect(rt, "ample memory");
+        count = count.saturating_add(1);
+        if count == first || count == second || count == 6 || count == 23 {
+            feed(rt, alloc, &mut talk, piece.as_slice(), &mut told);
+            piece.clear();
+        }
+        if count == 6 {
+            send(rt, &mut talk);
+        }
+    }
+    told.push(letter(talk.state())).expect(rt, "ample memory");
+    assert_eq!(rt; told.as_str(), "R=OKRR");
+}
+
+fn longest_result(rt: &impl Abort, alloc: Global) {
+    let mut talk = ListenerTalk::new(alloc);
+    let mut told = String::new(alloc);
+    feed(rt, alloc, &mut talk, b"READY\n", &mut told);
+    send(rt, &mut talk);
+    feed(rt, alloc, &mut talk, b"RESULT 1048576\n", &mut told);
+    let mut piece = Vec::new(alloc);
+    for _ in 0..65_536 {
+        piece.push(b'x').expect(rt, "ample memory");
+    }
+    assert_eq!(rt; talk.held(), 15);
+    for _ in 0..15 {
+        assert!(rt; talk.state() == TalkState::Busy);
+        feed(rt, alloc, &mut talk, piece.as_slice(), &mut told);
+    }
+    assert!(rt; piece.pop() == Some(b'x'));
+    feed(rt, alloc, &mut talk, piece.as_slice(), &mut told);
+    assert_eq!(rt; talk.held(), 1_048_590);
+    assert!(rt; talk.state() == TalkState::Busy);
+    feed(rt, alloc, &mut talk, b"x", &mut told);
+    assert!(rt; talk.state() == TalkState::Acknowledged);
+    assert_eq!(rt; talk.held(), 0);
+    assert_eq!(rt; told.as_str().len(), 1_048_578);
+}
+
+#[test]
+fn talks(rt: HostRuntime) {
+    for line in TALKS.lines() {
+        play(&rt, rt.alloc(), line);
+    }
+    for first in 0..24 {
+        for second in 0..24 {
+            play_cut(&rt, rt.alloc(), first, second);
+        }
+    }
+    longest_result(&rt, rt.alloc());
+}
+
+#[test]
+fn undecided_bytes(rt: HostRuntime) {
+    for row in &HELD {
+        check_held(&rt, rt.alloc(), row.0, row.1);
+    }
+}
