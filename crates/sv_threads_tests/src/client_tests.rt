@@ -65,7 +65,8 @@ fn serve_two<W: World>(rt: &impl Abort, alloc: Global, world: &mut W) -> Result<
 }
 
 /// The first client asks for a start, and the second one, once the child was started, for the daemon's state. The clock moves on only
-/// once the second client has its reply, and the first one gets its own only then; that ends the child, and the daemon.
+/// once the second client has its reply, or after 10,000 takes, and the first one gets its own only then; that ends the
+/// child, and the daemon.
 fn parts<R: Wait + std::time::Clock + Copy>(
     rt: R,
     alloc: Global,
@@ -113,16 +114,8 @@ fn parts<R: Wait + std::time::Clock + Copy>(
             until: Some(until_daemon),
             source: source(alloc, "signal TERM\n")?,
         },
-        ticker: StageClock {
-            rt,
-            answered: None,
-            now: 0,
-        },
-        clock: StageClock {
-            rt,
-            answered: Some(answered),
-            now: 0,
-        },
+        ticker: StageClock::new(rt, None),
+        clock: StageClock::new(rt, Some(answered)),
         shelf: MapShelf::new(alloc, Vec::new(alloc)),
     })
 }

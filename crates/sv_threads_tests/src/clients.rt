@@ -15,12 +15,28 @@ use sv_out::sink::ListSink;
 use sv_out::source::{ListSource, Source};
 use sv_outside::{Clock, KillFault, Listen, SpawnFault, Spawner, Started, Waiter};
 
-/// A clock that stands at 0, and at 1,000 once it is told that the second client has its reply. A pause takes it a millisecond.
+/// After so many takes the clock goes on, though the second client has no reply.
+const MOST_TAKES: u64 = 10_000;
+
+/// A clock that stands at 0, and at 1,000 once it is told that the second client has its reply. Each take asks it once; so a
+/// daemon that serves one link after the other ends too, but with its replies in the other order. A pause takes it a millisecond.
 #[derive(Drop)]
 pub(crate) struct StageClock<R: Drop> {
-    pub(crate) rt: R,
-    pub(crate) answered: Option<Receiver<()>>,
-    pub(crate) now: u64,
+    rt: R,
+    answered: Option<Receiver<()>>,
+    takes: u64,
+    now: u64,
+}
+
+impl<R: Drop> StageClock<R> {
+    pub(crate) fn new(rt: R, answered: Option<Receiver<()>>) -> StageClock<R> {
+        StageClock {
+            rt,
+            answered,
+            takes: 0,
+            now: 0,
+        }
+    }
 }
 
 impl<R: Wait + std::time::Clock + Drop> Clock for StageClock<R> {
@@ -29,10 +45,12 @@ impl<R: Wait + std::time::Clock + Drop> Clock for StageClock<R> {
     ghost paused = { λ c. None };
 
     fn now(&mut self) -> Moment {
-        if let Some(answered) = &self.answered {
-            if answered.try_recv(&self.rt).is_ok() {
-                self.now = 1_000;
-            }
+        let Some(answered) = &self.answered else {
+            return Moment::zero();
+        };
+        self.takes = self.takes.saturating_add(1);
+        if answered.try_recv(&self.rt).is_ok() || self.takes == MOST_TAKES {
+            self.now = 1_000;
         }
         Moment::new(self.now).unwrap_or(Moment::zero())
     }
