@@ -62,14 +62,16 @@ pub fn each_log_has_a_history()
 /// daemon ended it. What becomes of the links is what these deeds make of them, and nothing else is sent to a client.
 pub fn each_link_has_a_history()
     ensures { (config : Config) (sizes : List (List ℕ × ℕ)) (host : Host) (inputs : List Input) →
-        LinksHaveAHistory (after (opening config sizes host) inputs) (deeds (opening config sizes host) inputs) }
+        LinksHaveAHistory (after (opening config sizes host) inputs)
+        (deeds (opening config sizes host) inputs) }
 {}
 
 /// Whatever the machine is told, what it sends on a link are the replies to the first requests of the link, in order, one to
 /// each; while the link is open, to all that were begun but the one in hand. None is sent behind one that closes the link,
 /// and none by a number that no link has.
 pub fn each_request_gets_one_reply()
-    ensures { (config : Config) (sizes : List (List ℕ × ℕ)) (host : Host) (inputs : List Input) (number : ℕ) →
+    ensures { (config : Config) (sizes : List (List ℕ × ℕ)) (host : Host)
+        (inputs : List Input) (number : ℕ) →
         RequestsGetReplies number (after (opening config sizes host) inputs)
         (deeds (opening config sizes host) inputs) }
 {}
@@ -77,7 +79,8 @@ pub fn each_request_gets_one_reply()
 /// Whatever the machine is told, at its halt every link is over, and each request of a link has its one reply, in order, unless the
 /// client ended the link, an order to it failed, the reply before closes it, or a call of it still waits.
 pub fn each_request_is_answered_at_the_halt()
-    ensures { (config : Config) (sizes : List (List ℕ × ℕ)) (host : Host) (inputs : List Input) (number : ℕ) →
+    ensures { (config : Config) (sizes : List (List ℕ × ℕ)) (host : Host)
+        (inputs : List Input) (number : ℕ) →
         let m = after (opening config sizes host) inputs in
         (now m).course.halted ≡ true
         → RequestsAreAnswered number m (deeds (opening config sizes host) inputs) }

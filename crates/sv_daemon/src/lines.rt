@@ -15,12 +15,14 @@ pub trait Lines {
     /// Adds what is told of an input.
     fn put_input(&self, input: &Input, text: &mut String) -> Result<(), AllocError>
         ensures { OnOk result
-            (string_bytes text.new ≡ string_bytes text.old ++ (texts self.now).of_input input.now) };
+            (string_bytes text.new
+            ≡ string_bytes text.old ++ (texts self.now).of_input input.now) };
 
     /// Adds what is told of an order.
     fn put_order(&self, order: &Order, text: &mut String) -> Result<(), AllocError>
         ensures { OnOk result
-            (string_bytes text.new ≡ string_bytes text.old ++ (texts self.now).of_order order.now) };
+            (string_bytes text.new
+            ≡ string_bytes text.old ++ (texts self.now).of_order order.now) };
 }
 
 /// Adds what is told of each of these orders, in their order.
@@ -30,7 +32,8 @@ pub(crate) fn put_orders<L: Lines>(
     text: &mut String,
 ) -> Result<(), AllocError>
     ensures { OnOk result
-        (string_bytes text.new ≡ string_bytes text.old ++ orders_text (L.texts lines.now) orders.now) }
+        (string_bytes text.new
+        ≡ string_bytes text.old ++ orders_text (L.texts lines.now) orders.now) }
 {
     for order in orders {
         lines.put_order(order, text)?;

@@ -49,7 +49,8 @@ pub fn serve<E: Engine + Drop, W: World, L: Lines, J: Sink>(
         (told (W.given world.new) (W.left world.new) (W.handed world.new) (J.written journal.new))
         result }
     ensures broken { result ≡ End.Broken → Rose (W.breaks world.old) (W.breaks world.new) }
-    ensures unwritten { result ≡ End.Unwritten → Rose (J.faults journal.old) (J.faults journal.new) }
+    ensures unwritten { result ≡ End.Unwritten
+        → Rose (J.faults journal.old) (J.faults journal.new) }
     ensures breaks { W.breaks world.old ≤ W.breaks world.new }
     ensures faults { W.faults world.old ≤ W.faults world.new }
     ensures later { J.faults journal.old ≤ J.faults journal.new }
@@ -88,7 +89,8 @@ fn take_one<E: Engine, W: World, L: Lines, J: Sink>(
         (told (W.given world.old) (W.left world.old) (W.handed world.old) (J.written journal.old))
         (told (W.given world.new) (W.left world.new) (W.handed world.new) (J.written journal.new))
         (input ∷ [])) }
-    ensures stops { IfErr result (λ end. (m : E.Model) → E.stands machine.old m → E.rules.halted m ≡ false
+    ensures stops { IfErr result (λ end. (m : E.Model) → E.stands machine.old m
+        → E.rules.halted m ≡ false
         → (count : ℕ) → number ≡ count + 1 → Stops E.rules (L.texts lines.now) count m
         (told (W.given world.old) (W.left world.old) (W.handed world.old) (J.written journal.old))
         (told (W.given world.new) (W.left world.new) (W.handed world.new) (J.written journal.new))

@@ -11,6 +11,7 @@ use sv_outside::Listen;
 
 /// Accepts so many times. Each link that comes is posted to the links of its side, and then an open to the loop; after
 /// a failure nothing is posted, and the next one is tried. It takes no memory.
+#[inline(never)]
 pub fn accept_links<L: Listen, R: Wait>(
     rt: &R,
     listen: &mut L,

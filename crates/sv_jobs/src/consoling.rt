@@ -22,6 +22,7 @@ const ROOM: usize = 4_096;
 /// of more than 4,096 bytes among them, and so are bytes behind the last line feed. Answers `Ended` at the end of input,
 /// `Failed` only where the source's count of faults rose, and `OutOfMemory` where memory was refused, which the last note
 /// tells.
+#[inline(never)]
 pub fn console<S: Source, R: Wait>(
     rt: &R,
     alloc: Global,

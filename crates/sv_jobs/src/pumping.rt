@@ -19,6 +19,7 @@ use sv_outside::PumpEnd;
 /// Posts each piece of the source, and then the end of the stream, also after a failure or where memory was refused; the
 /// refusal is told just before that. Answers `Ended` where the source is at its end, and `Failed` only where its count of
 /// faults rose. It may wait for the source and for the lane, and then it may never return.
+#[inline(never)]
 pub fn pump<S: Source, R: Wait>(
     rt: &R,
     alloc: Global,

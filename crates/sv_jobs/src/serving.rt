@@ -19,6 +19,7 @@ use sv_outside::PumpEnd;
 /// they were sent. At a Close and at the end of the input it ends with `Ended`, at a failure with `Failed`, only where
 /// the link's count of faults rose, and where memory was refused with `OutOfMemory`. Its last note is that the link is
 /// over; a refusal is told just before that.
+#[inline(never)]
 pub fn serve_link<K: Link, R: Wait>(
     rt: &R,
     alloc: Global,

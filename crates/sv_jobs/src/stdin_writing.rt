@@ -14,6 +14,7 @@ use sv_outside::PumpEnd;
 /// Writes the bytes of each word that it takes, and posts that they were written; at a Close it ends, with `Ended`. A
 /// failed write ends it with `Failed`, only where the sink's count of faults rose. Its last note tells that nothing more
 /// is written. It takes no memory.
+#[inline(never)]
 pub fn write_stdin<K: Sink, R: Wait>(
     rt: &R,
     sink: &mut K,

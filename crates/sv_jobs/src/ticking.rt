@@ -13,6 +13,7 @@ use sv_outside::Clock;
 const SECOND: u32 = 1_000;
 
 /// Pauses for a second and then posts a tick, so many times. It takes no memory.
+#[inline(never)]
 pub fn ticker<C: Clock, R: Wait>(rt: &R, clock: &mut C, turns: u64, poster: &mut Poster<Note>)
     ensures paused { GrowsWhileTold (C.paused clock.old) (C.paused clock.new)
         (replicate turns 1000) }

@@ -12,6 +12,7 @@ use sv_outside::{PumpEnd, Waiter};
 
 /// Waits for the end of a process and posts it; where the waiter failed, an exit with the code 255. Answers `Failed`
 /// exactly then, and so only where the waiter's count of faults rose. It takes no memory.
+#[inline(never)]
 pub fn watch<W: Waiter, R: Wait>(
     rt: &R,
     waiter: &mut W,

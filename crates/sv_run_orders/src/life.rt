@@ -35,7 +35,8 @@ impl Life {
 
     /// A run that was just started.
     pub fn new(run: Run, pid: Pid, words: Poster<StdinWord>) -> Life
-        ensures { result ≡ record { run = run; pid = pid; words = words; unwritten = 0; closed = false } }
+        ensures { result
+            ≡ record { run = run; pid = pid; words = words; unwritten = 0; closed = false } }
     {
         Life {
             run,

@@ -84,8 +84,16 @@ impl<
               links = self.new.links;
               answer = self.new.answer;
             })
-            (record { number = self.old.number; failures = self.old.failures.items; faults = self.old.faults })
-            (record { number = self.new.number; failures = self.new.failures.items; faults = self.new.faults })
+            (record {
+              number = self.old.number;
+              failures = self.old.failures.items;
+              faults = self.old.faults;
+            })
+            (record {
+              number = self.new.number;
+              failures = self.new.failures.items;
+              faults = self.new.faults;
+            })
             result }
         ensures notes { self.new.notes ≡ self.old.notes }
         ensures later { self.old.faults ≤ self.new.faults }
@@ -137,7 +145,8 @@ impl<
     #[tactic(auto, using(crate::proofs::Inputs::gives_ok, crate::proofs::Inputs::gives_err, crate::proofs::Inputs::was_told, crate::proofs::Failures::still_told))]
     fn next(&mut self, _alloc: Global) -> Result<Input, NextFault>
         ensures left { Takes None None result }
-        ensures failure { IfOk result (WasToFail (λ n. tells n self.old.failures.items) self.old.number) }
+        ensures failure { IfOk result (WasToFail (λ n. tells n self.old.failures.items)
+            self.old.number) }
         ensures failures { (n : ℕ) → tells n self.new.failures.items ≡ true
             → tells n self.old.failures.items ≡ true }
         ensures breaks { RisesWhere 0 0 (IsBroken result) }
@@ -156,7 +165,8 @@ impl<
     fn perform(&mut self, alloc: Global, order: &Order) -> Result<(), AllocError>
         ensures number { OnOk result (self.new.number ≡ (self.old.number + 1) % 2 ^ 64) }
         ensures failures { (n : ℕ) → tells n self.new.failures.items ≡ true
-            → MayFail (λ m. tells m self.old.failures.items) self.old.number self.old.faults self.new.faults n }
+            → MayFail (λ m. tells m self.old.failures.items) self.old.number
+            self.old.faults self.new.faults n }
         ensures faults { self.old.faults ≤ self.new.faults }
 
         // Each order is handed to its part, and counted where it failed.
@@ -177,8 +187,16 @@ impl<
               links = self.new.links;
               answer = self.new.answer;
             })
-            (record { number = self.old.number; failures = self.old.failures.items; faults = self.old.faults })
-            (record { number = self.new.number; failures = self.new.failures.items; faults = self.new.faults })
+            (record {
+              number = self.old.number;
+              failures = self.old.failures.items;
+              faults = self.old.faults;
+            })
+            (record {
+              number = self.new.number;
+              failures = self.new.failures.items;
+              faults = self.new.faults;
+            })
             result }
     {
         self.hand_over(alloc, order)
