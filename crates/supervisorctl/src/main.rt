@@ -1,16 +1,13 @@
 //! `supervisorctl`: asks the daemon's server what the words say, and prints what it answers.
 #![tactic(auto)]
 
-mod machine;
-
-use machine::host_of;
-use std::alloc::{AllocError, Global};
-use std::io::ErrorKind;
+use std::alloc::AllocError;
 use std::process::ExitCode;
-use std::{env, io};
-use sv_base::Text;
+use std::{env, io, process};
+use sv_base::{Host, Text};
 use sv_ctl::control;
-use sv_os::{OsDial, OsShelf, ReadSource, WriteSink};
+use sv_options::{Options, options_of, parted};
+use sv_os::{OsDial, OsShelf, ReadSource, WriteSink, host_of, words_of, words_untold};
 
 /// The status where memory was refused.
 const NO_MEMORY: u8 = 6;
@@ -23,7 +20,7 @@ fn main(rt: HostRuntime) -> ExitCode {
     let Ok(words) = words else {
         return ExitCode::from(NO_MEMORY);
     };
-    let Ok(host) = host_of(&rt, words.as_slice()) else {
+    let Ok(host) = machine_of(&rt, words.as_slice()) else {
         return ExitCode::from(NO_MEMORY);
     };
     let mut shelf = OsShelf::new(rt);
@@ -41,23 +38,16 @@ fn main(rt: HostRuntime) -> ExitCode {
     ))
 }
 
-/// The words behind the program's name.
-fn words_of(alloc: Global, arguments: env::Args<Global>) -> Result<Vec<Text>, AllocError> {
-    let mut words = Vec::new(alloc);
-    for argument in arguments.skip(1) {
-        words.push(Text::from_string(argument))?;
-    }
-    Ok(words)
-}
-
-/// Words that can't be read, not being UTF-8, are refused as a call for help is, unless memory was.
-fn words_untold(alloc: Global, kind: ErrorKind) -> Result<Vec<Text>, AllocError> {
-    match kind {
-        ErrorKind::OutOfMemory => Err(AllocError),
-        _ => {
-            let mut words = Vec::new(alloc);
-            words.push(Text::fixed("-h"))?;
-            Ok(words)
-        }
+/// The machine, with the configuration file that the words name.
+fn machine_of(rt: &HostRuntime, words: &[Text]) -> Result<Host, AllocError> {
+    let pid = process::id(rt.process());
+    match &options_of(rt.alloc(), parted(words).0)? {
+        Some(
+            Options {
+                file: Some(file),
+                ..
+            },
+        ) => host_of(rt, pid, Some(file.as_str())),
+        _ => host_of(rt, pid, None),
     }
 }

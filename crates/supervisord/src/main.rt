@@ -6,12 +6,10 @@ mod serving;
 
 use crossbeam_channel::Receiver;
 use serving::{Daemon, DaemonJob, run};
-use std::alloc::{AllocError, Global};
-use std::io::ErrorKind;
+use std::alloc::AllocError;
 use std::process::ExitCode;
 use std::{env, process, thread};
-use sv_base::Text;
-use sv_os::{Errand, LinksAtWork, OsGate, WriteSink, receive_and_work};
+use sv_os::{Errand, LinksAtWork, OsGate, WriteSink, receive_and_work, words_of, words_untold};
 
 /// The status where memory was refused.
 const NO_MEMORY: u8 = 3;
@@ -45,26 +43,5 @@ fn main(rt: HostRuntime) -> ExitCode {
     match run(rt, addresses, gate, &links, &mut daemon) {
         Ok(status) => ExitCode::from(status),
         Err(AllocError) => ExitCode::from(NO_MEMORY),
-    }
-}
-
-/// The words behind the program's name.
-fn words_of(alloc: Global, arguments: env::Args<Global>) -> Result<Vec<Text>, AllocError> {
-    let mut words = Vec::new(alloc);
-    for argument in arguments.skip(1) {
-        words.push(Text::from_string(argument))?;
-    }
-    Ok(words)
-}
-
-/// Words that can't be read, not being UTF-8, are refused as a call for help is, unless memory was.
-fn words_untold(alloc: Global, kind: ErrorKind) -> Result<Vec<Text>, AllocError> {
-    match kind {
-        ErrorKind::OutOfMemory => Err(AllocError),
-        _ => {
-            let mut words = Vec::new(alloc);
-            words.push(Text::fixed("-h"))?;
-            Ok(words)
-        }
     }
 }

@@ -1,5 +1,6 @@
 //! The thin edge to the system: streams over std's readers and writers, a shelf over files, a dial and listeners over TCP
-//! and Unix sockets, programs, threads, the clock. Each counts its errors and tells nothing of the content.
+//! and Unix sockets, programs, threads, the clock, the machine and the words of a call. Each counts its errors; of the content
+//! a stream tells what its reader or writer does, and the others nothing.
 #![tactic(auto)]
 
 mod clock;
@@ -17,6 +18,7 @@ mod program_tests;
 mod programs;
 mod sockets;
 mod streams;
+mod words;
 
 pub use clock::OsClock;
 pub use disk::OsShelf;
@@ -26,3 +28,4 @@ pub use listening::{OsListen, opening_line, remove_socket};
 pub use programs::{OsSpawner, OsWaiter};
 pub use sockets::{OsDial, OsLink};
 pub use streams::{ReadSource, WriteSink};
+pub use words::{words_of, words_untold};

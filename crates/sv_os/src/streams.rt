@@ -1,6 +1,7 @@
 //! Streams over std's readers and writers.
-ghost use Rattle.std.specs.Prelude.{◌≡◌, None};
+ghost use Rattle.std.specs.Prelude.{◌≡◌};
 ghost use Rattle.std.specs.Io.{ReadsAtMost, WritesAtMost};
+ghost use Rattle.std.specs.Io.KnownBytes.{ReadConsumes, WriteAppends};
 
 use std::io;
 use std::io::{ErrorKind, Read, Write};
@@ -8,7 +9,7 @@ use sv_out::failed::Failed;
 use sv_out::sink::Sink;
 use sv_out::source::Source;
 
-/// A source over a reader. It counts each error as a fault, and tells nothing of the content.
+/// A source over a reader. It has left what the reader tells to have left, and counts each error as a fault.
 #[derive(Drop)]
 pub struct ReadSource<R> {
     inner: R,
@@ -16,16 +17,17 @@ pub struct ReadSource<R> {
 }
 
 impl<R: Read> ReadSource<R> {
-    /// A source that has not failed yet.
+    /// A source over this reader that has not failed yet.
     pub fn new(inner: R) -> ReadSource<R>
-        ensures { result.faults ≡ 0 }
+        ensures left { ⟦<ReadSource<R> as Source>⟧.left result ≡ R.remaining inner }
+        ensures faults { ⟦<ReadSource<R> as Source>⟧.faults result ≡ 0 }
     {
         ReadSource { inner, faults: 0 }
     }
 }
 
 impl<R: Read> Source for ReadSource<R> {
-    ghost left = { λ _. None };
+    ghost left = { λ s. R.remaining s.inner };
 
     ghost faults = { λ s. s.faults };
 
@@ -40,8 +42,8 @@ impl<R: Read> Source for ReadSource<R> {
     }
 }
 
-/// A sink over a writer. It counts each error, and each write that takes nothing, as a fault, and tells nothing of the
-/// content.
+/// A sink over a writer. To it was written what the writer tells to hold. It counts each error, and each write that takes
+/// nothing, as a fault.
 #[derive(Drop)]
 pub struct WriteSink<W> {
     inner: W,
@@ -49,16 +51,17 @@ pub struct WriteSink<W> {
 }
 
 impl<W: Write> WriteSink<W> {
-    /// A sink that has not failed yet.
+    /// A sink over this writer that has not failed yet.
     pub fn new(inner: W) -> WriteSink<W>
-        ensures { result.faults ≡ 0 }
+        ensures written { ⟦<WriteSink<W> as Sink>⟧.written result ≡ W.contents inner }
+        ensures faults { ⟦<WriteSink<W> as Sink>⟧.faults result ≡ 0 }
     {
         WriteSink { inner, faults: 0 }
     }
 }
 
 impl<W: Write> Sink for WriteSink<W> {
-    ghost written = { λ _. None };
+    ghost written = { λ s. W.contents s.inner };
 
     ghost faults = { λ s. s.faults };
 
@@ -79,9 +82,11 @@ impl<W: Write> Sink for WriteSink<W> {
 /// How often a call is made that is interrupted each time.
 const TRIES: u32 = 1_000;
 
-/// Reads once; a call that was interrupted is made again.
+/// Reads once; a call that was interrupted has taken nothing, and is made again.
 pub(crate) fn read_some<R: Read>(reader: &mut R, into: &mut [u8]) -> io::Result<usize>
-    ensures { ReadsAtMost result into.new }
+    ensures bound { ReadsAtMost result into.new }
+    ensures bytes { ReadConsumes (R.remaining reader.old) (R.remaining reader.new)
+        result into.new }
 {
     for _ in 0..TRIES {
         match reader.read(into) {
@@ -92,9 +97,11 @@ pub(crate) fn read_some<R: Read>(reader: &mut R, into: &mut [u8]) -> io::Result<
     Err(io::Error::from(ErrorKind::Interrupted))
 }
 
-/// Writes once; a call that was interrupted is made again.
+/// Writes once; a call that was interrupted has taken nothing, and is made again.
 pub(crate) fn write_some<W: Write>(writer: &mut W, piece: &[u8]) -> io::Result<usize>
-    ensures { WritesAtMost result piece.now }
+    ensures bound { WritesAtMost result piece.now }
+    ensures bytes { WriteAppends (W.contents writer.old) (W.contents writer.new)
+        result piece.now }
 {
     for _ in 0..TRIES {
         match writer.write(piece) {

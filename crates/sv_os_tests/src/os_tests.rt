@@ -9,7 +9,7 @@ use std::test::Fail;
 use std::{env, fs, io, process};
 use sv_base::{Place, Text};
 use sv_os::{OsDial, OsShelf, ReadSource, WriteSink};
-use sv_out::sink::Sink;
+use sv_out::sink::{Sink, write_all};
 use sv_out::source::Source;
 use sv_out::{Dial, DialFault, Link, Shelf, ShelfFault};
 
@@ -158,5 +158,66 @@ fn streams_come_through(rt: HostRuntime) -> Result<(), Fail> {
     let mut sink = WriteSink::new(Vec::new(rt.alloc()));
     let count = sink.write(b"xyz").expect(&rt, "a piece is written");
     assert!(rt; count == 3);
+    Ok(())
+}
+
+/// A reader of these bytes that gives two at a time at most, and whose every other call is interrupted.
+#[derive(Drop)]
+struct HaltingReader<'a> {
+    left: &'a [u8],
+    is_interrupted: bool,
+}
+
+impl Read for HaltingReader<'_> {
+    fn read(&mut self, into: &mut [u8]) -> io::Result<usize> {
+        self.is_interrupted = !self.is_interrupted;
+        if self.is_interrupted {
+            return Err(io::Error::from(ErrorKind::Interrupted));
+        }
+        let most = into.len().min(2);
+        self.left.read(&mut into[..most])
+    }
+}
+
+/// A writer that keeps what it took, takes three bytes at a time at most, and whose every other call is interrupted.
+#[derive(Drop)]
+struct HaltingWriter {
+    taken: Vec<u8>,
+    is_interrupted: bool,
+}
+
+impl Write for HaltingWriter {
+    fn write(&mut self, piece: &[u8]) -> io::Result<usize> {
+        self.is_interrupted = !self.is_interrupted;
+        if self.is_interrupted {
+            return Err(io::Error::from(ErrorKind::Interrupted));
+        }
+        let most = piece.len().min(3);
+        self.taken.write(&piece[..most])
+    }
+
+    fn flush(&mut self) -> io::Result<()> {
+        Ok(())
+    }
+}
+
+#[test]
+fn short_and_interrupted_calls_lose_no_byte(rt: HostRuntime) -> Result<(), Fail> {
+    let text = b"each byte comes through, once and in its order".as_slice();
+    let mut source = ReadSource::new(HaltingReader {
+        left: text,
+        is_interrupted: false,
+    });
+    let mut writer = HaltingWriter {
+        taken: Vec::new(rt.alloc()),
+        is_interrupted: false,
+    };
+    let mut sink = WriteSink::new(&mut writer);
+    let mut buffer = [0u8; 7];
+    for _ in 0..text.len() {
+        let count = source.read(&mut buffer).expect(&rt, "bytes are read");
+        write_all(&mut sink, &buffer[..count]).expect(&rt, "bytes are written");
+    }
+    assert!(rt; writer.taken.as_slice() == text);
     Ok(())
 }
