@@ -1,5 +1,7 @@
 //! `supervisorctl`: asks the daemon's server what the words say, and prints what it answers.
 #![tactic(auto)]
+ghost use Rattle.std.specs.Prelude.{◌≡◌, IfOk, map, drop, string_bytes};
+ghost use Rattle.std.specs.Vec.Iter.{into_iter_items};
 
 mod machine;
 
@@ -41,8 +43,11 @@ fn main(rt: HostRuntime) -> ExitCode {
     ))
 }
 
-/// The words behind the program's name.
-fn words_of(alloc: Global, arguments: env::Args<Global>) -> Result<Vec<Text>, AllocError> {
+/// The words behind the program's name, in their order.
+fn words_of(alloc: Global, arguments: env::Args<Global>) -> Result<Vec<Text>, AllocError>
+    ensures { IfOk result (λ words. words.items
+        ≡ map string_bytes (drop 1 (into_iter_items arguments))) }
+{
     let mut words = Vec::new(alloc);
     for argument in arguments.skip(1) {
         words.push(Text::from_string(argument))?;
