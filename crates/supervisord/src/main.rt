@@ -7,6 +7,7 @@ mod serving;
 use crossbeam_channel::Receiver;
 use serving::{Daemon, DaemonJob, run};
 use std::alloc::AllocError;
+use std::io::Stdin;
 use std::process::ExitCode;
 use std::{env, process, thread};
 use sv_os::{Errand, LinksAtWork, OsGate, WriteSink, receive_and_work, words_of, words_untold};
@@ -35,12 +36,12 @@ fn main(rt: HostRuntime) -> ExitCode {
         rt,
         rt.alloc(),
         of_gate,
-        move |from: Receiver<Errand<DaemonJob<HostRuntime>>>| {
+        move |from: Receiver<Errand<DaemonJob<HostRuntime, Stdin>>>| {
             thread::spawn(&rt, move || receive_and_work(&rt, &from)).is_ok()
         },
     );
     let mut daemon = daemon;
-    match run(rt, addresses, gate, &links, &mut daemon) {
+    match run(rt, rt.stdin(), addresses, gate, &links, &mut daemon) {
         Ok(status) => ExitCode::from(status),
         Err(AllocError) => ExitCode::from(NO_MEMORY),
     }

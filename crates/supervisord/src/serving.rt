@@ -2,7 +2,7 @@
 
 use crate::addresses::{Addresses, addresses_of, remove};
 use std::alloc::{AllocError, Global};
-use std::io::Input;
+use std::io::Read;
 use std::net::Net;
 use std::process::Processes;
 use std::rt::Runtime;
@@ -23,14 +23,14 @@ use sv_world::World;
 /// How long the replies at the end may take, in milliseconds.
 const LAST_REPLIES: u32 = 500;
 
-/// Any job of the daemon.
-pub type DaemonJob<R> = AnyJob<
+/// Any job of the daemon, whose console is such a reader. A job is moved to its thread by value, so the reader has no buffer in itself.
+pub type DaemonJob<R, I> = AnyJob<
     <OsSpawner<R> as Spawner>::Stdin,
     <OsSpawner<R> as Spawner>::Stdout,
     <OsSpawner<R> as Spawner>::Stderr,
     <OsSpawner<R> as Spawner>::Waiter,
     OsListen<R>,
-    ReadSource<<R as Input>::Reader>,
+    ReadSource<I>,
     OsClock<R>,
     NoBoard,
 >;
@@ -98,13 +98,16 @@ impl<R: Runtime + AllocGlobal + Copy, J: Sink, O: Sink> Course for Daemon<R, J, 
     }
 }
 
-/// Goes through a course over this machine, waits until the last replies are sent, and removes the socket's file: the status.
+/// Goes through a course over this machine and this console, waits until the last replies are sent, and removes the socket's file: the
+/// status.
 pub fn run<
     R: Runtime + Net + Processes + AllocGlobal + Wait + Copy,
-    G: Gate<DaemonJob<R>> + Drop,
+    I: Read + Drop,
+    G: Gate<DaemonJob<R, I>> + Drop,
     D: Course,
 >(
     rt: R,
+    console: I,
     addresses: Addresses<R>,
     gate: G,
     links: &LinksAtWork,
@@ -119,7 +122,7 @@ pub fn run<
         OsSpawner::new(rt),
         inet,
         unix,
-        ReadSource::new(rt.reader()),
+        ReadSource::new(console),
         OsClock::new(rt),
         OsClock::new(rt),
         OsShelf::new(rt),
