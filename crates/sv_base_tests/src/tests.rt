@@ -1,6 +1,6 @@
 //! The words of tables, sizes and names, with what each stands for; and that calls succeed with ample memory.
 
-use std::alloc::{AllocError, AllocFailed, Global};
+use std::alloc::{AllocFailed, Global};
 use std::collections::HashMap;
 use std::process::Abort;
 use sv_base::{
@@ -95,20 +95,36 @@ const NAMES: [(&str, &str, Option<&str>); 8] = [
 
 #[test]
 fn reads_words(rt: HostRuntime) {
+    check_signals(&rt);
+    check_sizes(&rt);
+    check_truths(&rt);
+    check_kinds(&rt);
+    for (text, group, process) in NAMES {
+        check_name(&rt, rt.alloc(), text, group, process);
+    }
+}
+
+fn check_signals(rt: &impl Abort) {
     for (text, signal) in SIGNALS {
         assert!(rt; signal_of(text) == signal, "the signal of {text}");
     }
+}
+
+fn check_sizes(rt: &impl Abort) {
     for (text, size) in SIZES {
         assert!(rt; size_of_text(text) == size, "the size of {text}");
     }
+}
+
+fn check_truths(rt: &impl Abort) {
     for (text, truth) in TRUTHS {
         assert!(rt; truth_of(text) == truth, "the answer of {text}");
     }
+}
+
+fn check_kinds(rt: &impl Abort) {
     for (text, kind) in KINDS {
         assert!(rt; kind_of(text) == kind, "the kind of {text}");
-    }
-    for (text, group, process) in NAMES {
-        check_name(&rt, rt.alloc(), text, group, process);
     }
 }
 
@@ -142,54 +158,79 @@ fn moods_have_names_and_numbers(rt: HostRuntime) {
 
 #[test]
 fn succeeds_with_ample_memory(rt: HostRuntime) {
-    let made = copies(rt.alloc()).expect(&rt, "memory");
+    let made = copies(&rt, rt.alloc());
     assert!(rt; made == 3);
-    copies_of_a_server(rt.alloc()).expect(&rt, "memory");
-    copies_of_file_orders(rt.alloc()).expect(&rt, "memory");
-    let found = found_by_text(rt.alloc()).expect(&rt, "memory");
+    copies_of_a_server(&rt, rt.alloc());
+    copies_of_file_orders(&rt, rt.alloc());
+    let found = found_by_text(&rt, rt.alloc());
     assert!(rt; found == Some(7));
 }
 
-fn copies_of_a_server(alloc: Global) -> Result<(), AllocError> {
+fn copies_of_a_server(rt: &impl Abort, alloc: Global) {
     let server = ServerSpec {
-        place: Place::Inet(Text::from_str(alloc, "localhost")?, 9_001),
-        username: Text::from_str(alloc, "admin")?,
-        password: Password::Plain(Text::from_str(alloc, "secret")?),
+        place: Place::Inet(text(rt, alloc, "localhost"), 9_001),
+        username: text(rt, alloc, "admin"),
+        password: Password::Plain(text(rt, alloc, "secret")),
     };
-    let _server = server.clone()?;
-    let _place = Place::Unix(Text::from_str(alloc, "/run/s.sock")?).clone()?;
-    let _password = Password::Sha([7; 20]).clone()?;
+    let copy = server.clone().expect(rt, "memory");
+    drop(server);
+    copies_of_a_client(rt, alloc, copy.username);
+    let _place = Place::Unix(text(rt, alloc, "/run/s.sock"))
+        .clone()
+        .expect(rt, "memory");
+    let _password = Password::Sha([7; 20]).clone().expect(rt, "memory");
+}
+
+fn copies_of_a_client(rt: &impl Abort, alloc: Global, username: Text) {
     let client = ClientSpec {
-        url: Text::from_str(alloc, "http://localhost:9001")?,
-        username: server.username,
+        url: text(rt, alloc, "http://localhost:9001"),
+        username,
         password: Text::fixed(""),
     };
-    let _client = client.clone()?;
-    Ok(())
+    let _client = client.clone().expect(rt, "memory");
 }
 
-fn copies_of_file_orders(alloc: Global) -> Result<(), AllocError> {
-    let bytes = Bytes::from_slice(alloc, b"line\n")?;
-    let _append = FileOrder::Append(Text::fixed("a.log"), bytes).clone()?;
-    let _shift = FileOrder::Shift(Text::fixed("a.log"), Text::fixed("a.log.1")).clone()?;
-    let _fresh = FileOrder::Fresh(Text::fixed("a.log")).clone()?;
-    Ok(())
+fn text(rt: &impl Abort, alloc: Global, from: &str) -> Text {
+    Text::from_str(alloc, from).expect(rt, "memory")
 }
 
-fn found_by_text(alloc: Global) -> Result<Option<u32>, AllocFailed<(Text, u32)>> {
+fn copies_of_file_orders(rt: &impl Abort, alloc: Global) {
+    let bytes = Bytes::from_slice(alloc, b"line\n").expect(rt, "memory");
+    copy_of_a_file_order(rt, &FileOrder::Append(Text::fixed("a.log"), bytes));
+    copy_of_a_file_order(
+        rt,
+        &FileOrder::Shift(Text::fixed("a.log"), Text::fixed("a.log.1")),
+    );
+    copy_of_a_file_order(rt, &FileOrder::Fresh(Text::fixed("a.log")));
+}
+
+fn copy_of_a_file_order(rt: &impl Abort, order: &FileOrder) {
+    let _copy = order.clone().expect(rt, "memory");
+}
+
+fn found_by_text(rt: &impl Abort, alloc: Global) -> Option<u32> {
     let mut numbers = HashMap::new(alloc);
-    numbers.insert(Text::fixed("one"), 1)?;
-    numbers.insert(Text::fixed("seven"), 7)?;
-    Ok(numbers.get(&Text::fixed("seven")).copied())
+    let one: Result<Option<u32>, AllocFailed<(Text, u32)>> = numbers.insert(Text::fixed("one"), 1);
+    one.expect(rt, "memory");
+    let seven: Result<Option<u32>, AllocFailed<(Text, u32)>> = numbers.insert(
+        Text::fixed("seven"),
+        7,
+    );
+    seven.expect(rt, "memory");
+    numbers.get(&Text::fixed("seven")).copied()
 }
 
-fn copies(alloc: Global) -> Result<usize, AllocError> {
-    let text = Text::from_str(alloc, "cat")?;
-    let bytes = Bytes::from_slice(alloc, text.as_str().as_bytes())?;
-    let bytes = bytes.clone()?;
+fn copies(rt: &impl Abort, alloc: Global) -> usize {
+    let text = Text::from_str(alloc, "cat").expect(rt, "memory");
+    let bytes = Bytes::from_slice(alloc, text.as_str().as_bytes()).expect(rt, "memory");
+    let bytes = bytes.clone().expect(rt, "memory");
     let mut items = Items::new(alloc);
-    items.push(text.clone()?)?;
-    items.push(Text::fixed("dog").clone()?)?;
-    let items = items.clone()?;
-    Ok(items.as_slice().len() + bytes.as_slice().len() - 2)
+    items
+        .push(text.clone().expect(rt, "memory"))
+        .expect(rt, "memory");
+    items
+        .push(Text::fixed("dog").clone().expect(rt, "memory"))
+        .expect(rt, "memory");
+    let items = items.clone().expect(rt, "memory");
+    items.as_slice().len() + bytes.as_slice().len() - 2
 }

@@ -1,7 +1,7 @@
 //! Examples of whole configurations, and what they tell.
 
-use crate::tests::{host, order_said, spec_said};
-use std::alloc::{AllocError, Global};
+use crate::tests::{fault_said, host, order_said, put, words_said};
+use std::alloc::Global;
 use std::process::Abort;
 use sv_base::bytes::Bytes;
 use sv_base::config::{Config, Host};
@@ -173,73 +173,88 @@ const EXAMPLES: [Example; 4] = [
     },
 ];
 
-fn patterns_said(alloc: Global, host: &Host, text: &str) -> Result<String, AllocError> {
+fn patterns_said(rt: &impl Abort, alloc: Global, host: &Host, text: &str) -> String {
     let mut said = String::new(alloc);
     let patterns = match includes(alloc, text.as_bytes(), host) {
         Ok(patterns) => patterns,
         Err(_) => Vec::new(alloc),
     };
     for pattern in patterns.as_slice() {
-        said.push_str(pattern.as_str())?;
-        said.push('|')?;
+        put(rt, &mut said, pattern.as_str());
+        put(rt, &mut said, "|");
     }
-    Ok(said)
+    said
 }
 
 /// The configuration of a text and of one that it includes.
-fn configured(alloc: Global, host: &Host, text: &str, extra: &str) -> Result<Config, ConfFault> {
-    let bytes = Bytes::from_slice(alloc, extra.as_bytes())?;
+fn configured(
+    rt: &impl Abort,
+    alloc: Global,
+    host: &Host,
+    text: &str,
+    extra: &str,
+) -> Result<Config, ConfFault> {
+    let bytes = Bytes::from_slice(alloc, extra.as_bytes()).expect(rt, "ample memory");
     let mut included = Vec::new(alloc);
-    included.push((Text::fixed("extra"), bytes))?;
+    included
+        .push((Text::fixed("extra"), bytes))
+        .expect(rt, "ample memory");
     config(alloc, text.as_bytes(), included.as_slice(), host)
 }
 
 /// The start order, or the fault.
-fn order_of(alloc: Global, host: &Host, text: &str, extra: &str) -> Result<String, AllocError> {
-    match configured(alloc, host, text, extra) {
-        Ok(config) => order_said(alloc, &config),
-        Err(fault) => fault_said(alloc, &fault),
+fn order_of(rt: &impl Abort, alloc: Global, host: &Host, text: &str, extra: &str) -> String {
+    match configured(rt, alloc, host, text, extra) {
+        Ok(config) => order_said(rt, alloc, &config),
+        Err(fault) => fault_said(rt, alloc, &fault),
     }
 }
 
 /// The words of all processes in start order, or the fault.
-fn words_of(alloc: Global, host: &Host, text: &str, extra: &str) -> Result<String, AllocError> {
-    match configured(alloc, host, text, extra) {
-        Ok(config) => all_words_said(alloc, &config),
-        Err(fault) => fault_said(alloc, &fault),
+fn words_of(rt: &impl Abort, alloc: Global, host: &Host, text: &str, extra: &str) -> String {
+    match configured(rt, alloc, host, text, extra) {
+        Ok(config) => all_words_said(rt, alloc, &config),
+        Err(fault) => fault_said(rt, alloc, &fault),
     }
 }
 
-fn fault_said(alloc: Global, fault: &ConfFault) -> Result<String, AllocError> {
-    let text = fault.text(alloc)?;
-    String::from_str(alloc, text.as_str())
-}
-
-fn all_words_said(alloc: Global, config: &Config) -> Result<String, AllocError> {
+fn all_words_said(rt: &impl Abort, alloc: Global, config: &Config) -> String {
     let mut said = String::new(alloc);
     for group in config.groups.as_slice() {
         for member in group.members.as_slice() {
-            let words = spec_said(alloc, member, "words")?;
-            said.push_str(words.as_str())?;
-            said.push('~')?;
+            let words = words_said(rt, alloc, member);
+            put(rt, &mut said, words.as_str());
+            put(rt, &mut said, "~");
         }
     }
-    Ok(said)
+    said
 }
 
 fn example_row(rt: &impl Abort, alloc: Global, host: &Host, example: &Example) {
-    let patterns = patterns_said(alloc, host, example.text).expect(rt, "ample memory");
+    example_patterns(rt, alloc, host, example);
+    example_order(rt, alloc, host, example);
+    example_words(rt, alloc, host, example);
+}
+
+fn example_patterns(rt: &impl Abort, alloc: Global, host: &Host, example: &Example) {
+    let patterns = patterns_said(rt, alloc, host, example.text);
     assert_eq!(rt; patterns.as_str(), example.patterns, "the patterns");
-    let order = order_of(alloc, host, example.text, example.extra).expect(rt, "ample memory");
+}
+
+fn example_order(rt: &impl Abort, alloc: Global, host: &Host, example: &Example) {
+    let order = order_of(rt, alloc, host, example.text, example.extra);
     assert_eq!(rt; order.as_str(), example.order, "the start order");
-    let words = words_of(alloc, host, example.text, example.extra).expect(rt, "ample memory");
+}
+
+fn example_words(rt: &impl Abort, alloc: Global, host: &Host, example: &Example) {
+    let words = words_of(rt, alloc, host, example.text, example.extra);
     assert_eq!(rt; words.as_str(), example.words, "the words");
 }
 
 #[test]
 fn configurations_of_administrators(rt: HostRuntime) {
     let alloc = rt.alloc();
-    let host = host(alloc).expect(&rt, "ample memory");
+    let host = host(&rt, alloc);
     for example in EXAMPLES.as_slice() {
         example_row(&rt, alloc, &host, example);
     }

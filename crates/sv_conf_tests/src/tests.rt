@@ -3,15 +3,15 @@
 use std::alloc::{AllocError, Global};
 use std::process::Abort;
 use sv_base::bytes::Bytes;
-use sv_base::config::{Config, Host, Password, Place};
+use sv_base::config::{ClientSpec, Config, Host, Password, Place, ServerSpec};
 use sv_base::items::Items;
 use sv_base::moment::Moment;
-use sv_base::spec::{GroupSpec, LogSpec, Spec};
+use sv_base::spec::{GroupSpec, LogSpec, PoolSpec, Spec};
 use sv_base::text::Text;
 use sv_conf::config::config;
 use sv_conf::fault::ConfFault;
 
-/// A text and included texts behind `$`, a question, and its answer, or the fault. `~` stands for a line feed, a
+/// A text and included texts after `$`, a question, and its answer, or the fault. `~` stands for a line feed, a
 /// backquote for a tab, `^` for U+0085, `@` for
 /// the beginning of the section of a program p with the command c, `&` for that of a listener l for TICK_5. The host's
 /// name is `box`, the file's directory `/etc`; the environment has H=/r, N=7 and again H=late.
@@ -294,262 +294,322 @@ k=v => 1 Ini 3 OutsideSection 1
 @numprocs=1024~process_name=%(process_num)d~[group:g]~programs=p~[group:h]~programs=p~[group:g2]~programs=p,p => 8 TwiceNamed 0
 @numprocs=513~process_name=%(process_num)d~[group:g]~programs=p~[group:h]~programs=p => 9 TooMany"#;
 
-pub fn host(alloc: Global) -> Result<Host, AllocError> {
+pub fn put(rt: &impl Abort, said: &mut String, text: &str) {
+    said.push_str(text).expect(rt, "ample memory");
+}
+
+fn copy_of(rt: &impl Abort, alloc: Global, text: &str) -> String {
+    String::from_str(alloc, text).expect(rt, "ample memory")
+}
+
+pub fn host(rt: &impl Abort, alloc: Global) -> Host {
     let mut environment = Items::new(alloc);
-    environment.push((Text::fixed("H"), Text::fixed("/r")))?;
-    environment.push((Text::fixed("N"), Text::fixed("7")))?;
-    environment.push((Text::fixed("H"), Text::fixed("late")))?;
-    Ok(Host {
+    for (name, value) in [("H", "/r"), ("N", "7"), ("H", "late")] {
+        environment
+            .push((Text::fixed(name), Text::fixed(value)))
+            .expect(rt, "ample memory");
+    }
+    Host {
         name: Text::fixed("box"),
         here: Text::fixed("/etc"),
         pid: 7,
         environment,
         start: Moment::zero(),
-    })
+    }
 }
 
-fn text_of(alloc: Global, cell: &str) -> Result<String, AllocError> {
+fn text_of(rt: &impl Abort, alloc: Global, cell: &str) -> String {
     let mut text = String::new(alloc);
     for c in cell.chars() {
-        match c {
-            '~' => text.push('\n')?,
-            '`' => text.push('\t')?,
-            '^' => text.push('\u{85}')?,
-            '@' => text.push_str("[program:p]\ncommand=c\n")?,
-            '&' => text.push_str("[eventlistener:l]\ncommand=c\nevents=TICK_5\n")?,
-            c => text.push(c)?,
-        }
+        let done = match c {
+            '~' => text.push('\n'),
+            '`' => text.push('\t'),
+            '^' => text.push('\u{85}'),
+            '@' => text.push_str("[program:p]\ncommand=c\n"),
+            '&' => text.push_str("[eventlistener:l]\ncommand=c\nevents=TICK_5\n"),
+            c => text.push(c),
+        };
+        done.expect(rt, "ample memory");
     }
-    Ok(text)
+    text
 }
 
-fn log_said(alloc: Global, log: &LogSpec) -> Result<String, AllocError> {
+fn log_said(rt: &impl Abort, alloc: Global, log: &LogSpec) -> String {
     let file = match &log.file {
         Some(file) => file.as_str(),
         None => "-",
     };
     let (maxbytes, backups) = (log.maxbytes, log.backups.get());
     let (capture, events) = (log.capture.get(), log.events);
-    format!(in alloc; "{file} {maxbytes} {backups} {capture} {events}")
+    let said = format!(in alloc; "{file} {maxbytes} {backups} {capture} {events}");
+    said.expect(rt, "ample memory")
 }
 
-fn words_said(alloc: Global, spec: &Spec) -> Result<String, AllocError> {
+pub fn words_said(rt: &impl Abort, alloc: Global, spec: &Spec) -> String {
     let mut said = String::new(alloc);
     for word in spec.words.as_slice() {
-        said.push_str(word.as_str())?;
-        said.push('|')?;
+        put(rt, &mut said, word.as_str());
+        put(rt, &mut said, "|");
     }
-    Ok(said)
+    said
 }
 
-fn codes_said(alloc: Global, spec: &Spec) -> Result<String, AllocError> {
+fn codes_said(rt: &impl Abort, alloc: Global, spec: &Spec) -> String {
     let mut said = String::new(alloc);
     for code in spec.exitcodes.as_slice() {
-        said.push_str(format!(in alloc; "{},", *code)?.as_str())?;
+        write!(said, "{},", *code).expect(rt, "ample memory");
     }
-    Ok(said)
+    said
 }
 
-pub fn spec_said(alloc: Global, spec: &Spec, question: &str) -> Result<String, AllocError> {
+fn spec_said(rt: &impl Abort, alloc: Global, spec: &Spec, question: &str) -> String {
     match question {
-        "words" => words_said(alloc, spec),
-        "name" => String::from_str(alloc, spec.name.as_str()),
+        "words" => words_said(rt, alloc, spec),
+        "exitcodes" => codes_said(rt, alloc, spec),
+        "stdout" => log_said(rt, alloc, &spec.stdout),
+        "stderr" => log_said(rt, alloc, &spec.stderr),
+        "environment" => environment_said(rt, alloc, spec),
+        "url" => url_said(rt, alloc, spec),
+        question => value_said(alloc, spec, question).expect(rt, "ample memory"),
+    }
+}
+
+/// A number, a choice or a truth.
+fn value_said(alloc: Global, spec: &Spec, question: &str) -> Result<String, AllocError> {
+    match question {
         "priority" => format!(in alloc; "{}", spec.priority),
         "autostart" => format!(in alloc; "{}", spec.autostart),
         "startsecs" => format!(in alloc; "{}", spec.startsecs.get()),
         "startretries" => format!(in alloc; "{}", spec.startretries.get()),
         "stopwaitsecs" => format!(in alloc; "{}", spec.stopwaitsecs.get()),
         "autorestart" => format!(in alloc; "{:?}", spec.autorestart),
-        "exitcodes" => codes_said(alloc, spec),
-        "stopsignal" => String::from_str(alloc, spec.stopsignal.name()),
         "stopasgroup" => format!(in alloc; "{}", spec.stopasgroup),
         "killasgroup" => format!(in alloc; "{}", spec.killasgroup),
         "redirect_stderr" => format!(in alloc; "{}", spec.redirect_stderr),
-        "stdout" => log_said(alloc, &spec.stdout),
-        "stderr" => log_said(alloc, &spec.stderr),
-        "environment" => environment_said(alloc, spec),
-        "url" => url_said(alloc, spec),
-        "directory" => String::from_str(alloc, spec.directory.as_str()),
-        "umask" => String::from_str(alloc, spec.umask.as_str()),
-        "user" => String::from_str(alloc, spec.user.as_str()),
-        _ => String::from_str(alloc, "no such question"),
+        question => String::from_str(alloc, text_said(spec, question)),
     }
 }
 
-fn environment_said(alloc: Global, spec: &Spec) -> Result<String, AllocError> {
+fn text_said<'a>(spec: &'a Spec, question: &str) -> &'a str {
+    match question {
+        "name" => spec.name.as_str(),
+        "stopsignal" => spec.stopsignal.name(),
+        "directory" => spec.directory.as_str(),
+        "umask" => spec.umask.as_str(),
+        "user" => spec.user.as_str(),
+        _ => "no such question",
+    }
+}
+
+fn environment_said(rt: &impl Abort, alloc: Global, spec: &Spec) -> String {
     let mut said = String::new(alloc);
     for variable in spec.environment.as_slice() {
-        said.push_str(variable.0.as_str())?;
-        said.push('=')?;
-        said.push_str(variable.1.as_str())?;
-        said.push('|')?;
+        put(rt, &mut said, variable.0.as_str());
+        put(rt, &mut said, "=");
+        put(rt, &mut said, variable.1.as_str());
+        put(rt, &mut said, "|");
     }
-    Ok(said)
+    said
 }
 
-fn url_said(alloc: Global, spec: &Spec) -> Result<String, AllocError> {
+fn url_said(rt: &impl Abort, alloc: Global, spec: &Spec) -> String {
     let mut said = String::new(alloc);
     for variable in spec.environment.as_slice() {
         if variable.0.as_str() == "SUPERVISOR_SERVER_URL" {
-            said.push_str(variable.1.as_str())?;
+            put(rt, &mut said, variable.1.as_str());
         }
     }
-    Ok(said)
+    said
 }
 
-pub fn order_said(alloc: Global, config: &Config) -> Result<String, AllocError> {
+pub fn order_said(rt: &impl Abort, alloc: Global, config: &Config) -> String {
     let mut said = String::new(alloc);
     for group in config.groups.as_slice() {
         for member in group.members.as_slice() {
-            if !said.as_str().is_empty() {
-                said.push(' ')?;
-            }
-            said.push_str(group.name.as_str())?;
-            said.push(':')?;
-            said.push_str(member.name.as_str())?;
+            put_process(rt, &mut said, group, member);
         }
     }
-    Ok(said)
+    said
 }
 
-fn group_said(alloc: Global, group: &GroupSpec) -> Result<String, AllocError> {
+/// Adds a process by the name of its group and its own, after a space where others stand before it.
+fn put_process(rt: &impl Abort, said: &mut String, group: &GroupSpec, member: &Spec) {
+    if !said.as_str().is_empty() {
+        put(rt, said, " ");
+    }
+    put(rt, said, group.name.as_str());
+    put(rt, said, ":");
+    put(rt, said, member.name.as_str());
+}
+
+fn group_said(rt: &impl Abort, alloc: Global, group: &GroupSpec) -> String {
     let (name, priority) = (group.name.as_str(), group.priority);
-    let mut said = format!(in alloc; "{name} {priority} ")?;
+    let mut said = format!(in alloc; "{name} {priority} ").expect(rt, "ample memory");
     match &group.pool {
-        Some(pool) => {
-            for kind in pool.kinds.as_slice() {
-                said.push_str(kind.name())?;
-                said.push(',')?;
-            }
-            said.push_str(format!(in alloc; "{}", pool.buffer.get())?.as_str())?;
-        }
-        None => said.push('-')?,
+        Some(pool) => put_pool(rt, &mut said, pool),
+        None => put(rt, &mut said, "-"),
     }
-    Ok(said)
+    said
 }
 
-fn servers_said(alloc: Global, config: &Config) -> Result<String, AllocError> {
+fn put_pool(rt: &impl Abort, said: &mut String, pool: &PoolSpec) {
+    for kind in pool.kinds.as_slice() {
+        put(rt, said, kind.name());
+        put(rt, said, ",");
+    }
+    write!(said, "{}", pool.buffer.get()).expect(rt, "ample memory");
+}
+
+fn servers_said(rt: &impl Abort, alloc: Global, config: &Config) -> String {
     let mut said = String::new(alloc);
     for server in config.servers.as_slice() {
-        let place = match &server.place {
-            Place::Inet(host, port) => format!(in alloc; "{}:{}", host.as_str(), *port)?,
-            Place::Unix(file) => String::from_str(alloc, file.as_str())?,
-        };
-        said.push_str(place.as_str())?;
-        let username = server.username.as_str();
-        let shown = if username.is_empty() { "-" } else { username };
-        said.push_str(format!(in alloc; " {shown} ")?.as_str())?;
-        match &server.password {
-            Password::None => said.push_str("none")?,
-            Password::Plain(password) => said.push_str(password.as_str())?,
-            Password::Sha(digest) => {
-                let (first, last) = (digest[0], digest[19]);
-                said.push_str(format!(in alloc; "sha {first} {last}")?.as_str())?;
-            }
-        }
-        said.push('|')?;
+        put_server(rt, &mut said, server);
     }
-    Ok(said)
+    said
 }
 
-fn config_said(alloc: Global, config: &Config, question: &str) -> Result<String, AllocError> {
+fn put_server(rt: &impl Abort, said: &mut String, server: &ServerSpec) {
+    put_place(rt, said, &server.place);
+    let username = server.username.as_str();
+    let shown = if username.is_empty() { "-" } else { username };
+    put(rt, said, " ");
+    put(rt, said, shown);
+    put(rt, said, " ");
+    put_password(rt, said, &server.password);
+    put(rt, said, "|");
+}
+
+fn put_place(rt: &impl Abort, said: &mut String, place: &Place) {
+    let done = match place {
+        Place::Inet(host, port) => write!(said, "{}:{}", host.as_str(), *port),
+        Place::Unix(file) => said.push_str(file.as_str()),
+    };
+    done.expect(rt, "ample memory");
+}
+
+fn put_password(rt: &impl Abort, said: &mut String, password: &Password) {
+    let done = match password {
+        Password::None => said.push_str("none"),
+        Password::Plain(password) => said.push_str(password.as_str()),
+        Password::Sha(digest) => {
+            let (first, last) = (digest[0], digest[19]);
+            write!(said, "sha {first} {last}")
+        }
+    };
+    done.expect(rt, "ample memory");
+}
+
+fn client_said(rt: &impl Abort, alloc: Global, client: &ClientSpec) -> String {
+    let (url, username) = (client.url.as_str(), client.username.as_str());
+    let said = format!(in alloc; "{url} {username} {}", client.password.as_str());
+    said.expect(rt, "ample memory")
+}
+
+fn config_said(rt: &impl Abort, alloc: Global, config: &Config, question: &str) -> String {
     match question {
-        "order" => order_said(alloc, config),
-        "main" => log_said(alloc, &config.main),
-        "level" => format!(in alloc; "{:?}", config.level),
-        "identifier" => String::from_str(alloc, config.identifier.as_str()),
-        "servers" => servers_said(alloc, config),
-        "client" => {
-            let client = &config.client;
-            let (url, username) = (client.url.as_str(), client.username.as_str());
-            format!(in alloc; "{url} {username} {}", client.password.as_str())
-        }
-        "rpc" => format!(in alloc; "{}", config.rpc),
-        question => match config.groups.as_slice() {
-            [group, ..] if question == "group" => group_said(alloc, group),
-            [group, ..] => match group.members.as_slice() {
-                [member, ..] => spec_said(alloc, member, question),
-                [] => String::from_str(alloc, "no process"),
-            },
-            [] => String::from_str(alloc, "no group"),
-        },
+        "order" => order_said(rt, alloc, config),
+        "main" => log_said(rt, alloc, &config.main),
+        "level" => format!(in alloc; "{:?}", config.level).expect(rt, "ample memory"),
+        "identifier" => copy_of(rt, alloc, config.identifier.as_str()),
+        "servers" => servers_said(rt, alloc, config),
+        "client" => client_said(rt, alloc, &config.client),
+        "rpc" => format!(in alloc; "{}", config.rpc).expect(rt, "ample memory"),
+        question => first_said(rt, alloc, config, question),
     }
 }
 
-/// Reads a row's texts, of which those behind `$` are included.
-fn read(alloc: Global, host: &Host, cell: &str) -> Result<Config, ConfFault> {
+/// What it says of its first group, or of the first process of that.
+fn first_said(rt: &impl Abort, alloc: Global, config: &Config, question: &str) -> String {
+    match config.groups.as_slice() {
+        [group, ..] if question == "group" => group_said(rt, alloc, group),
+        [group, ..] => match group.members.as_slice() {
+            [member, ..] => spec_said(rt, alloc, member, question),
+            [] => copy_of(rt, alloc, "no process"),
+        },
+        [] => copy_of(rt, alloc, "no group"),
+    }
+}
+
+/// Reads a row's texts, of which those after `$` are included.
+fn read(rt: &impl Abort, alloc: Global, host: &Host, cell: &str) -> Result<Config, ConfFault> {
+    let mut parts = cell.split('$');
+    let main = text_of(rt, alloc, parts.next().unwrap_or(""));
     let mut included = Vec::new(alloc);
-    let mut main = String::new(alloc);
-    let mut first = true;
-    for part in cell.split('$') {
-        let text = text_of(alloc, part)?;
-        if first {
-            main = text;
-            first = false;
-        } else {
-            let bytes = Bytes::from_slice(alloc, text.as_str().as_bytes())?;
-            included.push((Text::fixed("i"), bytes))?;
-        }
+    for part in parts {
+        included
+            .push((Text::fixed("i"), bytes_of(rt, alloc, part)))
+            .expect(rt, "ample memory");
     }
     config(alloc, main.as_str().as_bytes(), included.as_slice(), host)
+}
+
+fn bytes_of(rt: &impl Abort, alloc: Global, cell: &str) -> Bytes {
+    let text = text_of(rt, alloc, cell);
+    Bytes::from_slice(alloc, text.as_str().as_bytes()).expect(rt, "ample memory")
+}
+
+pub fn fault_said(rt: &impl Abort, alloc: Global, fault: &ConfFault) -> String {
+    let text = fault.text(alloc).expect(rt, "ample memory");
+    copy_of(rt, alloc, text.as_str())
 }
 
 fn value_row(rt: &impl Abort, alloc: Global, host: &Host, row: &str) {
     let (text, answer) = row.split_once(" => ").expect(rt, "two cells");
     let (question, expected) = answer.split_once(": ").expect(rt, "a question");
-    match read(alloc, host, text) {
-        Ok(config) => {
-            let said = config_said(alloc, &config, question).expect(rt, "ample memory");
-            assert_eq!(rt; said.as_str(), expected, "the value of {row}");
-        }
-        Err(fault) => {
-            let said = fault.text(alloc).expect(rt, "ample memory");
-            assert_eq!(rt; said.as_str(), expected, "the value of {row}");
-        }
-    }
+    let said = match read(rt, alloc, host, text) {
+        Ok(config) => config_said(rt, alloc, &config, question),
+        Err(fault) => fault_said(rt, alloc, &fault),
+    };
+    assert_eq!(rt; said.as_str(), expected, "the value of {row}");
 }
 
 fn fault_row(rt: &impl Abort, alloc: Global, host: &Host, row: &str) {
     let (text, expected) = row.split_once(" => ").expect(rt, "two cells");
-    let expected = text_of(alloc, expected).expect(rt, "ample memory");
-    let expected = expected.as_str();
-    match read(alloc, host, text) {
+    let expected = text_of(rt, alloc, expected);
+    match read(rt, alloc, host, text) {
         Ok(config) => {
-            let said = order_said(alloc, &config).expect(rt, "ample memory");
-            assert_eq!(rt; said.as_str(), expected, "the fault of {row}");
+            let said = order_said(rt, alloc, &config);
+            assert_eq!(rt; said.as_str(), expected.as_str(), "the fault of {row}");
         }
-        Err(fault) => {
-            let said = fault.text(alloc).expect(rt, "ample memory");
-            assert_eq!(rt; said.as_str(), expected, "the fault of {row}");
-            let shown = format!(in alloc; "{fault}").expect(rt, "ample memory");
-            assert_eq!(rt; shown.as_str(), expected, "the shown fault of {row}");
-        }
+        Err(fault) => is_said(rt, alloc, &fault, expected.as_str(), row),
     }
+}
+
+/// The fault has this text, and is shown by it.
+fn is_said(rt: &impl Abort, alloc: Global, fault: &ConfFault, expected: &str, row: &str) {
+    let said = fault_said(rt, alloc, fault);
+    assert_eq!(rt; said.as_str(), expected, "the fault of {row}");
+    let shown = format!(in alloc; "{fault}").expect(rt, "ample memory");
+    assert_eq!(rt; shown.as_str(), expected, "the shown fault of {row}");
 }
 
 /// As many programs as this, each a group of its own.
-fn programs(alloc: Global, count: u32) -> Result<String, AllocError> {
+fn programs(rt: &impl Abort, alloc: Global, count: u32) -> String {
     let mut text = String::new(alloc);
     for number in 0..count {
-        text.push_str(format!(in alloc; "[program:p{number}]\ncommand=c\n")?.as_str())?;
+        write!(text, "[program:p{number}]\ncommand=c\n").expect(rt, "ample memory");
     }
-    Ok(text)
+    text
 }
 
 fn groups_row(rt: &impl Abort, alloc: Global, host: &Host, count: u32, expected: &str) {
-    let text = programs(alloc, count).expect(rt, "ample memory");
+    let text = programs(rt, alloc, count);
     let said = match config(alloc, text.as_str().as_bytes(), &[], host) {
-        Ok(config) => format!(in alloc; "{}", config.groups.as_slice().len()),
-        Err(fault) => String::from_str(alloc, fault.text(alloc).expect(rt, "memory").as_str()),
+        Ok(config) => count_said(rt, alloc, &config),
+        Err(fault) => fault_said(rt, alloc, &fault),
     };
-    let said = said.expect(rt, "ample memory");
     assert_eq!(rt; said.as_str(), expected, "{count} programs");
+}
+
+/// How many groups there are.
+fn count_said(rt: &impl Abort, alloc: Global, config: &Config) -> String {
+    format!(in alloc; "{}", config.groups.as_slice().len()).expect(rt, "ample memory")
 }
 
 #[test]
 fn at_most_256_groups(rt: HostRuntime) {
     let alloc = rt.alloc();
-    let host = host(alloc).expect(&rt, "ample memory");
+    let host = host(&rt, alloc);
     groups_row(&rt, alloc, &host, 256, "256");
     groups_row(&rt, alloc, &host, 257, "9 TooMany");
 }
@@ -557,7 +617,7 @@ fn at_most_256_groups(rt: HostRuntime) {
 #[test]
 fn keys_and_their_defaults(rt: HostRuntime) {
     let alloc = rt.alloc();
-    let host = host(alloc).expect(&rt, "ample memory");
+    let host = host(&rt, alloc);
     for row in VALUES.split('\n') {
         value_row(&rt, alloc, &host, row);
     }
@@ -566,7 +626,7 @@ fn keys_and_their_defaults(rt: HostRuntime) {
 #[test]
 fn the_first_fault(rt: HostRuntime) {
     let alloc = rt.alloc();
-    let host = host(alloc).expect(&rt, "ample memory");
+    let host = host(&rt, alloc);
     for row in FAULTS.split('\n') {
         fault_row(&rt, alloc, &host, row);
     }

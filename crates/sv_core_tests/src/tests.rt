@@ -17,7 +17,7 @@ use sv_out::input::Input;
 use sv_out::order::Order;
 
 /// What the machine is told.
-#[derive(Clone, Copy, Debug)]
+#[derive(Clone, Copy)]
 enum Line {
     Tick(u64),
     Pid(u32),
@@ -30,7 +30,7 @@ enum Line {
 }
 
 /// What it then orders.
-#[derive(Clone, Copy, Debug)]
+#[derive(Clone, Copy)]
 enum Wanted {
     Goes(&'static str, State, State),
     Spawns(u32),
@@ -48,23 +48,20 @@ fn no_log() -> LogSpec {
     }
 }
 
-/// A program that is to stay up for a second, is tried again three times, expects the exit code 0, and is stopped by
-/// TERM, or after two seconds by KILL.
-fn program(rt: &impl Abort, alloc: Global, group: &'static str, name: &'static str) -> Spec {
-    let mut exitcodes = Items::new(alloc);
-    exitcodes.push(0).expect(rt, "memory");
+/// A program that is stopped by TERM, of which no number is set.
+fn unset(alloc: Global, group: &'static str, name: &'static str) -> Spec {
     Spec {
         group: Text::fixed(group),
         name: Text::fixed(name),
         words: Items::new(alloc),
         priority: 999,
         autostart: true,
-        startsecs: Seconds::new(1).expect(rt, "seconds"),
-        startretries: Retries::new(3).expect(rt, "retries"),
+        startsecs: Seconds::least(),
+        startretries: Retries::least(),
         autorestart: Autorestart::Unexpected,
-        exitcodes,
+        exitcodes: Items::new(alloc),
         stopsignal: Signal::Term,
-        stopwaitsecs: Seconds::new(2).expect(rt, "seconds"),
+        stopwaitsecs: Seconds::least(),
         stopasgroup: false,
         killasgroup: false,
         redirect_stderr: false,
@@ -77,6 +74,26 @@ fn program(rt: &impl Abort, alloc: Global, group: &'static str, name: &'static s
     }
 }
 
+/// A program that is to stay up for a second, is tried again three times, expects the exit code 0, and is stopped by
+/// TERM, or after two seconds by KILL.
+fn program(rt: &impl Abort, alloc: Global, group: &'static str, name: &'static str) -> Spec {
+    let mut program = unset(alloc, group, name);
+    program.startsecs = Seconds::new(1).expect(rt, "seconds");
+    program.startretries = Retries::new(3).expect(rt, "retries");
+    program.stopwaitsecs = Seconds::new(2).expect(rt, "seconds");
+    program.exitcodes.push(0).expect(rt, "memory");
+    program
+}
+
+fn group_of(name: &'static str, members: Items<Spec>) -> GroupSpec {
+    GroupSpec {
+        name: Text::fixed(name),
+        priority: 999,
+        members,
+        pool: None,
+    }
+}
+
 /// A group of these programs.
 fn group(rt: &impl Abort, alloc: Global, group: &'static str, names: &[&'static str]) -> GroupSpec {
     let mut members = Items::new(alloc);
@@ -85,12 +102,7 @@ fn group(rt: &impl Abort, alloc: Global, group: &'static str, names: &[&'static 
             .push(program(rt, alloc, group, *name))
             .expect(rt, "memory");
     }
-    GroupSpec {
-        name: Text::fixed(group),
-        priority: 999,
-        members,
-        pool: None,
-    }
+    group_of(group, members)
 }
 
 /// The program x, alone in its group.
@@ -102,7 +114,7 @@ fn alone(rt: &impl Abort, alloc: Global) -> Groups {
     Groups::new(groups).expect(rt, "a roster")
 }
 
-/// The program d, alone in its group, and behind it the group g of three.
+/// The program d, alone in its group, and after it the group g of three.
 fn one_and_three(rt: &impl Abort, alloc: Global) -> Groups {
     let mut groups = Vec::new(alloc);
     groups
@@ -114,24 +126,31 @@ fn one_and_three(rt: &impl Abort, alloc: Global) -> Groups {
     Groups::new(groups).expect(rt, "a roster")
 }
 
-/// The group p of a thousand programs, 1000 to 1999, of which none is started with the daemon.
-fn a_thousand(rt: &impl Abort, alloc: Global) -> Groups {
+/// The program of a number, which isn't started with the daemon.
+fn numbered(rt: &impl Abort, alloc: Global, number: u32) -> Spec {
+    let name = format!(in alloc; "{number}").expect(rt, "memory");
+    let mut program = program(rt, alloc, "p", "");
+    program.name = Text::from_string(name);
+    program.autostart = false;
+    program
+}
+
+/// The programs 1000 to 1999.
+fn a_thousand_programs(rt: &impl Abort, alloc: Global) -> Items<Spec> {
     let mut members = Items::new(alloc);
     for number in 1_000..2_000u32 {
-        let mut member = program(rt, alloc, "p", "");
-        let name = format!(in alloc; "{number}").expect(rt, "memory");
-        member.name = Text::from_string(name);
-        member.autostart = false;
-        members.push(member).expect(rt, "memory");
+        members
+            .push(numbered(rt, alloc, number))
+            .expect(rt, "memory");
     }
+    members
+}
+
+/// The group p of a thousand programs, 1000 to 1999, of which none is started with the daemon.
+fn a_thousand(rt: &impl Abort, alloc: Global) -> Groups {
     let mut groups = Vec::new(alloc);
     groups
-        .push(GroupSpec {
-            name: Text::fixed("p"),
-            priority: 999,
-            members,
-            pool: None,
-        })
+        .push(group_of("p", a_thousand_programs(rt, alloc)))
         .expect(rt, "memory");
     Groups::new(groups).expect(rt, "a roster")
 }
@@ -152,14 +171,18 @@ fn config(alloc: Global, groups: Groups) -> Config {
     }
 }
 
-fn machine(rt: &impl Abort, alloc: Global, groups: Groups) -> Machine {
-    let host = Host {
+fn host(alloc: Global) -> Host {
+    Host {
         name: Text::fixed("localhost"),
         here: Text::fixed("/"),
         pid: 1,
         environment: Items::new(alloc),
         start: Moment::zero(),
-    };
+    }
+}
+
+fn machine(rt: &impl Abort, alloc: Global, groups: Groups) -> Machine {
+    let host = host(alloc);
     Machine::new(alloc, config(alloc, groups), Vec::new(alloc), &host).expect(rt, "memory")
 }
 
@@ -167,81 +190,127 @@ fn moment(rt: &impl Abort, milliseconds: u64) -> Moment {
     Moment::new(milliseconds).expect(rt, "a moment")
 }
 
+fn exit(rt: &impl Abort, at: u64, run: u32, how: How) -> Input {
+    Input::Exit {
+        at: moment(rt, at),
+        run: Run(run),
+        how,
+    }
+}
+
+fn killed(rt: &impl Abort, signal: u32) -> How {
+    How::Signal(ExitSignal::new(signal).expect(rt, "a signal"))
+}
+
+fn start(rt: &impl Abort, at: u64, name: &'static str) -> Input {
+    Input::Start {
+        at: moment(rt, at),
+        name: Text::fixed(name),
+    }
+}
+
+fn stop(rt: &impl Abort, at: u64, name: &'static str) -> Input {
+    Input::Stop {
+        at: moment(rt, at),
+        name: Text::fixed(name),
+    }
+}
+
+fn told(rt: &impl Abort, at: u64, signal: Signal) -> Input {
+    Input::Signal {
+        at: moment(rt, at),
+        signal: DaemonSignal::new(signal).expect(rt, "a signal"),
+    }
+}
+
 fn input(rt: &impl Abort, line: Line) -> Input {
     match line {
         Line::Tick(at) => Input::Tick { at: moment(rt, at) },
         Line::Pid(pid) => Input::Pid(Pid::new(pid).expect(rt, "a pid")),
-        Line::Code(at, run, code) => Input::Exit {
-            at: moment(rt, at),
-            run: Run(run),
-            how: How::Code(code),
-        },
-        Line::Signalled(at, run, signal) => Input::Exit {
-            at: moment(rt, at),
-            run: Run(run),
-            how: How::Signal(ExitSignal::new(signal).expect(rt, "a signal")),
-        },
-        Line::Start(at, name) => Input::Start {
-            at: moment(rt, at),
-            name: Text::fixed(name),
-        },
-        Line::Stop(at, name) => Input::Stop {
-            at: moment(rt, at),
-            name: Text::fixed(name),
-        },
-        Line::Told(at, signal) => Input::Signal {
-            at: moment(rt, at),
-            signal: DaemonSignal::new(signal).expect(rt, "a signal"),
-        },
+        Line::Code(at, run, code) => exit(rt, at, run, How::Code(code)),
+        Line::Signalled(at, run, signal) => exit(rt, at, run, killed(rt, signal)),
+        Line::Start(at, name) => start(rt, at, name),
+        Line::Stop(at, name) => stop(rt, at, name),
+        Line::Told(at, signal) => told(rt, at, signal),
         Line::Fails(order) => Input::Failed(order),
     }
 }
 
-fn is_wanted(order: &Order, wanted: Wanted) -> bool {
-    match (order, wanted) {
-        (
-            Order::State {
-                group,
-                name,
-                from,
-                to,
-            },
-            Wanted::Goes(wanted, left, entered),
-        ) => {
-            let group_wanted = match wanted {
-                "a" | "b" | "c" => "g",
-                "1000" => "p",
-                alone => alone,
-            };
-            group.as_str() == group_wanted
-                && name.as_str() == wanted
-                && *from == left
-                && *to == entered
-        }
-        (Order::Spawn(spawn), Wanted::Spawns(run)) => spawn.run.0 == run,
-        (Order::Kill { run, signal, group }, Wanted::Kills(told, with)) => run.0 == told
-            && *signal == with
-            && !*group,
-        (Order::Halt, Wanted::Halts) => true,
+/// The name of the group in which the child of a name stands.
+fn group_wanted(child: &'static str) -> &'static str {
+    match child {
+        "a" | "b" | "c" => "g",
+        "1000" => "p",
+        alone => alone,
+    }
+}
+
+fn is_named(group: &Text, name: &Text, child: &'static str) -> bool {
+    group.as_str() == group_wanted(child) && name.as_str() == child
+}
+
+/// Whether the order reports that a child went so.
+fn is_edge(order: &Order, child: &'static str, left: State, entered: State) -> bool {
+    match order {
+        Order::State {
+            group,
+            name,
+            from,
+            to,
+        } => is_named(group, name, child) && *from == left && *to == entered,
         _ => false,
     }
+}
+
+fn is_spawn(order: &Order, run: u32) -> bool {
+    match order {
+        Order::Spawn(spawn) => spawn.run.0 == run,
+        _ => false,
+    }
+}
+
+/// Whether the order sends a signal to the process of a run alone.
+fn is_kill(order: &Order, number: u32, sent: Signal) -> bool {
+    match order {
+        Order::Kill { run, signal, group } => run.0 == number && *signal == sent && !*group,
+        _ => false,
+    }
+}
+
+fn is_wanted(order: &Order, wanted: Wanted) -> bool {
+    match wanted {
+        Wanted::Goes(child, left, entered) => is_edge(order, child, left, entered),
+        Wanted::Spawns(run) => is_spawn(order, run),
+        Wanted::Kills(run, signal) => is_kill(order, run, signal),
+        Wanted::Halts => matches!(order, Order::Halt),
+    }
+}
+
+/// The orders are just these.
+fn are_wanted(rt: &impl Abort, orders: &[Order], wanted: &[Wanted]) {
+    assert!(rt; orders.len() == wanted.len());
+    let mut left = wanted;
+    for order in orders {
+        if let [first, rest @ ..] = left {
+            assert!(rt; is_wanted(order, *first));
+            left = rest;
+        }
+    }
+    assert!(rt; left.is_empty());
+}
+
+/// What the machine orders by a line, which it takes.
+fn orders(rt: &impl Abort, alloc: Global, machine: &mut Machine, line: Line) -> Vec<Order> {
+    let input = input(rt, line);
+    assert!(rt; machine.accepts(&input));
+    machine.step(alloc, input).expect(rt, "memory")
 }
 
 /// The machine takes each line, and orders just this.
 fn check(rt: &impl Abort, alloc: Global, machine: &mut Machine, lines: &[(Line, &[Wanted])]) {
     for (line, wanted) in lines {
-        let input = input(rt, *line);
-        assert!(rt; machine.accepts(&input));
-        let orders = machine.step(alloc, input).expect(rt, "memory");
-        assert!(rt; orders.len() == wanted.len());
-        let mut left = *wanted;
-        for order in orders.as_slice() {
-            if let [first, rest @ ..] = left {
-                assert!(rt; is_wanted(order, *first));
-                left = rest;
-            }
-        }
-        assert!(rt; left.is_empty());
+        let orders = orders(rt, alloc, machine, *line);
+        are_wanted(rt, orders.as_slice(), *wanted);
     }
     assert!(rt; !machine.broken());
 }
@@ -455,30 +524,35 @@ const SHUTDOWN_OF_GROUPS: [(Line, &[Wanted]); 14] = [
     ),
 ];
 
+/// A machine of these groups takes the lines, and doesn't halt.
+fn goes_on(rt: &impl Abort, alloc: Global, groups: Groups, lines: &[(Line, &[Wanted])]) {
+    let mut machine = machine(rt, alloc, groups);
+    check(rt, alloc, &mut machine, lines);
+    assert!(rt; !machine.halted());
+}
+
+/// A machine of these groups takes the lines, halts, and takes no other.
+fn halts(rt: &impl Abort, alloc: Global, groups: Groups, lines: &[(Line, &[Wanted])]) {
+    let mut machine = machine(rt, alloc, groups);
+    check(rt, alloc, &mut machine, lines);
+    assert!(rt; machine.halted());
+    let late = input(rt, Line::Tick(4_000));
+    assert!(rt; !machine.accepts(&late));
+}
+
 #[test]
 fn lives(rt: HostRuntime) {
     let alloc = rt.alloc();
-    for lines in [
-        STAYS_UP_AND_EXITS.as_slice(),
-        STOP_IN_BACKOFF.as_slice(),
-        KILL_AT_EACH_DEADLINE.as_slice(),
-    ] {
-        let mut machine = machine(&rt, alloc, alone(&rt, alloc));
-        check(&rt, alloc, &mut machine, lines);
-        assert!(rt; !machine.halted());
-    }
+    goes_on(&rt, alloc, alone(&rt, alloc), &STAYS_UP_AND_EXITS);
+    goes_on(&rt, alloc, alone(&rt, alloc), &STOP_IN_BACKOFF);
+    goes_on(&rt, alloc, alone(&rt, alloc), &KILL_AT_EACH_DEADLINE);
 }
 
 #[test]
 fn groups_stop(rt: HostRuntime) {
     let alloc = rt.alloc();
-    let mut stopped = machine(&rt, alloc, one_and_three(&rt, alloc));
-    check(&rt, alloc, &mut stopped, &STOP_OF_A_GROUP);
-    assert!(rt; !stopped.halted());
-    let mut ended = machine(&rt, alloc, one_and_three(&rt, alloc));
-    check(&rt, alloc, &mut ended, &SHUTDOWN_OF_GROUPS);
-    assert!(rt; ended.halted());
-    assert!(rt; !ended.accepts(&input(&rt, Line::Tick(4_000))));
+    goes_on(&rt, alloc, one_and_three(&rt, alloc), &STOP_OF_A_GROUP);
+    halts(&rt, alloc, one_and_three(&rt, alloc), &SHUTDOWN_OF_GROUPS);
 }
 
 /// One of a thousand is started, and stays up for its second.
@@ -503,8 +577,7 @@ const IDLE_TICK: [(Line, &[Wanted]); 1] = [(Line::Tick(0), &[])];
 #[test]
 fn only_the_awake_are_looked_at(rt: HostRuntime) {
     let alloc = rt.alloc();
-    let groups = a_thousand(&rt, alloc);
-    let mut machine = machine(&rt, alloc, groups);
+    let mut machine = machine(&rt, alloc, a_thousand(&rt, alloc));
     for _ in 0..100 {
         check(&rt, alloc, &mut machine, &IDLE_TICK);
     }

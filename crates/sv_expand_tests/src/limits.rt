@@ -1,5 +1,5 @@
 //! Texts of a mebibyte and names in great number, with ample memory.
-use std::alloc::{AllocError, Global};
+use std::alloc::Global;
 use std::process::Abort;
 use sv_base::items::Items;
 use sv_base::text::Text;
@@ -9,46 +9,46 @@ use sv_expand::pairs::pairs;
 use sv_expand::words::words;
 
 /// A piece so many times.
-fn repeated(alloc: Global, piece: &str, count: usize) -> Result<String, AllocError> {
+fn repeated(rt: &impl Abort, alloc: Global, piece: &str, count: usize) -> String {
     let mut text = String::new(alloc);
     for _ in 0..count {
-        text.push_str(piece)?;
+        text.push_str(piece).expect(rt, "memory");
     }
-    Ok(text)
+    text
 }
 
-fn named(alloc: Global, number: u32) -> Result<(Text, Text), AllocError> {
-    let name = format!(in alloc; "n{number}")?;
-    let text = format!(in alloc; "{number},")?;
-    Ok((Text::from_string(name), Text::from_string(text)))
+fn named(rt: &impl Abort, alloc: Global, number: u32) -> (Text, Text) {
+    let name = format!(in alloc; "n{number}").expect(rt, "memory");
+    let text = format!(in alloc; "{number},").expect(rt, "memory");
+    (Text::from_string(name), Text::from_string(text))
 }
 
 /// The names `n0` to `n9999`, of which each stands for its own number and a comma.
-fn many_names(alloc: Global) -> Result<Names, AllocError> {
+fn many_names(rt: &impl Abort, alloc: Global) -> Names {
     let mut pairs = NamedTexts::new(alloc);
     for number in 0..10_000 {
-        pairs.push(named(alloc, number)?)?;
+        pairs.push(named(rt, alloc, number)).expect(rt, "memory");
     }
     let numbers = Items::new(alloc);
-    Ok(Names { pairs, numbers })
+    Names { pairs, numbers }
 }
 
-fn all_forms(alloc: Global) -> Result<String, AllocError> {
+fn all_forms(rt: &impl Abort, alloc: Global) -> String {
     let mut text = String::new(alloc);
     for number in 0..10_000 {
-        let form = format!(in alloc; "%(n{number})s")?;
-        text.push_str(form.as_str())?;
+        let form = format!(in alloc; "%(n{number})s").expect(rt, "memory");
+        text.push_str(form.as_str()).expect(rt, "memory");
     }
-    Ok(text)
+    text
 }
 
-fn all_values(alloc: Global) -> Result<String, AllocError> {
+fn all_values(rt: &impl Abort, alloc: Global) -> String {
     let mut text = String::new(alloc);
     for number in 0..10_000 {
-        let value = format!(in alloc; "{number},")?;
-        text.push_str(value.as_str())?;
+        let value = format!(in alloc; "{number},").expect(rt, "memory");
+        text.push_str(value.as_str()).expect(rt, "memory");
     }
-    Ok(text)
+    text
 }
 
 fn expands(rt: &impl Abort, alloc: Global, names: &Names, text: &str, expected: &str) {
@@ -59,8 +59,8 @@ fn expands(rt: &impl Abort, alloc: Global, names: &Names, text: &str, expected: 
 /// A piece so many times expands to another so many times.
 fn expands_each(rt: &impl Abort, alloc: Global, names: &Names, piece: &str, value: &str) {
     let count = 1_048_576 / piece.len().max(1);
-    let text = repeated(alloc, piece, count).expect(rt, "ample memory");
-    let expected = repeated(alloc, value, count).expect(rt, "ample memory");
+    let text = repeated(rt, alloc, piece, count);
+    let expected = repeated(rt, alloc, value, count);
     expands(rt, alloc, names, text.as_str(), expected.as_str());
 }
 
@@ -84,22 +84,22 @@ fn has_pairs(rt: &impl Abort, alloc: Global, text: &str, count: usize, value: &s
 #[test]
 fn expansions_of_a_mebibyte(rt: HostRuntime) {
     let alloc = rt.alloc();
-    let names = many_names(alloc).expect(&rt, "ample memory");
+    let names = many_names(&rt, alloc);
     expands_each(&rt, alloc, &names, "a", "a");
     expands_each(&rt, alloc, &names, "%%", "%");
     expands_each(&rt, alloc, &names, "%(n90)s-", "90,-");
-    let forms = all_forms(alloc).expect(&rt, "ample memory");
-    let values = all_values(alloc).expect(&rt, "ample memory");
+    let forms = all_forms(&rt, alloc);
+    let values = all_values(&rt, alloc);
     expands(&rt, alloc, &names, forms.as_str(), values.as_str());
 }
 
 #[test]
 fn words_and_pairs_of_a_mebibyte(rt: HostRuntime) {
     let alloc = rt.alloc();
-    let letters = repeated(alloc, "a", 1_048_576).expect(&rt, "ample memory");
+    let letters = repeated(&rt, alloc, "a", 1_048_576);
     has_words(&rt, alloc, letters.as_str(), 1, letters.as_str());
-    let short = repeated(alloc, "a ", 524_288).expect(&rt, "ample memory");
+    let short = repeated(&rt, alloc, "a ", 524_288);
     has_words(&rt, alloc, short.as_str(), 524_288, "a");
-    let text = repeated(alloc, "A=1,", 262_144).expect(&rt, "ample memory");
+    let text = repeated(&rt, alloc, "A=1,", 262_144);
     has_pairs(&rt, alloc, text.as_str(), 262_144, "1");
 }

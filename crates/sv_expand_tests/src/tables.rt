@@ -1,5 +1,5 @@
 //! Tables of texts, with the words, the pairs and the expansion that each has.
-use std::alloc::{AllocError, Global};
+use std::alloc::Global;
 use std::process::Abort;
 use sv_base::items::Items;
 use sv_base::text::Text;
@@ -247,89 +247,104 @@ fn letter(sign: char) -> char {
 }
 
 /// The text that a cell of a table stands for.
-fn cell(alloc: Global, cell: &str) -> Result<String, AllocError> {
+fn cell(rt: &impl Abort, alloc: Global, cell: &str) -> String {
     let mut text = String::new(alloc);
     for sign in cell.chars() {
-        text.push(letter(sign))?;
+        text.push(letter(sign)).expect(rt, "memory");
     }
-    Ok(text)
+    text
 }
 
-fn told_words(alloc: Global, words: &[Text]) -> Result<String, AllocError> {
+fn told_words(rt: &impl Abort, alloc: Global, words: &[Text]) -> String {
     let mut told = String::new(alloc);
     for word in words {
-        told.push_str(word.as_str())?;
-        told.push('|')?;
+        told.push_str(word.as_str()).expect(rt, "memory");
+        told.push('|').expect(rt, "memory");
     }
-    Ok(told)
+    told
 }
 
-fn told_pairs(alloc: Global, pairs: &[(Text, Text)]) -> Result<String, AllocError> {
+fn told_pairs(rt: &impl Abort, alloc: Global, pairs: &[(Text, Text)]) -> String {
     let mut told = String::new(alloc);
     for pair in pairs {
-        told.push_str(pair.0.as_str())?;
-        told.push('=')?;
-        told.push_str(pair.1.as_str())?;
-        told.push('|')?;
+        told.push_str(pair.0.as_str()).expect(rt, "memory");
+        told.push('=').expect(rt, "memory");
+        told.push_str(pair.1.as_str()).expect(rt, "memory");
+        told.push('|').expect(rt, "memory");
     }
-    Ok(told)
+    told
 }
 
 /// What `words` says of a text, as its table writes it.
-fn words_said(alloc: Global, text: &str) -> Result<String, AllocError> {
+fn words_said(rt: &impl Abort, alloc: Global, text: &str) -> String {
     match words(alloc, text) {
-        Ok(words) => told_words(alloc, words.as_slice()),
-        Err(fault) => format!(in alloc; "{fault}"),
+        Ok(words) => told_words(rt, alloc, words.as_slice()),
+        Err(fault) => format!(in alloc; "{fault}").expect(rt, "memory"),
     }
 }
 
-fn pairs_said(alloc: Global, text: &str) -> Result<String, AllocError> {
+fn pairs_said(rt: &impl Abort, alloc: Global, text: &str) -> String {
     match pairs(alloc, text) {
-        Ok(pairs) => told_pairs(alloc, pairs.as_slice()),
-        Err(fault) => format!(in alloc; "{fault}"),
+        Ok(pairs) => told_pairs(rt, alloc, pairs.as_slice()),
+        Err(fault) => format!(in alloc; "{fault}").expect(rt, "memory"),
     }
 }
 
-fn expansion_said(alloc: Global, text: &str, names: &Names) -> Result<String, AllocError> {
+fn expansion_said(rt: &impl Abort, alloc: Global, text: &str, names: &Names) -> String {
     match expand(alloc, text, names) {
-        Ok(text) => String::from_str(alloc, text.as_str()),
-        Err(fault) => format!(in alloc; "{fault}"),
+        Ok(text) => String::from_str(alloc, text.as_str()).expect(rt, "memory"),
+        Err(fault) => format!(in alloc; "{fault}").expect(rt, "memory"),
     }
 }
 
-fn names(alloc: Global) -> Result<Names, AllocError> {
+fn named_texts(rt: &impl Abort, alloc: Global) -> NamedTexts {
     let mut pairs = NamedTexts::new(alloc);
     for (name, text) in TEXTS {
-        pairs.push((Text::fixed(name), Text::fixed(text)))?;
+        pairs
+            .push((Text::fixed(name), Text::fixed(text)))
+            .expect(rt, "memory");
     }
+    pairs
+}
+
+fn named_numbers(rt: &impl Abort, alloc: Global) -> Items<(Text, u64)> {
     let mut numbers = Items::new(alloc);
     for (name, number) in NUMBERS {
-        numbers.push((Text::fixed(name), number))?;
+        numbers
+            .push((Text::fixed(name), number))
+            .expect(rt, "memory");
     }
-    Ok(Names { pairs, numbers })
+    numbers
+}
+
+fn names(rt: &impl Abort, alloc: Global) -> Names {
+    Names {
+        pairs: named_texts(rt, alloc),
+        numbers: named_numbers(rt, alloc),
+    }
 }
 
 fn word_row(rt: &impl Abort, alloc: Global, row: &str) {
     let (text, expected) = row.split_once(" => ").expect(rt, "two cells");
-    let text = cell(alloc, text).expect(rt, "ample memory");
-    let expected = cell(alloc, expected).expect(rt, "ample memory");
-    let said = words_said(alloc, text.as_str()).expect(rt, "ample memory");
+    let text = cell(rt, alloc, text);
+    let expected = cell(rt, alloc, expected);
+    let said = words_said(rt, alloc, text.as_str());
     assert_eq!(rt; said.as_str(), expected.as_str(), "the words of {row}");
 }
 
 fn pair_row(rt: &impl Abort, alloc: Global, row: &str) {
     let (text, expected) = row.split_once(" => ").expect(rt, "two cells");
-    let text = cell(alloc, text).expect(rt, "ample memory");
-    let expected = cell(alloc, expected).expect(rt, "ample memory");
-    let said = pairs_said(alloc, text.as_str()).expect(rt, "ample memory");
+    let text = cell(rt, alloc, text);
+    let expected = cell(rt, alloc, expected);
+    let said = pairs_said(rt, alloc, text.as_str());
     assert_eq!(rt; said.as_str(), expected.as_str(), "the pairs of {row}");
 }
 
 fn expansion_row(rt: &impl Abort, alloc: Global, names: &Names, row: &str) {
     let (text, expected) = row.split_once(" => ").expect(rt, "two cells");
-    let text = cell(alloc, text).expect(rt, "ample memory");
-    let expected = cell(alloc, expected).expect(rt, "ample memory");
-    let said = expansion_said(alloc, text.as_str(), names).expect(rt, "ample memory");
+    let text = cell(rt, alloc, text);
+    let expected = cell(rt, alloc, expected);
+    let said = expansion_said(rt, alloc, text.as_str(), names);
     assert_eq!(rt; said.as_str(), expected.as_str(), "the expansion of {row}");
 }
 
@@ -354,7 +369,7 @@ fn pairs_of_each_text(rt: HostRuntime) {
 #[test]
 fn expansion_of_each_text(rt: HostRuntime) {
     let alloc = rt.alloc();
-    let names = names(alloc).expect(&rt, "ample memory");
+    let names = names(&rt, alloc);
     for row in EXPANSIONS.split('\n') {
         expansion_row(&rt, alloc, &names, row);
     }

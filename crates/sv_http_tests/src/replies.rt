@@ -1,8 +1,8 @@
 //! Replies read whole and in single bytes, at their limits, and the texts of requests.
 
-use std::alloc::{AllocError, Global};
+use std::alloc::Global;
 use std::process::Abort;
-use sv_http::{ReplyFault, ReplyReader, request};
+use sv_http::{Replied, ReplyFault, ReplyReader, request};
 
 // Each line is a stream, `=>`, and what it is: `N` where it goes on, `!` where it is no reply, or a status, `:` and a body.
 // In a stream `~` stands for CR LF, `_` for a line feed, `@` for `HTTP/1.1 200 OK` and CR LF, `#` for `Content-Length: `.
@@ -47,26 +47,61 @@ abc|h:9001||=>POST /RPC2 HTTP/1.1~Host: h:9001~Content-Type: text/xml~#3~~abc
 x|h|user|abc=>POST /RPC2 HTTP/1.1~Host: h~Content-Type: text/xml~#1~Authorization: Basic dXNlcjphYmM=~~x
 ";
 
-fn stream_of(alloc: Global, text: &str) -> Result<Vec<u8>, AllocError> {
+/// What a character of a written stream stands for, where it doesn't stand for itself.
+fn meaning(character: u8) -> &'static [u8] {
+    match character {
+        b'~' => b"\r\n",
+        b'_' => b"\n",
+        b'@' => b"HTTP/1.1 200 OK\r\n",
+        b'#' => b"Content-Length: ",
+        _ => &[],
+    }
+}
+
+fn stream_of(rt: &impl Abort, alloc: Global, text: &str) -> Vec<u8> {
     let mut bytes = Vec::new(alloc);
     for byte in text.as_bytes() {
-        let part: &[u8] = match *byte {
-            b'~' => b"\r\n".as_slice(),
-            b'_' => b"\n".as_slice(),
-            b'@' => b"HTTP/1.1 200 OK\r\n".as_slice(),
-            b'#' => b"Content-Length: ".as_slice(),
-            _ => {
-                bytes.push(*byte)?;
-                continue;
-            }
-        };
-        bytes.extend_from_slice(part)?;
+        let written = meaning(*byte);
+        if written.is_empty() {
+            bytes.push(*byte).expect(rt, "ample memory");
+        } else {
+            bytes.extend_from_slice(written).expect(rt, "ample memory");
+        }
     }
-    Ok(bytes)
+    bytes
+}
+
+/// The status of a reply, `:` and its body.
+fn reply_told(rt: &impl Abort, alloc: Global, replied: &Replied) -> String {
+    let status = replied.status;
+    let body = String::from_utf8_lossy(alloc, replied.body.as_slice());
+    let body = body.expect(rt, "ample memory");
+    format!(in alloc; "{status}:{body}").expect(rt, "ample memory")
+}
+
+/// What is said of a stream after a piece of it, where something is.
+fn outcome(
+    rt: &impl Abort,
+    alloc: Global,
+    reader: &mut ReplyReader,
+    piece: &[u8],
+    is_last: bool,
+) -> Option<String> {
+    match reader.feed(alloc, piece) {
+        Ok(None) => None,
+        Ok(Some(replied)) if is_last => Some(reply_told(rt, alloc, &replied)),
+        Ok(Some(_)) => Some(no_reply(rt, alloc)),
+        Err(ReplyFault::NotAReply) => Some(no_reply(rt, alloc)),
+        Err(ReplyFault::OutOfMemory) => panic!(rt; "ample memory"),
+    }
+}
+
+fn no_reply(rt: &impl Abort, alloc: Global) -> String {
+    String::from_str(alloc, "!").expect(rt, "ample memory")
 }
 
 /// What the reader says of a stream that comes in pieces of this size.
-fn told(alloc: Global, stream: &[u8], size: usize) -> Result<String, AllocError> {
+fn told(rt: &impl Abort, alloc: Global, stream: &[u8], size: usize) -> String {
     let mut reader = ReplyReader::new(alloc);
     let mut rest = stream;
     for _ in 0..stream.len() {
@@ -76,85 +111,88 @@ fn told(alloc: Global, stream: &[u8], size: usize) -> Result<String, AllocError>
         let count = size.min(rest.len());
         let (piece, after) = rest.split_at(count);
         rest = after;
-        match reader.feed(alloc, piece) {
-            Ok(None) => {}
-            Ok(Some(replied)) if rest.is_empty() => {
-                let status = replied.status;
-                let body = String::from_utf8_lossy(alloc, replied.body.as_slice())?;
-                return format!(in alloc; "{status}:{body}");
-            }
-            Ok(Some(_)) => return String::from_str(alloc, "!"),
-            Err(ReplyFault::NotAReply) => return String::from_str(alloc, "!"),
-            Err(ReplyFault::OutOfMemory) => return Err(AllocError),
+        if let Some(told) = outcome(rt, alloc, &mut reader, piece, rest.is_empty()) {
+            return told;
         }
     }
-    String::from_str(alloc, "N")
+    String::from_str(alloc, "N").expect(rt, "ample memory")
+}
+
+/// The stream of a row in pieces of this size.
+fn play(rt: &impl Abort, alloc: Global, row: &str, size: usize, how: &str) {
+    let (text, expected) = row.split_once("=>").expect(rt, "two cells");
+    let stream = stream_of(rt, alloc, text);
+    let told = told(rt, alloc, stream.as_slice(), size);
+    assert_eq!(rt; told.as_str(), expected, "{how}: {row}");
 }
 
 #[test]
-fn replies(rt: HostRuntime) -> Result<(), AllocError> {
+fn replies(rt: HostRuntime) {
     for row in REPLIES.lines() {
-        let (text, expected) = row.split_once("=>").expect(&rt, "two cells");
-        let stream = stream_of(rt.alloc(), text)?;
-        let whole = told(rt.alloc(), stream.as_slice(), usize::MAX)?;
-        assert_eq!(rt; whole.as_str(), expected, "whole: {row}");
-        let bytes = told(rt.alloc(), stream.as_slice(), 1)?;
-        assert_eq!(rt; bytes.as_str(), expected, "in bytes: {row}");
+        play(&rt, rt.alloc(), row, usize::MAX, "whole");
+        play(&rt, rt.alloc(), row, 1, "in bytes");
     }
-    Ok(())
 }
 
 /// A reply whose head has so many bytes, one long field among them.
-fn with_head(alloc: Global, size: usize) -> Result<Vec<u8>, AllocError> {
-    let mut bytes = stream_of(alloc, "@X: ")?;
+fn with_head(rt: &impl Abort, alloc: Global, size: usize) -> Vec<u8> {
+    let mut bytes = stream_of(rt, alloc, "@X: ");
     for _ in bytes.len()..size.saturating_sub(23) {
-        bytes.push(b'a')?;
+        bytes.push(b'a').expect(rt, "ample memory");
     }
-    bytes.extend_from_slice(b"\r\nContent-Length: 0\r\n\r\n")?;
-    Ok(bytes)
+    bytes
+        .extend_from_slice(b"\r\nContent-Length: 0\r\n\r\n")
+        .expect(rt, "ample memory");
+    bytes
 }
 
 /// A reply whose head has so many fields.
-fn with_fields(alloc: Global, fields: u32) -> Result<Vec<u8>, AllocError> {
-    let mut bytes = stream_of(alloc, "@#0~")?;
+fn with_fields(rt: &impl Abort, alloc: Global, fields: u32) -> Vec<u8> {
+    let mut bytes = stream_of(rt, alloc, "@#0~");
     for _ in 1..fields {
-        bytes.extend_from_slice(b"X: a\r\n")?;
+        bytes
+            .extend_from_slice(b"X: a\r\n")
+            .expect(rt, "ample memory");
     }
-    bytes.extend_from_slice(b"\r\n")?;
-    Ok(bytes)
+    bytes.extend_from_slice(b"\r\n").expect(rt, "ample memory");
+    bytes
+}
+
+fn check_head(rt: &impl Abort, alloc: Global, size: usize, expected: &str) {
+    let stream = with_head(rt, alloc, size);
+    assert_eq!(rt; stream.len(), size);
+    let found = told(rt, alloc, stream.as_slice(), usize::MAX);
+    assert_eq!(rt; found.as_str(), expected, "{size} bytes");
+}
+
+fn check_fields(rt: &impl Abort, alloc: Global, fields: u32, expected: &str) {
+    let stream = with_fields(rt, alloc, fields);
+    let found = told(rt, alloc, stream.as_slice(), usize::MAX);
+    assert_eq!(rt; found.as_str(), expected, "{fields} fields");
 }
 
 #[test]
-fn limits_of_a_head(rt: HostRuntime) -> Result<(), AllocError> {
-    for (size, expected) in [(16_384, "200:"), (16_385, "!")] {
-        let stream = with_head(rt.alloc(), size)?;
-        assert_eq!(rt; stream.len(), size);
-        let found = told(rt.alloc(), stream.as_slice(), usize::MAX)?;
-        assert_eq!(rt; found.as_str(), expected, "{size} bytes");
-    }
-    for (fields, expected) in [(64, "200:"), (65, "!")] {
-        let stream = with_fields(rt.alloc(), fields)?;
-        let found = told(rt.alloc(), stream.as_slice(), usize::MAX)?;
-        assert_eq!(rt; found.as_str(), expected, "{fields} fields");
-    }
-    Ok(())
+fn limits_of_a_head(rt: HostRuntime) {
+    check_head(&rt, rt.alloc(), 16_384, "200:");
+    check_head(&rt, rt.alloc(), 16_385, "!");
+    check_fields(&rt, rt.alloc(), 64, "200:");
+    check_fields(&rt, rt.alloc(), 65, "!");
 }
 
 #[test]
-fn requests(rt: HostRuntime) -> Result<(), AllocError> {
+fn requests(rt: HostRuntime) {
     for row in REQUESTS.lines() {
-        check_request(&rt, rt.alloc(), row)?;
+        check_request(&rt, rt.alloc(), row);
     }
-    Ok(())
 }
 
-fn check_request(rt: &impl Abort, alloc: Global, row: &str) -> Result<(), AllocError> {
+fn check_request(rt: &impl Abort, alloc: Global, row: &str) {
     let (cells, expected) = row.split_once("=>").expect(rt, "two cells");
     let (body, cells) = cells.split_once('|').expect(rt, "a body");
     let (host, cells) = cells.split_once('|').expect(rt, "a host");
     let (username, password) = cells.split_once('|').expect(rt, "a username");
-    let text = request(alloc, body.as_bytes(), host, username, password)?;
-    let expected = stream_of(alloc, expected)?;
+    let text = request(alloc, body.as_bytes(), host, username, password);
+    let text = text.expect(rt, "ample memory");
+    let expected = stream_of(rt, alloc, expected);
     assert_eq!(rt; text.as_slice(), expected.as_slice(), "{row}");
-    Ok(())
 }

@@ -1,7 +1,7 @@
-//! Streams with their asks, cut behind every byte and in single bytes, and the texts of replies.
+//! Streams with their asks, cut after every byte and in single bytes, and the texts of replies.
 
 use hex::FromHex;
-use std::alloc::{AllocError, Global};
+use std::alloc::Global;
 use std::process::Abort;
 use sv_base::config::Password;
 use sv_base::text::Text;
@@ -255,31 +255,36 @@ fn bytes_of(rt: &impl Abort, alloc: Global, text: &str) -> Vec<u8> {
     bytes
 }
 
+/// Adds a letter and what follows it.
+fn put(rt: &impl Abort, told: &mut Vec<u8>, letter: u8, bytes: &[u8]) {
+    told.push(letter).expect(rt, "ample memory");
+    told.extend_from_slice(bytes).expect(rt, "ample memory");
+    told.push(b';').expect(rt, "ample memory");
+}
+
 /// Adds an ask to a text, with the body as it stands.
-fn tell(told: &mut Vec<u8>, ask: &Ask) -> Result<(), AllocError> {
+fn tell(rt: &impl Abort, told: &mut Vec<u8>, ask: &Ask) {
     match ask {
         Ask::Call { body, close } => {
-            told.push(if *close { b'K' } else { b'C' })?;
-            told.extend_from_slice(body.as_slice())?;
+            let letter = if *close { b'K' } else { b'C' };
+            put(rt, told, letter, body.as_slice());
         }
         Ask::Bad(refusal) => {
             let mut buffer = itoa::Buffer::new();
-            told.push(b'B')?;
-            told.extend_from_slice(buffer.format(Status::Bad(*refusal).number()).as_bytes())?;
+            let number = buffer.format(Status::Bad(*refusal).number());
+            put(rt, told, b'B', number.as_bytes());
         }
     }
-    told.push(b';')?;
-    Ok(())
 }
 
 fn feed(rt: &impl Abort, alloc: Global, reader: &mut HttpReader, piece: &[u8], told: &mut Vec<u8>) {
     let asks = reader.feed(alloc, piece).expect(rt, "ample memory");
     for ask in asks.as_slice() {
-        tell(told, ask).expect(rt, "ample memory");
+        tell(rt, told, ask);
     }
 }
 
-/// The stream in pieces of so many bytes, behind a first piece of so many.
+/// The stream in pieces of so many bytes, after a first piece of so many.
 fn play(
     rt: &impl Abort,
     alloc: Global,
@@ -298,29 +303,38 @@ fn play(
     told
 }
 
-/// The stream cut behind each byte, and in single bytes.
+/// The stream, cut after the first piece and in pieces of this size, has these asks.
+fn check(
+    rt: &impl Abort,
+    alloc: Global,
+    guard: &str,
+    stream: &[u8],
+    cut: (usize, usize),
+    expected: &[u8],
+) {
+    let (first, size) = cut;
+    let told = play(rt, alloc, guard_of(rt, guard), stream, first, size);
+    assert!(rt; told.as_slice() == expected);
+}
+
+/// The stream cut after each byte, and in single bytes.
+fn play_cut(rt: &impl Abort, alloc: Global, guard: &str, stream: &[u8], expected: &[u8]) {
+    for first in 0..=stream.len() {
+        check(rt, alloc, guard, stream, (first, 65_536), expected);
+    }
+    check(rt, alloc, guard, stream, (0, 1), expected);
+}
+
 fn play_line(rt: &impl Abort, alloc: Global, line: &str) {
     let (guard, line) = line.split_once('|').expect(rt, "a guard");
     let (stream, expected) = line.split_once("=>").expect(rt, "a stream and its asks");
     let stream = bytes_of(rt, alloc, stream);
     let expected = bytes_of(rt, alloc, expected);
-    for first in 0..=stream.as_slice().len() {
-        let told = play(
-            rt,
-            alloc,
-            guard_of(rt, guard),
-            stream.as_slice(),
-            first,
-            65_536,
-        );
-        assert!(rt; told.as_slice() == expected.as_slice());
-    }
-    let told = play(rt, alloc, guard_of(rt, guard), stream.as_slice(), 0, 1);
-    assert!(rt; told.as_slice() == expected.as_slice());
+    play_cut(rt, alloc, guard, stream.as_slice(), expected.as_slice());
 }
 
 /// A stream of a front, a byte that stands so often, and what follows it.
-fn play_long(rt: &impl Abort, alloc: Global, parts: (&str, &str, usize, &str), expected: &str) {
+fn long_stream(rt: &impl Abort, alloc: Global, parts: (&str, &str, usize, &str)) -> Vec<u8> {
     let (front, repeated, times, back) = parts;
     let mut stream = bytes_of(rt, alloc, front);
     let repeated = bytes_of(rt, alloc, repeated);
@@ -333,9 +347,15 @@ fn play_long(rt: &impl Abort, alloc: Global, parts: (&str, &str, usize, &str), e
     stream
         .extend_from_slice(back.as_slice())
         .expect(rt, "ample memory");
+    stream
+}
+
+/// Such a stream in pieces of some sizes.
+fn play_long(rt: &impl Abort, alloc: Global, parts: (&str, &str, usize, &str), expected: &str) {
+    let stream = long_stream(rt, alloc, parts);
+    let expected = expected.as_bytes();
     for size in [1, 7, 4_096, 65_536] {
-        let told = play(rt, alloc, guard_of(rt, "-"), stream.as_slice(), 0, size);
-        assert!(rt; told.as_slice() == expected.as_bytes());
+        check(rt, alloc, "-", stream.as_slice(), (0, size), expected);
     }
 }
 

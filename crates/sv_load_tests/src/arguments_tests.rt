@@ -1,6 +1,7 @@
 //! Lines of words, each with what it says, by the words that the daemon is documented to take.
 
-use std::alloc::{AllocError, Global};
+use std::alloc::Global;
+use std::process::Abort;
 use sv_arguments::arguments_of;
 use sv_base::Text;
 
@@ -31,34 +32,35 @@ const LINES: [(&str, &str); 23] = [
     ("--configuration", "-"),
 ];
 
-fn words_of(alloc: Global, line: &str) -> Result<Vec<Text>, AllocError> {
+fn words_of(rt: &impl Abort, alloc: Global, line: &str) -> Vec<Text> {
     let mut words = Vec::new(alloc);
     for word in line.split(' ') {
-        words.push(Text::from_str(alloc, word)?)?;
+        let word = Text::from_str(alloc, word).expect(rt, "memory");
+        words.push(word).expect(rt, "memory");
     }
-    Ok(words)
+    words
 }
 
-fn told(alloc: Global, words: &[Text]) -> Result<String, AllocError> {
-    match arguments_of(alloc, words)? {
+fn told(rt: &impl Abort, alloc: Global, words: &[Text]) -> String {
+    match arguments_of(alloc, words).expect(rt, "memory") {
         Some(arguments) => {
-            let mut text = String::from_str(alloc, arguments.file.as_str())?;
+            let mut text = String::from_str(alloc, arguments.file.as_str()).expect(rt, "memory");
             if arguments.journal {
-                text.push('+')?;
+                text.push('+').expect(rt, "memory");
             }
-            Ok(text)
+            text
         }
-        None => String::from_str(alloc, "-"),
+        None => String::from_str(alloc, "-").expect(rt, "memory"),
     }
 }
 
 #[test]
 fn words_say_the_file_and_the_journal(rt: HostRuntime) {
     for (line, expected) in LINES {
-        let words = words_of(rt.alloc(), line).expect(&rt, "ample memory");
-        let text = told(rt.alloc(), words.as_slice()).expect(&rt, "ample memory");
+        let words = words_of(&rt, rt.alloc(), line);
+        let text = told(&rt, rt.alloc(), words.as_slice());
         assert_eq!(&rt; text.as_str(), expected, "{line}");
     }
-    let text = told(rt.alloc(), &[]).expect(&rt, "ample memory");
+    let text = told(&rt, rt.alloc(), &[]);
     assert_eq!(&rt; text.as_str(), "-");
 }

@@ -91,62 +91,80 @@ impl Lines for Letters {
     }
 }
 
-fn script_of(rt: &impl Abort, alloc: Global, text: &str) -> Result<Vec<Input>, AllocError> {
+fn input_of(rt: &impl Abort, byte: u8) -> Input {
+    let at = Moment::zero();
+    match byte {
+        b't' => Input::Tick { at },
+        b's' => Input::Signal {
+            at,
+            signal: DaemonSignal::new(Signal::Term).expect(rt, "a signal that the daemon takes"),
+        },
+        _ => Input::Failed(0),
+    }
+}
+
+fn script_of(rt: &impl Abort, alloc: Global, text: &str) -> Vec<Input> {
     let mut script = Vec::new(alloc);
     for byte in text.as_bytes() {
-        let at = Moment::zero();
-        script.push(match byte {
-            b't' => Input::Tick { at },
-            b's' => Input::Signal {
-                at,
-                signal: DaemonSignal::new(Signal::Term).expect(
-                    rt,
-                    "a signal that the daemon takes",
-                ),
-            },
-            _ => Input::Failed(0),
-        })?;
+        script.push(input_of(rt, *byte)).expect(rt, "memory");
     }
-    Ok(script)
+    script
 }
 
-fn calls_of(alloc: Global, text: &str) -> Result<Vec<u64>, AllocError> {
+fn calls_of(rt: &impl Abort, alloc: Global, text: &str) -> Vec<u64> {
     let mut calls = Vec::new(alloc);
     for byte in text.as_bytes() {
-        calls.push(u64::from(byte.saturating_sub(b'0')))?;
+        let call = u64::from(byte.saturating_sub(b'0'));
+        calls.push(call).expect(rt, "memory");
     }
-    Ok(calls)
+    calls
 }
 
-fn end_of(alloc: Global, end: End) -> Result<String, AllocError> {
-    match end {
-        End::Halted => String::from_str(alloc, "halted"),
-        End::NoMemory => Err(AllocError),
-        End::Broken => String::from_str(alloc, "broken"),
-        End::Ended => String::from_str(alloc, "ended"),
-        End::Full => String::from_str(alloc, "full"),
-        End::Unwritten => String::from_str(alloc, "unwritten"),
-        End::Misplaced(number) => Ok(format!(in alloc; "misplaced {number}")?),
-    }
+fn world_of(rt: &impl Abort, alloc: Global, script: &str, failing: &str) -> ScriptWorld {
+    let script = script_of(rt, alloc, script);
+    ScriptWorld::new(alloc, script, calls_of(rt, alloc, failing))
+}
+
+fn end_of(rt: &impl Abort, alloc: Global, end: End) -> String {
+    let word = match end {
+        End::Halted => "halted",
+        End::NoMemory => panic!(rt; "out of memory"),
+        End::Broken => "broken",
+        End::Ended => "ended",
+        End::Full => "full",
+        End::Unwritten => "unwritten",
+        End::Misplaced(number) => {
+            return format!(in alloc; "misplaced {number}").expect(rt, "memory");
+        }
+    };
+    String::from_str(alloc, word).expect(rt, "memory")
+}
+
+/// How the loop ends with a machine that takes so many inputs.
+fn end_after(alloc: Global, left: u64, world: &mut ScriptWorld, journal: &mut ListSink) -> End {
+    let toy = Toy {
+        left,
+        halted: false,
+    };
+    serve(alloc, toy, world, &Letters, journal)
+}
+
+/// The end, the number of orders handed over, and the journal.
+fn told(rt: &impl Abort, alloc: Global, end: End, handed: usize, journal: &[u8]) -> String {
+    let end = end_of(rt, alloc, end);
+    let text = String::from_utf8_lossy(alloc, journal).expect(rt, "memory");
+    format!(in alloc; "{end} {handed} {text}").expect(rt, "ample memory")
 }
 
 #[test]
 fn inputs_are_taken_until_the_halt(rt: HostRuntime) {
     for (script, left, failing, writes, expected) in COURSES {
-        let script = script_of(&rt, rt.alloc(), script).expect(&rt, "ample memory");
-        let failing = calls_of(rt.alloc(), failing).expect(&rt, "ample memory");
-        let writes = calls_of(rt.alloc(), writes).expect(&rt, "ample memory");
-        let mut world = ScriptWorld::new(rt.alloc(), script, failing);
+        let mut world = world_of(&rt, rt.alloc(), script, failing);
+        let writes = calls_of(&rt, rt.alloc(), writes);
         let mut journal = ListSink::new(rt.alloc(), 64, writes);
-        let toy = Toy {
-            left,
-            halted: false,
-        };
-        let end = serve(rt.alloc(), toy, &mut world, &Letters, &mut journal);
-        let end = end_of(rt.alloc(), end).expect(&rt, "ample memory");
+        let end = end_after(rt.alloc(), left, &mut world, &mut journal);
         let handed = world.handed().len();
-        let text = String::from_utf8_lossy(rt.alloc(), journal.written()).expect(&rt, "memory");
-        let told = format!(in rt.alloc(); "{end} {handed} {text}").expect(&rt, "ample memory");
+        let told = told(&rt, rt.alloc(), end, handed, journal.written());
         assert_eq!(&rt; told.as_str(), expected);
     }
 }

@@ -1,7 +1,7 @@
 //! Configurations that are read from shelves, worked by hand: which files are read, and what each failing call gives.
 ghost use Rattle.std.specs.Prelude.{◌≡◌, None};
 
-use std::alloc::{AllocError, Global};
+use std::alloc::Global;
 use std::process::Abort;
 use sv_base::{Bytes, Host, Items, Moment, Text};
 use sv_load::{LoadFault, load};
@@ -55,33 +55,43 @@ fn host(alloc: Global) -> Host {
     }
 }
 
-fn add_file(alloc: Global, shelf: &mut MapShelf, name: &str, text: &str) -> Result<(), AllocError> {
-    let bytes = Bytes::from_slice(alloc, text.as_bytes())?;
-    shelf.set(Text::from_str(alloc, name)?, bytes)
+fn add_file(rt: &impl Abort, alloc: Global, shelf: &mut MapShelf, name: &str, text: &str) {
+    let bytes = Bytes::from_slice(alloc, text.as_bytes()).expect(rt, "memory");
+    let name = Text::from_str(alloc, name).expect(rt, "memory");
+    shelf.set(name, bytes).expect(rt, "memory");
+}
+
+/// The names of the files that were read beside the main one.
+fn names_told(rt: &impl Abort, alloc: Global, included: &[(Text, Bytes)]) -> String {
+    let mut text = String::from_str(alloc, "read").expect(rt, "memory");
+    for file in included {
+        text.push(' ').expect(rt, "memory");
+        text.push_str(file.0.as_str()).expect(rt, "memory");
+    }
+    text
+}
+
+fn fault_told(rt: &impl Abort, alloc: Global, fault: &LoadFault) -> String {
+    match fault {
+        LoadFault::Missing => String::from_str(alloc, "missing").expect(rt, "memory"),
+        LoadFault::Refused(fault) => {
+            let fault = fault.text(alloc).expect(rt, "memory");
+            let fault = fault.as_str();
+            format!(in alloc; "refused {fault}").expect(rt, "memory")
+        }
+        LoadFault::Failed(name) => {
+            let name = name.as_str();
+            format!(in alloc; "failed {name}").expect(rt, "memory")
+        }
+        LoadFault::OutOfMemory => panic!(rt; "out of memory"),
+    }
 }
 
 /// What is told of the configuration of `/s.conf`.
-fn told<S: Shelf>(alloc: Global, shelf: &mut S) -> Result<String, AllocError> {
+fn told<S: Shelf>(rt: &impl Abort, alloc: Global, shelf: &mut S) -> String {
     match load(alloc, "/s.conf", &host(alloc), shelf) {
-        Ok(loaded) => {
-            let mut text = String::from_str(alloc, "read")?;
-            for included in loaded.included.as_slice() {
-                text.push(' ')?;
-                text.push_str(included.0.as_str())?;
-            }
-            Ok(text)
-        }
-        Err(LoadFault::Missing) => String::from_str(alloc, "missing"),
-        Err(LoadFault::Refused(fault)) => {
-            let fault = fault.text(alloc)?;
-            let fault = fault.as_str();
-            Ok(format!(in alloc; "refused {fault}")?)
-        }
-        Err(LoadFault::Failed(name)) => {
-            let name = name.as_str();
-            Ok(format!(in alloc; "failed {name}")?)
-        }
-        Err(LoadFault::OutOfMemory) => Err(AllocError),
+        Ok(loaded) => names_told(rt, alloc, loaded.included.as_slice()),
+        Err(fault) => fault_told(rt, alloc, &fault),
     }
 }
 
@@ -91,14 +101,20 @@ fn failing_at(rt: &impl Abort, alloc: Global, call: u64) -> MapShelf {
     MapShelf::new(alloc, calls)
 }
 
+/// A shelf of the files that fails at this call.
+fn files_failing_at(rt: &impl Abort, alloc: Global, call: u64) -> MapShelf {
+    let mut shelf = failing_at(rt, alloc, call);
+    for (name, text) in FILES {
+        add_file(rt, alloc, &mut shelf, name, text);
+    }
+    shelf
+}
+
 #[test]
 fn each_listed_file_is_read_once(rt: HostRuntime) {
     for (call, expected) in FAILURES {
-        let mut shelf = failing_at(&rt, rt.alloc(), call);
-        for (name, text) in FILES {
-            add_file(rt.alloc(), &mut shelf, name, text).expect(&rt, "ample memory");
-        }
-        let text = told(rt.alloc(), &mut shelf).expect(&rt, "ample memory");
+        let mut shelf = files_failing_at(&rt, rt.alloc(), call);
+        let text = told(&rt, rt.alloc(), &mut shelf);
         assert_eq!(&rt; text.as_str(), expected, "call {call}");
         let failed = if call < 8 { 1 } else { 0 };
         assert!(&rt; shelf.faults() == failed, "call {call}");
@@ -109,14 +125,14 @@ fn each_listed_file_is_read_once(rt: HostRuntime) {
 fn faults_of_the_main_text_are_told_before_any_pattern(rt: HostRuntime) {
     for (main, text, expected, faults) in REFUSED {
         let mut shelf = failing_at(&rt, rt.alloc(), 2);
-        add_file(rt.alloc(), &mut shelf, "/s.conf", main).expect(&rt, "ample memory");
-        add_file(rt.alloc(), &mut shelf, "/d/a", text).expect(&rt, "ample memory");
-        let text = told(rt.alloc(), &mut shelf).expect(&rt, "ample memory");
+        add_file(&rt, rt.alloc(), &mut shelf, "/s.conf", main);
+        add_file(&rt, rt.alloc(), &mut shelf, "/d/a", text);
+        let text = told(&rt, rt.alloc(), &mut shelf);
         assert_eq!(&rt; text.as_str(), expected);
         assert!(&rt; shelf.faults() == faults, "{main}");
     }
     let mut empty = failing_at(&rt, rt.alloc(), 9);
-    let text = told(rt.alloc(), &mut empty).expect(&rt, "ample memory");
+    let text = told(&rt, rt.alloc(), &mut empty);
     assert_eq!(&rt; text.as_str(), "missing");
 }
 
@@ -175,7 +191,7 @@ impl Shelf for Vanishing {
 #[test]
 fn a_listed_file_that_is_gone_is_left_out(rt: HostRuntime) {
     let mut listed = failing_at(&rt, rt.alloc(), 9);
-    add_file(rt.alloc(), &mut listed, "/d/gone.ini", "[gone").expect(&rt, "ample memory");
-    let text = told(rt.alloc(), &mut Vanishing { listed }).expect(&rt, "ample memory");
+    add_file(&rt, rt.alloc(), &mut listed, "/d/gone.ini", "[gone");
+    let text = told(&rt, rt.alloc(), &mut Vanishing { listed });
     assert_eq!(&rt; text.as_str(), "read");
 }

@@ -1,6 +1,7 @@
 //! Outcomes with the lines and the statuses that are told of them.
 
-use std::alloc::{AllocError, Global};
+use std::alloc::Global;
+use std::process::Abort;
 use sv_base::Text;
 use sv_out::sink::ListSink;
 use sv_outcome::Outcome;
@@ -41,17 +42,17 @@ fn outcome_of(letter: u8) -> Outcome {
 }
 
 /// A sink that takes 7 bytes at a time, and whose call of this number fails.
-fn sink(alloc: Global, call: u64) -> Result<ListSink, AllocError> {
+fn sink(rt: &impl Abort, alloc: Global, call: u64) -> ListSink {
     let mut failing = Vec::new(alloc);
-    failing.push(call)?;
-    Ok(ListSink::new(alloc, 7, failing))
+    failing.push(call).expect(rt, "memory");
+    ListSink::new(alloc, 7, failing)
 }
 
 #[test]
 fn each_outcome_leaves_its_line(rt: HostRuntime) {
     for (letter, status, line) in OUTCOMES {
         let outcome = outcome_of(letter);
-        let mut out = sink(rt.alloc(), 0).expect(&rt, "ample memory");
+        let mut out = sink(&rt, rt.alloc(), 0);
         let told = outcome.tell(rt.alloc(), &mut out);
         assert_eq!(&rt; told, status, "{letter}");
         let written = String::from_utf8_lossy(rt.alloc(), out.written()).expect(&rt, "memory");
@@ -63,7 +64,7 @@ fn each_outcome_leaves_its_line(rt: HostRuntime) {
 fn a_line_that_cannot_be_written_gives_7(rt: HostRuntime) {
     for (letter, status, line) in OUTCOMES {
         let outcome = outcome_of(letter);
-        let mut out = sink(rt.alloc(), 2).expect(&rt, "ample memory");
+        let mut out = sink(&rt, rt.alloc(), 2);
         let told = outcome.tell(rt.alloc(), &mut out);
         let expected = if line.is_empty() { status } else { 7 };
         assert_eq!(&rt; told, expected, "{letter}");

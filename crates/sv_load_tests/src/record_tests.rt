@@ -1,6 +1,6 @@
 //! Headers and lines, worked by hand.
 
-use std::alloc::{AllocError, Global};
+use std::alloc::Global;
 use std::process::Abort;
 use sv_base::{Bytes, DaemonSignal, Host, Items, Moment, Signal, Text};
 use sv_daemon::Lines;
@@ -17,21 +17,24 @@ const LONG: &str =
     "supervisor-journal 1\nhost a%20b\nhere /etc\npid 7\nenv A %\nenv B %25\nsize /l 12\nconf %\ninclude /d/a x%0A\ninclude /d/b %\ngo 5\n";
 
 fn pairs(
+    rt: &impl Abort,
     alloc: Global,
     texts: &[(&'static str, &'static str)],
-) -> Result<Items<(Text, Text)>, AllocError> {
+) -> Items<(Text, Text)> {
     let mut pairs = Items::new(alloc);
     for pair in texts {
-        pairs.push((Text::fixed(pair.0), Text::fixed(pair.1)))?;
+        pairs
+            .push((Text::fixed(pair.0), Text::fixed(pair.1)))
+            .expect(rt, "memory");
     }
-    Ok(pairs)
+    pairs
 }
 
-fn bytes(alloc: Global, text: &str) -> Result<Bytes, AllocError> {
-    Bytes::from_slice(alloc, text.as_bytes())
+fn bytes(rt: &impl Abort, alloc: Global, text: &str) -> Bytes {
+    Bytes::from_slice(alloc, text.as_bytes()).expect(rt, "memory")
 }
 
-fn short(rt: &impl Abort, alloc: Global) -> Result<Vec<u8>, AllocError> {
+fn short_header(rt: &impl Abort, alloc: Global) -> Vec<u8> {
     let host = Host {
         name: Text::fixed("h"),
         here: Text::fixed("/"),
@@ -39,8 +42,12 @@ fn short(rt: &impl Abort, alloc: Global) -> Result<Vec<u8>, AllocError> {
         environment: Items::new(alloc),
         start: Moment::zero(),
     };
-    let main = bytes(alloc, "[supervisord]\nlogfile=NONE\n")?;
-    let mut text = header_text(alloc, &host, &[], &main, &[])?;
+    let main = bytes(rt, alloc, "[supervisord]\nlogfile=NONE\n");
+    header_text(alloc, &host, &[], &main, &[]).expect(rt, "memory")
+}
+
+/// The lines of TERM and of the halt, where a journal is kept and where none is.
+fn lines(rt: &impl Abort, alloc: Global) -> String {
     let signal = DaemonSignal::new(Signal::Term).expect(rt, "a signal that the daemon takes");
     let input = Input::Signal {
         at: Moment::zero(),
@@ -48,35 +55,53 @@ fn short(rt: &impl Abort, alloc: Global) -> Result<Vec<u8>, AllocError> {
     };
     let mut told = String::new(alloc);
     for lines in [JournalLines::Kept, JournalLines::Quiet] {
-        lines.put_input(&input, &mut told)?;
-        lines.put_order(&Order::Halt, &mut told)?;
+        lines.put_input(&input, &mut told).expect(rt, "memory");
+        lines
+            .put_order(&Order::Halt, &mut told)
+            .expect(rt, "memory");
     }
-    text.extend_from_slice(told.as_str().as_bytes())?;
-    Ok(text)
+    told
 }
 
-fn long(rt: &impl Abort, alloc: Global) -> Result<Vec<u8>, AllocError> {
-    let host = Host {
+fn short(rt: &impl Abort, alloc: Global) -> Vec<u8> {
+    let mut text = short_header(rt, alloc);
+    let told = lines(rt, alloc);
+    text.extend_from_slice(told.as_str().as_bytes())
+        .expect(rt, "memory");
+    text
+}
+
+fn long_host(rt: &impl Abort, alloc: Global) -> Host {
+    Host {
         name: Text::fixed("a b"),
         here: Text::fixed("/etc"),
         pid: 7,
-        environment: pairs(alloc, &[("A", ""), ("B", "%")])?,
+        environment: pairs(rt, alloc, &[("A", ""), ("B", "%")]),
         start: Moment::new(5).expect(rt, "a moment"),
-    };
+    }
+}
+
+fn long(rt: &impl Abort, alloc: Global) -> Vec<u8> {
+    let host = long_host(rt, alloc);
     let sizes = [(Text::fixed("/k"), 0u64), (Text::fixed("/l"), 12u64)];
     let included = [
-        (Text::fixed("/d/a"), bytes(alloc, "x\n")?),
-        (Text::fixed("/d/b"), bytes(alloc, "")?),
+        (Text::fixed("/d/a"), bytes(rt, alloc, "x\n")),
+        (Text::fixed("/d/b"), bytes(rt, alloc, "")),
     ];
-    header_text(alloc, &host, &sizes, &bytes(alloc, "")?, &included)
+    let main = bytes(rt, alloc, "");
+    header_text(alloc, &host, &sizes, &main, &included).expect(rt, "memory")
+}
+
+/// The bytes are those of this text.
+fn is_text(rt: &impl Abort, alloc: Global, bytes: &[u8], expected: &str) {
+    let text = String::from_utf8_lossy(alloc, bytes).expect(rt, "memory");
+    assert_eq!(rt; text.as_str(), expected);
 }
 
 #[test]
 fn a_daemon_s_journal_is_its_header_and_its_lines(rt: HostRuntime) {
-    let bytes = short(&rt, rt.alloc()).expect(&rt, "ample memory");
-    let text = String::from_utf8_lossy(rt.alloc(), bytes.as_slice()).expect(&rt, "memory");
-    assert_eq!(&rt; text.as_str(), SHORT);
-    let bytes = long(&rt, rt.alloc()).expect(&rt, "ample memory");
-    let text = String::from_utf8_lossy(rt.alloc(), bytes.as_slice()).expect(&rt, "memory");
-    assert_eq!(&rt; text.as_str(), LONG);
+    let bytes = short(&rt, rt.alloc());
+    is_text(&rt, rt.alloc(), bytes.as_slice(), SHORT);
+    let bytes = long(&rt, rt.alloc());
+    is_text(&rt, rt.alloc(), bytes.as_slice(), LONG);
 }

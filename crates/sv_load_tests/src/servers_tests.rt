@@ -1,6 +1,7 @@
 //! The servers of configurations, and words and files that name none.
 
-use std::alloc::{AllocError, Global};
+use std::alloc::Global;
+use std::process::Abort;
 use sv_base::{Bytes, Host, Items, Moment, Password, Place, ServerSpec, Text};
 use sv_out::MapShelf;
 use sv_servers::servers;
@@ -35,72 +36,94 @@ const ROWS: [(&str, u64, &str); 8] = [
     ("-c /s.conf", 1, ""),
 ];
 
-fn shelf_of(alloc: Global, failing: u64) -> Result<MapShelf, AllocError> {
-    let mut calls = Vec::new(alloc);
-    calls.push(failing)?;
-    let mut shelf = MapShelf::new(alloc, calls);
-    for (name, text) in FILES {
-        let bytes = Bytes::from_slice(alloc, text.as_bytes())?;
-        shelf.set(Text::from_str(alloc, name)?, bytes)?;
-    }
-    Ok(shelf)
+fn put_file(rt: &impl Abort, alloc: Global, shelf: &mut MapShelf, name: &str, text: &str) {
+    let bytes = Bytes::from_slice(alloc, text.as_bytes()).expect(rt, "memory");
+    let name = Text::from_str(alloc, name).expect(rt, "memory");
+    shelf.set(name, bytes).expect(rt, "memory");
 }
 
-fn words_of(alloc: Global, text: &str) -> Result<Vec<Text>, AllocError> {
+fn shelf_of(rt: &impl Abort, alloc: Global, failing: u64) -> MapShelf {
+    let mut calls = Vec::new(alloc);
+    calls.push(failing).expect(rt, "memory");
+    let mut shelf = MapShelf::new(alloc, calls);
+    for (name, text) in FILES {
+        put_file(rt, alloc, &mut shelf, name, text);
+    }
+    shelf
+}
+
+fn words_of(rt: &impl Abort, alloc: Global, text: &str) -> Vec<Text> {
     let mut words = Vec::new(alloc);
     for word in text.split(' ') {
         if !word.is_empty() {
-            words.push(Text::from_str(alloc, word)?)?;
+            let word = Text::from_str(alloc, word).expect(rt, "memory");
+            words.push(word).expect(rt, "memory");
         }
     }
-    Ok(words)
+    words
 }
 
-fn put_server(text: &mut String, server: &ServerSpec) -> Result<(), AllocError> {
-    match &server.place {
+fn put(rt: &impl Abort, text: &mut String, piece: &str) {
+    text.push_str(piece).expect(rt, "memory");
+}
+
+fn put_place(rt: &impl Abort, text: &mut String, place: &Place) {
+    match place {
         Place::Inet(host, port) => {
-            text.push_str("inet ")?;
-            text.push_str(host.as_str())?;
-            text.push_str(if *port == 9001 { ":9001" } else { ":?" })?;
+            put(rt, text, "inet ");
+            put(rt, text, host.as_str());
+            put(rt, text, if *port == 9001 { ":9001" } else { ":?" });
         }
         Place::Unix(path) => {
-            text.push_str("unix ")?;
-            text.push_str(path.as_str())?;
+            put(rt, text, "unix ");
+            put(rt, text, path.as_str());
         }
     }
-    text.push_str(" user <")?;
-    text.push_str(server.username.as_str())?;
-    text.push_str("> password ")?;
-    text.push_str(match &server.password {
+}
+
+fn put_server(rt: &impl Abort, text: &mut String, server: &ServerSpec) {
+    put_place(rt, text, &server.place);
+    put(rt, text, " user <");
+    put(rt, text, server.username.as_str());
+    put(rt, text, "> password ");
+    let password = match &server.password {
         Password::None => "none",
         Password::Plain(password) => password.as_str(),
         Password::Sha(_) => "sha",
-    })?;
-    text.push(';')
+    };
+    put(rt, text, password);
+    put(rt, text, ";");
 }
 
-fn servers_said(alloc: Global, words: &str, failing: u64) -> Result<String, AllocError> {
-    let host = Host {
+fn host(alloc: Global) -> Host {
+    Host {
         name: Text::fixed("h"),
         here: Text::fixed("/"),
         pid: 1,
         environment: Items::new(alloc),
         start: Moment::zero(),
-    };
-    let mut shelf = shelf_of(alloc, failing)?;
-    let words = words_of(alloc, words)?;
-    let all = servers(alloc, words.as_slice(), &host, &mut shelf)?;
+    }
+}
+
+fn servers_of(rt: &impl Abort, alloc: Global, words: &str, failing: u64) -> Items<ServerSpec> {
+    let words = words_of(rt, alloc, words);
+    let mut shelf = shelf_of(rt, alloc, failing);
+    servers(alloc, words.as_slice(), &host(alloc), &mut shelf).expect(rt, "memory")
+}
+
+fn servers_said(rt: &impl Abort, alloc: Global, words: &str, failing: u64) -> String {
+    let all = servers_of(rt, alloc, words, failing);
     let mut text = String::new(alloc);
     for server in all.as_slice() {
-        put_server(&mut text, server)?;
+        put_server(rt, &mut text, server);
     }
-    Ok(text)
+    text
 }
 
 #[test]
 fn servers_are_those_of_the_configuration(rt: HostRuntime) {
     for (words, failing, expected) in ROWS {
-        let text = servers_said(rt.alloc(), words, failing).expect(&rt, "ample memory");
+        let text = servers_said(&rt, rt.alloc(), words, failing);
         assert_eq!(&rt; text.as_str(), expected, "{words} {failing}");
     }
 }

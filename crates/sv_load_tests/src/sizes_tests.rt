@@ -1,7 +1,7 @@
 //! Sizes that are read from shelves, worked by hand: the log files `/e`, `/m` and `/p` in this order, one of which two processes
 //! write.
 
-use std::alloc::{AllocError, Global};
+use std::alloc::Global;
 use std::process::Abort;
 use sv_base::config::{ClientSpec, Config};
 use sv_base::groups::Groups;
@@ -99,47 +99,54 @@ fn config(rt: &impl Abort, alloc: Global) -> Config {
     }
 }
 
-/// A shelf with the files `/m` and `/p` and one that is no log, which fails at this call.
-fn shelf(alloc: Global, call: u64) -> Result<MapShelf, AllocError> {
-    let mut failing = Vec::new(alloc);
-    failing.push(call)?;
-    let mut shelf = MapShelf::new(alloc, failing);
-    for (name, held) in [("/m", "abc"), ("/p", "0123456789"), ("/x", "x")] {
-        shelf.set(
-            Text::from_str(alloc, name)?,
-            Bytes::from_slice(alloc, held.as_bytes())?,
-        )?;
-    }
-    Ok(shelf)
+fn put(rt: &impl Abort, alloc: Global, shelf: &mut MapShelf, name: &str, held: &str) {
+    let bytes = Bytes::from_slice(alloc, held.as_bytes()).expect(rt, "memory");
+    let name = Text::from_str(alloc, name).expect(rt, "memory");
+    shelf.set(name, bytes).expect(rt, "memory");
 }
 
-fn told(alloc: Global, config: &Config, shelf: &mut MapShelf) -> Result<String, AllocError> {
-    let mut text = String::new(alloc);
-    match sizes_of(alloc, config, shelf) {
-        Ok(sizes) => {
-            for (file, size) in sizes.as_slice() {
-                if !text.is_empty() {
-                    text.push(' ')?;
-                }
-                let file = file.as_str();
-                text.push_str(format!(in alloc; "{file}={size}")?.as_str())?;
-            }
-        }
-        Err(SizesFault::Failed(file)) => {
-            text.push_str("failed ")?;
-            text.push_str(file.as_str())?;
-        }
-        Err(SizesFault::OutOfMemory) => return Err(AllocError),
+/// A shelf with the files `/m` and `/p` and one that is no log, which fails at this call.
+fn shelf(rt: &impl Abort, alloc: Global, call: u64) -> MapShelf {
+    let mut failing = Vec::new(alloc);
+    failing.push(call).expect(rt, "memory");
+    let mut shelf = MapShelf::new(alloc, failing);
+    for (name, held) in [("/m", "abc"), ("/p", "0123456789"), ("/x", "x")] {
+        put(rt, alloc, &mut shelf, name, held);
     }
-    Ok(text)
+    shelf
+}
+
+/// The sizes, each after its file.
+fn sizes_told(rt: &impl Abort, alloc: Global, sizes: &[(Text, u64)]) -> String {
+    let mut text = String::new(alloc);
+    for (file, size) in sizes {
+        if !text.is_empty() {
+            text.push(' ').expect(rt, "memory");
+        }
+        let file = file.as_str();
+        let told = format!(in alloc; "{file}={size}").expect(rt, "memory");
+        text.push_str(told.as_str()).expect(rt, "memory");
+    }
+    text
+}
+
+fn told(rt: &impl Abort, alloc: Global, config: &Config, shelf: &mut MapShelf) -> String {
+    match sizes_of(alloc, config, shelf) {
+        Ok(sizes) => sizes_told(rt, alloc, sizes.as_slice()),
+        Err(SizesFault::Failed(file)) => {
+            let file = file.as_str();
+            format!(in alloc; "failed {file}").expect(rt, "memory")
+        }
+        Err(SizesFault::OutOfMemory) => panic!(rt; "out of memory"),
+    }
 }
 
 #[test]
 fn each_log_file_is_asked_once(rt: HostRuntime) {
     let config = config(&rt, rt.alloc());
     for (call, expected) in TOLD {
-        let mut shelf = shelf(rt.alloc(), call).expect(&rt, "ample memory");
-        let text = told(rt.alloc(), &config, &mut shelf).expect(&rt, "ample memory");
+        let mut shelf = shelf(&rt, rt.alloc(), call);
+        let text = told(&rt, rt.alloc(), &config, &mut shelf);
         assert_eq!(&rt; text.as_str(), expected, "{call}");
         let failed = if call == 0 { 0 } else { 1 };
         assert!(&rt; shelf.faults() == failed, "{call}");

@@ -6,7 +6,7 @@ use crate::told::call;
 use std::alloc::Global;
 use std::process::Abort;
 use sv_base::moment::Moment;
-use sv_methods::plan;
+use sv_methods::{Planned, plan};
 
 // Each line is a call and what comes of it: the requests, whether the answer waits for the children, whether it is
 // a status array, the name, and the rows.
@@ -152,12 +152,17 @@ fn moment(rt: &impl Abort) -> Moment {
     Moment::new(NOW).expect(rt, "a moment")
 }
 
+/// What comes of the call of a line.
+pub fn outcome(rt: &impl Abort, alloc: Global, scene: &Scene, line: &str) -> Planned {
+    let call = call(rt, alloc, line);
+    plan(alloc, &stand(scene), &call, moment(rt)).expect(rt, "memory")
+}
+
 /// A call of a line gives what the line says.
 pub fn comes_out(rt: &impl Abort, alloc: Global, scene: &Scene, row: &str) {
     let (line, wanted) = row.split_once(" => ").expect(rt, "two cells");
-    let call = call(rt, alloc, line);
-    let planned = plan(alloc, &stand(scene), &call, moment(rt)).expect(rt, "memory");
-    let said = planned_said(alloc, &planned).expect(rt, "memory");
+    let planned = outcome(rt, alloc, scene, line);
+    let said = planned_said(rt, alloc, &planned);
     assert_eq!(rt; said.as_str(), wanted, "{row}");
 }
 

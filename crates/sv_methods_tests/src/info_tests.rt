@@ -1,12 +1,11 @@
 //! What is said of the daemon and of its processes: the short answers, the structs, and descriptions at their borders.
 
-use crate::act_tests::{all_come_out, comes_out};
-use crate::scenes::{BUSY, ENDED, NOW, running, stand};
-use crate::told::call;
+use crate::act_tests::{all_come_out, comes_out, outcome};
+use crate::scenes::{BUSY, ENDED, running};
 use std::alloc::Global;
 use std::process::Abort;
-use sv_base::moment::Moment;
-use sv_methods::{Planned, plan};
+use sv_base::bytes::Bytes;
+use sv_methods::Planned;
 use sv_xmlcall::value::Value;
 use sv_xmlcall::write::{write_fault, write_reply};
 
@@ -129,9 +128,7 @@ fn text_of(value: &Value) -> &str {
 fn is_described(rt: &impl Abort, alloc: Global, row: &str) {
     let (life, wanted) = row.split_once(" => ").expect(rt, "two cells");
     let scene = running(rt, alloc, life);
-    let call = call(rt, alloc, "getProcessInfo cat");
-    let now = Moment::new(NOW).expect(rt, "a moment");
-    let planned = plan(alloc, &stand(&scene), &call, now).expect(rt, "memory");
+    let planned = outcome(rt, alloc, &scene, "getProcessInfo cat");
     assert_eq!(rt; description(&planned), wanted, "{row}");
 }
 
@@ -142,18 +139,21 @@ fn describes(rt: HostRuntime) {
     }
 }
 
-/// The written answer of a call that has one at once.
-fn written(rt: &impl Abort, alloc: Global, line: &str) -> String {
-    let scene = running(rt, alloc, BUSY);
-    let now = Moment::new(NOW).expect(rt, "a moment");
-    let call = call(rt, alloc, line);
-    let planned = plan(alloc, &stand(&scene), &call, now).expect(rt, "memory");
-    let bytes = match &planned {
+/// The reply to a call that is answered at once.
+fn reply(rt: &impl Abort, alloc: Global, planned: &Planned) -> Bytes {
+    let bytes = match planned {
         Planned::Now(value) => write_reply(alloc, value),
         Planned::Fault(number, text) => write_fault(alloc, i64::from(*number), text.as_str()),
         _ => write_fault(alloc, 0, ""),
     };
-    let bytes = bytes.expect(rt, "memory");
+    bytes.expect(rt, "memory")
+}
+
+/// The written answer of a call that has one at once.
+fn written(rt: &impl Abort, alloc: Global, line: &str) -> String {
+    let scene = running(rt, alloc, BUSY);
+    let planned = outcome(rt, alloc, &scene, line);
+    let bytes = reply(rt, alloc, &planned);
     String::from_utf8_lossy(alloc, bytes.as_slice()).expect(rt, "memory")
 }
 

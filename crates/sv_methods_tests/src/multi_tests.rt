@@ -5,7 +5,7 @@ use std::alloc::Global;
 use std::process::Abort;
 use sv_base::moment::Moment;
 use sv_base::text::Text;
-use sv_methods::{Planned, check, plan};
+use sv_methods::{Planned, Waiting, check, plan};
 use sv_multi::gather::Gather;
 use sv_multi::part::Part;
 use sv_multi::parts::parts;
@@ -54,18 +54,26 @@ fn asked(rt: &impl Abort, alloc: Global) -> Value {
     Value::Array(values)
 }
 
-/// The answer of a call that is made while the processes are busy; where it waits, the answer once they are up.
-fn answer_to(rt: &impl Abort, alloc: Global, call: &Call) -> Answered {
+/// The answer of a wait once the processes are up.
+fn answer_once_up(rt: &impl Abort, alloc: Global, waiting: &Waiting) -> Answered {
+    let up = running(rt, alloc, UP);
+    let answered = check(alloc, &stand(&up), waiting).expect(rt, "memory");
+    answered.expect(rt, "an answer")
+}
+
+/// What comes of a call that is made while the processes are busy.
+fn outcome(rt: &impl Abort, alloc: Global, call: &Call) -> Planned {
     let now = Moment::new(NOW).expect(rt, "a moment");
     let busy = running(rt, alloc, BUSY);
-    match plan(alloc, &stand(&busy), call, now).expect(rt, "memory") {
+    plan(alloc, &stand(&busy), call, now).expect(rt, "memory")
+}
+
+/// The answer of a call that is made while the processes are busy; where it waits, the answer once they are up.
+fn answer_to(rt: &impl Abort, alloc: Global, call: &Call) -> Answered {
+    match outcome(rt, alloc, call) {
         Planned::Now(value) => Answered::Value(value),
         Planned::Fault(number, text) => Answered::Fault(i64::from(number), text),
-        Planned::Do(_, waiting) => {
-            let up = running(rt, alloc, UP);
-            let answered = check(alloc, &stand(&up), &waiting).expect(rt, "memory");
-            answered.expect(rt, "an answer")
-        }
+        Planned::Do(_, waiting) => answer_once_up(rt, alloc, &waiting),
         Planned::Read(_, _, _) => Answered::Fault(0, Text::fixed("")),
     }
 }
@@ -77,16 +85,26 @@ fn answer_of(rt: &impl Abort, alloc: Global, part: Part) -> Answered {
     }
 }
 
+fn asked_parts(rt: &impl Abort, alloc: Global) -> Vec<Part> {
+    let asked = asked(rt, alloc);
+    parts(alloc, &asked).ok().expect(rt, "parts")
+}
+
+/// The answers to all parts as one value.
+fn gathered(rt: &impl Abort, alloc: Global) -> Value {
+    let mut gather = Gather::new(alloc);
+    for part in asked_parts(rt, alloc) {
+        let answer = answer_of(rt, alloc, part);
+        gather.add(alloc, answer).expect(rt, "memory");
+    }
+    gather.value().expect(rt, "memory")
+}
+
 #[test]
 fn answers_several_calls_in_one(rt: HostRuntime) {
     let alloc = rt.alloc();
-    let mut gather = Gather::new(alloc);
-    for part in parts(alloc, &asked(&rt, alloc)).ok().expect(&rt, "parts") {
-        gather
-            .add(alloc, answer_of(&rt, alloc, part))
-            .expect(&rt, "memory");
-    }
-    let written = write_reply(alloc, &gather.value().expect(&rt, "memory")).expect(&rt, "memory");
+    let value = gathered(&rt, alloc);
+    let written = write_reply(alloc, &value).expect(&rt, "memory");
     let said = String::from_utf8_lossy(alloc, written.as_slice()).expect(&rt, "memory");
     assert_eq!(rt;
         said.as_str(),

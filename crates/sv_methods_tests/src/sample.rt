@@ -1,6 +1,7 @@
 //! The processes of the tests: six in four groups, with and without logs.
 
-use std::alloc::{AllocError, Global};
+use std::alloc::Global;
+use std::process::Abort;
 use sv_base::config::{ClientSpec, Config};
 use sv_base::groups::Groups;
 use sv_base::items::Items;
@@ -113,31 +114,40 @@ fn spec(alloc: Global, process: &Process) -> Spec {
 }
 
 fn group(
+    rt: &impl Abort,
     alloc: Global,
     name: &'static str,
     priority: i32,
     processes: &[Process],
-) -> Result<GroupSpec, AllocError> {
+) -> GroupSpec {
     let mut members = Items::new(alloc);
     for process in processes {
-        members.push(spec(alloc, process))?;
+        members.push(spec(alloc, process)).expect(rt, "memory");
     }
-    Ok(GroupSpec {
+    GroupSpec {
         name: Text::fixed(name),
         priority,
         members,
         pool: None,
-    })
+    }
 }
 
-/// The groups, or `None` where they break what the type keeps.
-pub fn groups(alloc: Global) -> Result<Option<Groups>, AllocError> {
+/// The groups.
+pub fn groups(rt: &impl Abort, alloc: Global) -> Groups {
     let mut groups = Vec::new(alloc);
-    groups.push(group(alloc, "cat", 1, &CAT)?)?;
-    groups.push(group(alloc, "web", 2, &WEB)?)?;
-    groups.push(group(alloc, "w", 3, &W)?)?;
-    groups.push(group(alloc, "z", 4, &Z)?)?;
-    Ok(Groups::new(groups))
+    groups
+        .push(group(rt, alloc, "cat", 1, &CAT))
+        .expect(rt, "memory");
+    groups
+        .push(group(rt, alloc, "web", 2, &WEB))
+        .expect(rt, "memory");
+    groups
+        .push(group(rt, alloc, "w", 3, &W))
+        .expect(rt, "memory");
+    groups
+        .push(group(rt, alloc, "z", 4, &Z))
+        .expect(rt, "memory");
+    Groups::new(groups).expect(rt, "groups")
 }
 
 /// A configuration with these groups, with the main log `/main.log` or without one, and with or without the methods of
@@ -159,10 +169,10 @@ pub fn config(alloc: Global, groups: Groups, has_main: bool, rpc: bool) -> Confi
 }
 
 /// The known sizes. Of two sizes of one file the first counts.
-pub fn sizes(alloc: Global) -> Result<Vec<(Text, u64)>, AllocError> {
+pub fn sizes(rt: &impl Abort, alloc: Global) -> Vec<(Text, u64)> {
     let mut sizes = Vec::new(alloc);
     for (file, size) in SIZES {
-        sizes.push((Text::fixed(file), size))?;
+        sizes.push((Text::fixed(file), size)).expect(rt, "memory");
     }
-    Ok(sizes)
+    sizes
 }

@@ -119,8 +119,7 @@ pub fn scene_with(
     has_main: bool,
     rpc: bool,
 ) -> Scene {
-    let groups = groups(alloc).expect(rt, "memory").expect(rt, "groups");
-    let config = config(alloc, groups, has_main, rpc);
+    let config = config(alloc, groups(rt, alloc), has_main, rpc);
     let roster = Roster::new(alloc, &config).expect(rt, "memory");
     Scene {
         mood,
@@ -128,7 +127,7 @@ pub fn scene_with(
         roster,
         children: children(rt, alloc, lives),
         closed: closed(rt, alloc, lives),
-        sizes: sizes(alloc).expect(rt, "memory"),
+        sizes: sizes(rt, alloc),
     }
 }
 

@@ -88,25 +88,35 @@ fn asked(row: &str) -> Asked {
     }
 }
 
-/// The wait of a text: `wait` or `now`, `array` or `one`, the name or `-`, then ` | ` and rows between semicolons.
-pub fn waiting(rt: &impl Abort, alloc: Global, line: &str) -> Waiting {
-    let (head, rows) = line.split_once(" | ").expect(rt, "rows");
-    let (wait, shape) = head.split_once(' ').expect(rt, "a shape");
-    let (array, name) = shape.split_once(' ').expect(rt, "a name");
+/// The rows between semicolons, or `none`.
+fn rows(rt: &impl Abort, alloc: Global, rows: &str) -> Items<Asked> {
     let mut asked_rows = Items::new(alloc);
     for row in rows.split(';') {
         if row != "none" {
             asked_rows.push(asked(row)).expect(rt, "memory");
         }
     }
+    asked_rows
+}
+
+/// The name, or `-` where there is none.
+fn name(rt: &impl Abort, alloc: Global, word: &str) -> Option<Text> {
+    if word == "-" {
+        None
+    } else {
+        Some(text(rt, alloc, word))
+    }
+}
+
+/// The wait of a text: `wait` or `now`, `array` or `one`, the name or `-`, then ` | ` and rows between semicolons.
+pub fn waiting(rt: &impl Abort, alloc: Global, line: &str) -> Waiting {
+    let (head, cells) = line.split_once(" | ").expect(rt, "rows");
+    let (wait, shape) = head.split_once(' ').expect(rt, "a shape");
+    let (array, word) = shape.split_once(' ').expect(rt, "a name");
     Waiting {
         wait: wait == "wait",
         array: array == "array",
-        name: if name == "-" {
-            None
-        } else {
-            Some(text(rt, alloc, name))
-        },
-        rows: asked_rows,
+        name: name(rt, alloc, word),
+        rows: rows(rt, alloc, cells),
     }
 }

@@ -1,11 +1,12 @@
 //! Waits with the states of the children, and what each then answers.
 
 use crate::said::answered_said;
-use crate::scenes::{running, stand};
+use crate::scenes::{Scene, running, stand};
 use crate::told::waiting;
 use std::alloc::Global;
 use std::process::Abort;
 use sv_methods::check;
+use sv_xmlcall::call::Answered;
 
 // Each line is a wait, after `@` the children, and after `=>` the answer, or `waits` while there is none.
 
@@ -74,13 +75,18 @@ now array z | none @ STOPPED => []
 wait array z: | none @ STARTING => []
 wait array z: | started 5 @ STARTING|STARTING|STARTING|STARTING|STARTING|EXITED => [{name 'q', group 'z', status 40, description 'ABNORMAL_TERMINATION: z:q'}]";
 
+/// What the wait of a line is answered.
+fn answer(rt: &impl Abort, alloc: Global, scene: &Scene, line: &str) -> Option<Answered> {
+    let waiting = waiting(rt, alloc, line);
+    check(alloc, &stand(scene), &waiting).expect(rt, "memory")
+}
+
 fn is_answered(rt: &impl Abort, alloc: Global, row: &str) {
     let (given, wanted) = row.split_once(" => ").expect(rt, "two cells");
     let (line, lives) = given.split_once(" @ ").expect(rt, "two cells");
     let scene = running(rt, alloc, lives);
-    let waiting = waiting(rt, alloc, line);
-    let answered = check(alloc, &stand(&scene), &waiting).expect(rt, "memory");
-    let said = answered_said(alloc, &answered).expect(rt, "memory");
+    let answered = answer(rt, alloc, &scene, line);
+    let said = answered_said(rt, alloc, &answered);
     assert_eq!(rt; said.as_str(), wanted, "{row}");
 }
 

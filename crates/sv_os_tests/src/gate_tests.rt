@@ -1,8 +1,8 @@
 //! Jobs in threads of their own.
 
 use crossbeam_channel::{Receiver, Sender, bounded};
+use std::process::Abort;
 use std::sync::Wait;
-use std::test::Fail;
 use std::thread;
 use sv_base::LinkId;
 use sv_os::{Errand, LinksAtWork, OsGate, receive_and_work};
@@ -36,53 +36,68 @@ impl Job for Waits {
     }
 }
 
+/// A job about this with this number, which waits and tells at these ends.
+fn waiting_job(
+    rt: &impl Abort,
+    word: JobWord,
+    number: u32,
+    go: &Receiver<()>,
+    done: &Sender<u32>,
+) -> Waits {
+    Waits {
+        word,
+        go: go.clone().expect(rt, "ample memory"),
+        done: done.clone().expect(rt, "ample memory"),
+        number,
+    }
+}
+
+/// Lets two jobs go, and hears the numbers 3 and 4.
+fn let_go<R: Abort + Wait>(rt: &R, go: &Sender<()>, told: &Receiver<u32>) {
+    for _ in 0..2 {
+        assert!(rt; go.send(rt, ()).is_ok());
+    }
+    let first = told.recv(rt).expect(rt, "a job is done");
+    let second = told.recv(rt).expect(rt, "the other job is done");
+    assert!(rt; (first, second) == (3, 4) || (first, second) == (4, 3));
+}
+
 #[test]
-fn jobs_run_in_threads(rt: HostRuntime) -> Result<(), Fail> {
-    let links = LinksAtWork::new(rt.alloc())?;
+fn jobs_run_in_threads(rt: HostRuntime) {
+    let links = LinksAtWork::new(rt.alloc()).expect(&rt, "ample memory");
     let mut gate = OsGate::new(
         rt,
         rt.alloc(),
-        links.another()?,
+        links.another().expect(&rt, "ample memory"),
         move |from: Receiver<Errand<Waits>>| {
             thread::spawn(&rt, move || receive_and_work(&rt, &from)).is_ok()
         },
     );
-    let (go, wait) = bounded(rt.alloc(), 2)?;
-    let (done, told) = bounded(rt.alloc(), 2)?;
+    let (go, wait) = bounded(rt.alloc(), 2).expect(&rt, "ample memory");
+    let (done, told) = bounded(rt.alloc(), 2).expect(&rt, "ample memory");
     for (word, number) in [(JobWord::Link(LinkId(1)), 3), (JobWord::Console, 4)] {
-        let job = Waits {
-            word,
-            go: wait.clone()?,
-            done: done.clone()?,
-            number,
-        };
+        let job = waiting_job(&rt, word, number, &wait, &done);
         assert!(rt; gate.start(job).is_ok());
     }
     assert!(rt; links.number() == 1 && !links.wait_for_none(&rt, 2));
-    for _ in 0..2 {
-        assert!(rt; go.send(&rt, ()).is_ok());
-    }
-    let first = told.recv(&rt).expect(&rt, "a job is done");
-    let second = told.recv(&rt).expect(&rt, "the other job is done");
-    assert!(rt; (first, second) == (3, 4) || (first, second) == (4, 3));
+    let_go(&rt, &go, &told);
     assert!(rt; links.wait_for_none(&rt, 10_000));
-    Ok(())
 }
 
 #[test]
-fn a_job_without_a_thread_comes_back(rt: HostRuntime) -> Result<(), Fail> {
-    let links = LinksAtWork::new(rt.alloc())?;
+fn a_job_without_a_thread_comes_back(rt: HostRuntime) {
+    let links = LinksAtWork::new(rt.alloc()).expect(&rt, "ample memory");
     let mut gate = OsGate::new(
         rt,
         rt.alloc(),
-        links.another()?,
+        links.another().expect(&rt, "ample memory"),
         |from: Receiver<Errand<Waits>>| {
             drop(from);
             false
         },
     );
-    let (_, wait) = bounded(rt.alloc(), 1)?;
-    let (done, _) = bounded(rt.alloc(), 1)?;
+    let (_, wait) = bounded(rt.alloc(), 1).expect(&rt, "ample memory");
+    let (done, _) = bounded(rt.alloc(), 1).expect(&rt, "ample memory");
     let job = Waits {
         word: JobWord::Link(LinkId(1)),
         go: wait,
@@ -91,5 +106,4 @@ fn a_job_without_a_thread_comes_back(rt: HostRuntime) -> Result<(), Fail> {
     };
     assert!(rt; matches!(gate.start(job), Err(job) if job.number == 7));
     assert!(rt; links.number() == 0);
-    Ok(())
 }

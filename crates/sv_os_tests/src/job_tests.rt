@@ -1,24 +1,27 @@
 //! The jobs of a program, of an address and of the console, over real parts.
 
+ghost use Rattle.std.specs.Prelude.{◌≤◌};
+
+use crate::os_tests::socket_at;
 use crossbeam_channel::Receiver;
-use std::alloc::AllocError;
+use std::alloc::Global;
 use std::io::Stdin;
-use std::process::{ChildStderr, ChildStdin, ChildStdout, SystemProcess};
-use std::test::Fail;
-use std::{env, fs, process, thread};
-use sv_base::{Bytes, How, Items, LinkId, Place, Run, Side, Stream, Text};
+use std::process::{Abort, ChildStderr, ChildStdin, ChildStdout, SystemProcess};
+use std::sync::Wait;
+use std::{env, fs, io, process, thread};
+use sv_base::{Bytes, How, Items, LinkId, Run, Side, Stream, Text};
 use sv_job_types::{
     AnyJob, ConsoleJob, ErrPump, LinkJob, LinksJob, NoBoard, OutPump, StdinJob, TickerJob, WatchJob,
 };
 use sv_jobs::{LinkWord, Note, StdinWord};
-use sv_lane::lane;
+use sv_lane::{Poster, Seats, Taker, lane};
 use sv_os::{
     Errand, LinksAtWork, OsClock, OsDial, OsGate, OsListen, OsSpawner, OsWaiter, ReadSource,
     WriteSink, receive_and_work,
 };
 use sv_out::order::SpawnOrder;
 use sv_out::{Dial, Link};
-use sv_outside::{Gate, Spawner};
+use sv_outside::{Gate, Spawner, Started};
 
 type RealJob = AnyJob<
     WriteSink<ChildStdin>,
@@ -31,82 +34,118 @@ type RealJob = AnyJob<
     NoBoard,
 >;
 
-fn order(rt: &HostRuntime, words: &[&str]) -> Result<SpawnOrder, AllocError> {
-    let mut all = Items::new(rt.alloc());
-    for word in words {
-        all.push(Text::from_str(rt.alloc(), word)?)?;
-    }
-    Ok(SpawnOrder {
+type RealProgram = Started<
+    WriteSink<ChildStdin>,
+    ReadSource<ChildStdout>,
+    ReadSource<ChildStderr>,
+    OsWaiter<SystemProcess>,
+>;
+
+/// Starts `cat`.
+fn started_cat<S: Spawner>(
+    rt: &impl Abort,
+    alloc: Global,
+    spawner: &mut S,
+) -> Started<S::Stdin, S::Stdout, S::Stderr, S::Waiter> {
+    let mut words = Items::new(alloc);
+    words.push(Text::fixed("cat")).expect(rt, "ample memory");
+    let order = SpawnOrder {
         run: Run(1),
         group: Text::fixed("g"),
         name: Text::fixed("p"),
         directory: Text::fixed(""),
         umask: Text::fixed(""),
         user: Text::fixed(""),
-        words: all,
-        environment: Items::new(rt.alloc()),
-    })
+        words,
+        environment: Items::new(alloc),
+    };
+    spawner.spawn(alloc, &order).expect(rt, "cat is started")
 }
 
-#[test]
-fn a_program_has_its_jobs(rt: HostRuntime) -> Result<(), Fail> {
-    let alloc = rt.alloc();
-    let links = LinksAtWork::new(alloc)?;
-    let mut gate = OsGate::new(rt, alloc, links, move |from: Receiver<Errand<RealJob>>| {
-        thread::spawn(&rt, move || receive_and_work(&rt, &from)).is_ok()
+/// A lane for so many items, with one seat.
+fn lane_of<T: Drop>(rt: &impl Abort, alloc: Global, room: u32) -> (Taker<T>, Poster<T>)
+    requires { 1 ≤ room }
+{
+    let (taker, mut seats) = lane(alloc, room).expect(rt, "ample memory");
+    let poster = seats.seat().expect(rt, "ample memory");
+    (taker, poster)
+}
+
+/// A further seat of the notes.
+fn seat_of(rt: &impl Abort, seats: &mut Seats<Note>) -> Poster<Note> {
+    seats.seat().expect(rt, "ample memory")
+}
+
+/// The jobs of a program, whose standard input takes these words.
+fn program_jobs(
+    rt: &impl Abort,
+    alloc: Global,
+    program: RealProgram,
+    words: Taker<StdinWord>,
+    seats: &mut Seats<Note>,
+) -> (RealJob, RealJob, RealJob, RealJob) {
+    let stdin = AnyJob::Stdin(StdinJob {
+        run: Run(1),
+        sink: program.stdin,
+        poster: seat_of(rt, seats),
+        words,
     });
-    let (mut notes, mut seats) = lane(alloc, 256)?;
-    let (words, mut word_seats) = lane(alloc, 65)?;
-    let mut poster = word_seats.seat()?;
-    let mut spawner = OsSpawner::new(rt);
-    let cat = order(&rt, ["cat"].as_slice())?;
-    let started = spawner.spawn(alloc, &cat).expect(&rt, "cat is started");
-    let jobs = [
-        AnyJob::Stdin(StdinJob {
-            run: Run(1),
-            sink: started.stdin,
-            poster: seats.seat()?,
-            words,
-        }),
-        AnyJob::Out(OutPump {
-            run: Run(1),
-            source: started.stdout,
-            poster: seats.seat()?,
-            alloc,
-        }),
-        AnyJob::Err(ErrPump {
-            run: Run(1),
-            source: started.stderr,
-            poster: seats.seat()?,
-            alloc,
-        }),
-        AnyJob::Watch(WatchJob {
-            run: Run(1),
-            waiter: started.waiter,
-            poster: seats.seat()?,
-        }),
-        AnyJob::Ticker(TickerJob {
-            clock: OsClock::new(rt),
-            turns: 1,
-            poster: seats.seat()?,
-        }),
-        AnyJob::Console(ConsoleJob {
-            source: ReadSource::new(rt.stdin()),
-            poster: seats.seat()?,
-            alloc,
-        }),
-    ];
-    for job in jobs {
-        assert!(rt; gate.start(job).is_ok());
-    }
-    poster.post(&rt, StdinWord::Write(Bytes::from_slice(alloc, b"hello")?));
-    poster.post(&rt, StdinWord::Close);
+    let out = AnyJob::Out(OutPump {
+        run: Run(1),
+        source: program.stdout,
+        poster: seat_of(rt, seats),
+        alloc,
+    });
+    let err = AnyJob::Err(ErrPump {
+        run: Run(1),
+        source: program.stderr,
+        poster: seat_of(rt, seats),
+        alloc,
+    });
+    let watch = AnyJob::Watch(WatchJob {
+        run: Run(1),
+        waiter: program.waiter,
+        poster: seat_of(rt, seats),
+    });
+    (stdin, out, err, watch)
+}
+
+/// The jobs of the clock, for one tick, and of the console.
+fn own_jobs(
+    rt: &impl Abort,
+    alloc: Global,
+    clock: OsClock<HostRuntime>,
+    console: Stdin,
+    seats: &mut Seats<Note>,
+) -> (RealJob, RealJob) {
+    let ticker = AnyJob::Ticker(TickerJob {
+        clock,
+        turns: 1,
+        poster: seat_of(rt, seats),
+    });
+    let console = AnyJob::Console(ConsoleJob {
+        source: ReadSource::new(console),
+        poster: seat_of(rt, seats),
+        alloc,
+    });
+    (ticker, console)
+}
+
+/// Writes `hello` to the standard input, and closes it.
+fn write_hello<R: Abort + Wait>(rt: &R, alloc: Global, poster: &mut Poster<StdinWord>) {
+    let bytes = Bytes::from_slice(alloc, b"hello").expect(rt, "ample memory");
+    poster.post(rt, StdinWord::Write(bytes));
+    poster.post(rt, StdinWord::Close);
+}
+
+/// Hears `hello` from the program, its ends and a tick.
+fn hear_hello<R: Abort + Wait>(rt: &R, notes: &mut Taker<Note>) {
     let (mut said, mut seen) = (0usize, 0u32);
     for _ in 0..64 {
         if seen == 63 {
             break;
         }
-        match notes.take(&rt) {
+        match notes.take(rt) {
             Note::Out(_, Stream::Out, piece) => said = said.wrapping_add(piece.as_slice().len()),
             Note::Wrote(_) => seen |= 1,
             Note::StdinEnd(_) => seen |= 2,
@@ -118,60 +157,95 @@ fn a_program_has_its_jobs(rt: HostRuntime) -> Result<(), Fail> {
         }
     }
     assert!(rt; seen == 63 && said == 5);
-    Ok(())
 }
 
 #[test]
-fn an_address_has_its_jobs(rt: HostRuntime) -> Result<(), Fail> {
+fn a_program_has_its_jobs(rt: HostRuntime) {
     let alloc = rt.alloc();
-    let links = LinksAtWork::new(alloc)?;
+    let links = LinksAtWork::new(alloc).expect(&rt, "ample memory");
+    let mut gate = OsGate::new(rt, alloc, links, move |from: Receiver<Errand<RealJob>>| {
+        thread::spawn(&rt, move || receive_and_work(&rt, &from)).is_ok()
+    });
+    let (mut notes, mut seats) = lane(alloc, 256).expect(&rt, "ample memory");
+    let (words, mut poster) = lane_of(&rt, alloc, 65);
+    let cat = started_cat(&rt, alloc, &mut OsSpawner::new(rt));
+    let (stdin, out, err, watch) = program_jobs(&rt, alloc, cat, words, &mut seats);
+    let (ticker, console) = own_jobs(&rt, alloc, OsClock::new(rt), rt.stdin(), &mut seats);
+    for job in [stdin, out, err, watch, ticker, console] {
+        assert!(rt; gate.start(job).is_ok());
+    }
+    write_hello(&rt, alloc, &mut poster);
+    hear_hello(&rt, &mut notes);
+}
+
+/// The path of a socket of this process alone.
+fn socket_path(rt: &HostRuntime) -> io::Result<String> {
+    let above = env::temp_dir(rt)?;
+    let above = above.display();
+    let pid = process::id(rt.process());
+    Ok(format!(in rt.alloc(); "{above}/sv_os_jobs_{pid}")?)
+}
+
+/// A client sends `ping`, and gets `pong` and the end.
+fn talk<R: Abort + Wait, K: Link>(
+    rt: &R,
+    alloc: Global,
+    client: &mut K,
+    notes: &mut Taker<Note>,
+    poster: &mut Poster<LinkWord>,
+) {
+    poster.post(rt, LinkWord::More);
+    assert!(rt; matches!(client.write(b"ping"), Ok(4)));
+    assert!(rt; matches!(notes.take(rt), Note::Piece(_, _)));
+    let bytes = Bytes::from_slice(alloc, b"pong").expect(rt, "ample memory");
+    poster.post(rt, LinkWord::Send(bytes));
+    poster.post(rt, LinkWord::Close);
+    let mut piece = [0u8; 8];
+    assert!(rt; matches!(client.read(&mut piece), Ok(4)));
+    assert!(rt; matches!(client.read(&mut piece), Ok(0)));
+}
+
+#[test]
+fn an_address_has_its_jobs(rt: HostRuntime) {
+    let alloc = rt.alloc();
+    let links = LinksAtWork::new(alloc).expect(&rt, "ample memory");
     let mut gate = OsGate::new(
         rt,
         alloc,
-        links.another()?,
+        links.another().expect(&rt, "ample memory"),
         move |from: Receiver<Errand<RealJob>>| {
             thread::spawn(&rt, move || receive_and_work(&rt, &from)).is_ok()
         },
     );
-    let above = env::temp_dir(&rt)?;
-    let (above, pid) = (above.display(), process::id(rt.process()));
-    let path = format!(in alloc; "{above}/sv_os_jobs_{pid}")?;
-    let place = Place::Unix(Text::from_str(alloc, path.as_str())?);
-    let (listen, opened) = OsListen::open(rt, place.clone()?);
-    opened?;
-    let (mut notes, mut seats) = lane(alloc, 256)?;
-    let (mut accepted, mut link_seats) = lane(alloc, 64)?;
+    let path = socket_path(&rt).expect(&rt, "the system does it");
+    let place = socket_at(&rt, alloc, path.as_str());
+    let (listen, opened) = OsListen::open(rt, place.clone().expect(&rt, "ample memory"));
+    opened.expect(&rt, "the system does it");
+    let (mut notes, mut seats) = lane(alloc, 256).expect(&rt, "ample memory");
+    let (mut accepted, poster) = lane_of(&rt, alloc, 64);
     let job = AnyJob::Links(LinksJob {
         side: Side::Unix,
         listen,
         turns: 1,
-        poster: seats.seat()?,
-        links: link_seats.seat()?,
+        poster: seat_of(&rt, &mut seats),
+        links: poster,
     });
     assert!(rt; gate.start(job).is_ok());
-    let mut dial = OsDial::new(&rt);
-    let mut client = dial.connect(alloc, &place).expect(&rt, "a client");
+    let mut client = OsDial::new(&rt)
+        .connect(alloc, &place)
+        .expect(&rt, "a client");
     assert!(rt; matches!(notes.take(&rt), Note::Open(Side::Unix)));
-    let (words, mut word_seats) = lane(alloc, 18)?;
-    let mut poster = word_seats.seat()?;
+    let (words, mut poster) = lane_of(&rt, alloc, 18);
     let job = AnyJob::Link(LinkJob {
         number: LinkId(1),
         link: accepted.take(&rt),
-        poster: seats.seat()?,
+        poster: seat_of(&rt, &mut seats),
         words,
         alloc,
     });
     assert!(rt; gate.start(job).is_ok());
     assert!(rt; links.number() == 1);
-    poster.post(&rt, LinkWord::More);
-    assert!(rt; matches!(client.write(b"ping"), Ok(4)));
-    assert!(rt; matches!(notes.take(&rt), Note::Piece(_, _)));
-    poster.post(&rt, LinkWord::Send(Bytes::from_slice(alloc, b"pong")?));
-    poster.post(&rt, LinkWord::Close);
-    let mut piece = [0u8; 8];
-    assert!(rt; matches!(client.read(&mut piece), Ok(4)));
-    assert!(rt; matches!(client.read(&mut piece), Ok(0)));
+    talk(&rt, alloc, &mut client, &mut notes, &mut poster);
     assert!(rt; links.wait_for_none(&rt, 10_000));
-    fs::remove_file(&rt, path.as_str())?;
-    Ok(())
+    fs::remove_file(&rt, path.as_str()).expect(&rt, "the system does it");
 }

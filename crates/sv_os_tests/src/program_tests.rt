@@ -1,13 +1,13 @@
 //! Real programs: how they are started and signalled, and how their ends are told.
 
-use crate::os_tests::new_directory;
-use std::alloc::{AllocError, Global};
+use crate::os_tests::{new_directory, path_in};
+use std::alloc::Global;
 use std::fs;
 use std::fs::{File, Permissions};
 use std::net::{Ipv4Addr, SocketAddr, TcpListener};
 use std::os::unix::fs::PermissionsExt;
-use std::process::Abort;
-use std::test::Fail;
+use std::process::{Abort, Processes};
+use std::rt::Files;
 use sv_base::{ExitSignal, How, Items, Pid, Run, Signal, Text};
 use sv_os::OsSpawner;
 use sv_out::order::SpawnOrder;
@@ -15,60 +15,77 @@ use sv_out::sink::Sink;
 use sv_out::source::Source;
 use sv_outside::{KillFault, Refusal, SpawnFault, Spawner, Waiter};
 
-/// An order for these words, with one variable.
-fn order(alloc: Global, words: &[&str]) -> Result<SpawnOrder, AllocError> {
+/// These words, one after the other.
+fn words_of(rt: &impl Abort, alloc: Global, words: &[&str]) -> Items<Text> {
     let mut all = Items::new(alloc);
     for word in words {
-        all.push(Text::from_str(alloc, word)?)?;
+        let word = Text::from_str(alloc, word).expect(rt, "ample memory");
+        all.push(word).expect(rt, "ample memory");
     }
+    all
+}
+
+/// An order for these words, with one variable.
+fn order(rt: &impl Abort, alloc: Global, words: &[&str]) -> SpawnOrder {
     let mut environment = Items::new(alloc);
-    environment.push((Text::fixed("SV_OS_TEST"), Text::fixed("a b")))?;
-    Ok(SpawnOrder {
+    environment
+        .push((Text::fixed("SV_OS_TEST"), Text::fixed("a b")))
+        .expect(rt, "ample memory");
+    SpawnOrder {
         run: Run(1),
         group: Text::fixed("g"),
         name: Text::fixed("p"),
         directory: Text::fixed(""),
         umask: Text::fixed(""),
         user: Text::fixed(""),
-        words: all,
+        words: words_of(rt, alloc, words),
         environment,
-    })
+    }
 }
 
 /// An order for a line of the shell.
-fn shell(alloc: Global, line: &str) -> Result<SpawnOrder, AllocError> {
-    order(alloc, ["/bin/sh", "-c", line].as_slice())
+fn shell(rt: &impl Abort, alloc: Global, line: &str) -> SpawnOrder {
+    order(rt, alloc, ["/bin/sh", "-c", line].as_slice())
 }
 
 /// What a source gives up to its end.
-fn all_of<S: Source>(
-    rt: &impl Abort,
-    alloc: Global,
-    source: &mut S,
-) -> Result<Vec<u8>, AllocError> {
+fn all_of<S: Source>(rt: &impl Abort, alloc: Global, source: &mut S) -> Vec<u8> {
     let mut all = Vec::new(alloc);
     let mut piece = [0u8; 512];
     for _ in 0..1_000 {
         let count = source.read(&mut piece).expect(rt, "a pipe is read");
         if count == 0 {
-            return Ok(all);
+            return all;
         }
-        all.extend_from_slice(&piece[..count])?;
+        all.extend_from_slice(&piece[..count])
+            .expect(rt, "ample memory");
     }
-    Err(AllocError)
+    panic!(rt; "a source ends")
+}
+
+/// A source gives this text, and then its end.
+fn gives<S: Source>(rt: &impl Abort, alloc: Global, source: &mut S, text: &str) {
+    let all = all_of(rt, alloc, source);
+    assert!(rt; all.as_slice() == text.as_bytes());
+}
+
+/// An order for a program in this directory that writes what it got.
+fn telling(rt: &impl Abort, alloc: Global, directory: &str) -> SpawnOrder {
+    let line =
+        "read -r line; echo \"$SV_OS_TEST,${PATH:+path},$line\"; pwd -P; echo oh >&2; exit 3";
+    let mut order = shell(rt, alloc, line);
+    order.directory = Text::from_str(alloc, directory).expect(rt, "ample memory");
+    order
 }
 
 #[test]
-fn a_program_gets_what_its_order_says(rt: HostRuntime) -> Result<(), Fail> {
-    let directory = new_directory(&rt, "program")?;
-    let mut order = shell(
-        rt.alloc(),
-        "read -r line; echo \"$SV_OS_TEST,${PATH:+path},$line\"; pwd -P; echo oh >&2; exit 3",
-    )?;
-    order.directory = Text::from_str(rt.alloc(), directory.as_str())?;
+fn a_program_gets_what_its_order_says(rt: HostRuntime) {
+    let alloc = rt.alloc();
+    let directory = new_directory(&rt, "program").expect(&rt, "a new directory");
+    let order = telling(&rt, alloc, directory.as_str());
     let mut spawner = OsSpawner::new(rt);
     let mut started = spawner
-        .spawn(rt.alloc(), &order)
+        .spawn(alloc, &order)
         .expect(&rt, "a program is started");
     let count = started
         .stdin
@@ -76,42 +93,85 @@ fn a_program_gets_what_its_order_says(rt: HostRuntime) -> Result<(), Fail> {
         .expect(&rt, "its input is written");
     assert!(rt; count == 6);
     drop(started.stdin);
-    let out = all_of(&rt, rt.alloc(), &mut started.stdout)?;
-    let err = all_of(&rt, rt.alloc(), &mut started.stderr)?;
-    let wanted = format!(in rt.alloc(); "a b,path,hello\n{directory}\n")?;
-    assert!(rt; out.as_slice() == wanted.as_bytes());
-    assert!(rt; err.as_slice() == b"oh\n".as_slice());
+    let wanted = format!(in alloc; "a b,path,hello\n{directory}\n").expect(&rt, "ample memory");
+    gives(&rt, alloc, &mut started.stdout, wanted.as_str());
+    gives(&rt, alloc, &mut started.stderr, "oh\n");
     assert!(rt; matches!(started.waiter.wait(), Ok(How::Code(3))));
-    fs::remove_dir_all(&rt, directory.as_str())?;
-    Ok(())
+    fs::remove_dir_all(&rt, directory.as_str()).expect(&rt, "the system does it");
+}
+
+/// Starts a program that names its descriptors: 0, 1 and 2.
+fn names_three<S: Spawner>(rt: &impl Abort, alloc: Global, spawner: &mut S) {
+    let line = "n=0; while [ $n -lt 40 ]; do [ -e /proc/$$/fd/$n ] && echo $n; n=$((n+1)); done";
+    let order = shell(rt, alloc, line);
+    let mut started = spawner
+        .spawn(alloc, &order)
+        .expect(rt, "a program is started");
+    gives(rt, alloc, &mut started.stdout, "0\n1\n2\n");
 }
 
 #[test]
-fn a_program_holds_three_descriptors(rt: HostRuntime) -> Result<(), Fail> {
-    let file = File::open(&rt, "/proc/self/stat")?;
-    let listener = TcpListener::bind(&rt, SocketAddr::from((Ipv4Addr::LOCALHOST, 0)))?;
+fn a_program_holds_three_descriptors(rt: HostRuntime) {
+    let alloc = rt.alloc();
+    let file = File::open(&rt, "/proc/self/stat").expect(&rt, "the system does it");
+    let listener = TcpListener::bind(&rt, SocketAddr::from((Ipv4Addr::LOCALHOST, 0))).expect(
+        &rt,
+        "the system does it",
+    );
     let mut spawner = OsSpawner::new(rt);
-    let other = shell(rt.alloc(), "read -r line")?;
+    let other = shell(&rt, alloc, "read -r line");
     let other = spawner
-        .spawn(rt.alloc(), &other)
+        .spawn(alloc, &other)
         .expect(&rt, "a program that waits");
-    let line = "n=0; while [ $n -lt 40 ]; do [ -e /proc/$$/fd/$n ] && echo $n; n=$((n+1)); done";
-    let order = shell(rt.alloc(), line)?;
-    let mut started = spawner
-        .spawn(rt.alloc(), &order)
-        .expect(&rt, "a program is started");
-    let out = all_of(&rt, rt.alloc(), &mut started.stdout)?;
-    assert!(rt; out.as_slice() == b"0\n1\n2\n".as_slice());
+    names_three(&rt, alloc, &mut spawner);
     drop(other.stdin);
     let mut waiter = other.waiter;
     assert!(rt; matches!(waiter.wait(), Ok(How::Code(1))));
     drop(file);
     drop(listener);
-    Ok(())
+}
+
+/// Starts a program, which is ended by this signal.
+fn signal_one<S: Spawner>(
+    rt: &impl Abort,
+    alloc: Global,
+    spawner: &mut S,
+    signal: Signal,
+    group: bool,
+    number: u32,
+) {
+    let order = order(rt, alloc, ["sleep", "50"].as_slice());
+    let mut started = spawner
+        .spawn(alloc, &order)
+        .expect(rt, "a program is started");
+    spawner
+        .kill(alloc, started.pid, signal, group)
+        .expect(rt, "a signal is sent");
+    let how = started.waiter.wait().ok();
+    assert!(rt; how == ExitSignal::new(number).map(How::Signal));
+}
+
+/// Starts a group of two programs, both of which are ended by one signal.
+fn signal_group<S: Spawner>(rt: &impl Abort, alloc: Global, spawner: &mut S) {
+    let words = ["setsid", "sh", "-c", "sleep 50 & echo go; sleep 50"];
+    let order = order(rt, alloc, words.as_slice());
+    let mut started = spawner
+        .spawn(alloc, &order)
+        .expect(rt, "a group is started");
+    let mut piece = [0u8; 9];
+    let count = started.stdout.read(&mut piece).expect(rt, "it has begun");
+    assert!(rt; &piece[..count] == b"go\n".as_slice());
+    spawner
+        .kill(alloc, started.pid, Signal::Kill, true)
+        .expect(rt, "a signal is sent to a group");
+    let how = started.waiter.wait().ok();
+    assert!(rt; how == ExitSignal::new(9).map(How::Signal));
+    assert!(rt; all_of(rt, alloc, &mut started.stdout).is_empty());
 }
 
 #[test]
-fn programs_are_signalled(rt: HostRuntime) -> Result<(), Fail> {
+fn programs_are_signalled(rt: HostRuntime) {
+    let alloc = rt.alloc();
     let mut spawner = OsSpawner::new(rt);
     let rows = [
         (Signal::Usr1, false, 10),
@@ -119,59 +179,62 @@ fn programs_are_signalled(rt: HostRuntime) -> Result<(), Fail> {
         (Signal::Term, true, 15),
     ];
     for (signal, group, number) in rows {
-        let order = order(rt.alloc(), ["sleep", "50"].as_slice())?;
-        let mut started = spawner
-            .spawn(rt.alloc(), &order)
-            .expect(&rt, "a program is started");
-        spawner
-            .kill(rt.alloc(), started.pid, signal, group)
-            .expect(&rt, "a signal is sent");
-        let how = started.waiter.wait().ok();
-        assert!(rt; how == ExitSignal::new(number).map(How::Signal));
+        signal_one(&rt, alloc, &mut spawner, signal, group, number);
     }
-    let order = order(
-        rt.alloc(),
-        ["setsid", "sh", "-c", "sleep 50 & echo go; sleep 50"].as_slice(),
-    )?;
-    let mut started = spawner
-        .spawn(rt.alloc(), &order)
-        .expect(&rt, "a group is started");
-    let mut piece = [0u8; 9];
-    let count = started.stdout.read(&mut piece).expect(&rt, "it has begun");
-    assert!(rt; &piece[..count] == b"go\n".as_slice());
-    spawner
-        .kill(rt.alloc(), started.pid, Signal::Kill, true)
-        .expect(&rt, "a signal is sent to a group");
-    let how = started.waiter.wait().ok();
-    assert!(rt; how == ExitSignal::new(9).map(How::Signal));
-    assert!(rt; all_of(&rt, rt.alloc(), &mut started.stdout)?.is_empty());
+    signal_group(&rt, alloc, &mut spawner);
     let none = Pid::new(4_194_305).expect(&rt, "past the last process");
     for group in [false, true] {
-        let answer = spawner.kill(rt.alloc(), none, Signal::Term, group);
+        let answer = spawner.kill(alloc, none, Signal::Term, group);
         assert!(rt; matches!(answer, Err(KillFault::Failed)));
     }
-    Ok(())
 }
 
 /// Why the spawner refuses an order; empty where it doesn't for a reason that it tells.
-fn refusal(rt: &HostRuntime, order: &SpawnOrder) -> Result<Text, AllocError> {
-    let mut spawner = OsSpawner::new(rt);
-    match spawner.spawn(rt.alloc(), order) {
-        Err(SpawnFault::Refused(Refusal::NoFile)) => Ok(Text::fixed("no file")),
-        Err(SpawnFault::Refused(Refusal::NotExecutable)) => Ok(Text::fixed("not executable")),
-        Err(SpawnFault::Refused(Refusal::Refused(reason))) => Ok(reason),
-        _ => Ok(Text::fixed("")),
+fn refusal<S: Spawner>(alloc: Global, spawner: &mut S, order: &SpawnOrder) -> Text {
+    match spawner.spawn(alloc, order) {
+        Err(SpawnFault::Refused(Refusal::NoFile)) => Text::fixed("no file"),
+        Err(SpawnFault::Refused(Refusal::NotExecutable)) => Text::fixed("not executable"),
+        Err(SpawnFault::Refused(Refusal::Refused(reason))) => reason,
+        _ => Text::fixed(""),
     }
 }
 
+/// An order is refused for this reason.
+fn is_refused<R: Abort + Processes + Files + Copy>(
+    rt: R,
+    alloc: Global,
+    order: &SpawnOrder,
+    wanted: &str,
+) {
+    let mut spawner = OsSpawner::new(rt);
+    let reason = refusal(alloc, &mut spawner, order);
+    assert_eq!(rt; reason.as_str(), wanted);
+}
+
+/// Makes two files, of which the second may be executed.
+fn make_files<R: Abort + Files>(rt: &R, plain: &str, noise: &str) {
+    fs::write(rt, plain, b"exit 0\n".as_slice()).expect(rt, "the system does it");
+    fs::write(rt, noise, b"exit 0\n".as_slice()).expect(rt, "the system does it");
+    fs::set_permissions(rt, noise, Permissions::from_mode(0o755)).expect(rt, "the system does it");
+}
+
+/// A program is refused whose directory is a file, and one with a user.
+fn is_refused_in_file<R: Abort + Processes + Files + Copy>(rt: R, alloc: Global, plain: &str) {
+    let mut order = order(&rt, alloc, ["/bin/true"].as_slice());
+    order.directory = Text::from_str(alloc, plain).expect(&rt, "ample memory");
+    let wanted = format!(in alloc; "can't change to directory {plain}").expect(&rt, "ample memory");
+    is_refused(rt, alloc, &order, wanted.as_str());
+    order.user = Text::fixed("nobody");
+    is_refused(rt, alloc, &order, "can't become user nobody");
+}
+
 #[test]
-fn programs_are_refused_by_name(rt: HostRuntime) -> Result<(), Fail> {
-    let directory = new_directory(&rt, "refused")?;
-    let plain = format!(in rt.alloc(); "{directory}/plain")?;
-    let noise = format!(in rt.alloc(); "{directory}/noise")?;
-    fs::write(&rt, plain.as_str(), b"exit 0\n".as_slice())?;
-    fs::write(&rt, noise.as_str(), b"exit 0\n".as_slice())?;
-    fs::set_permissions(&rt, noise.as_str(), Permissions::from_mode(0o755))?;
+fn programs_are_refused_by_name(rt: HostRuntime) {
+    let alloc = rt.alloc();
+    let directory = new_directory(&rt, "refused").expect(&rt, "a new directory");
+    let plain = path_in(&rt, alloc, directory.as_str(), "plain");
+    let noise = path_in(&rt, alloc, directory.as_str(), "noise");
+    make_files(&rt, plain.as_str(), noise.as_str());
     let rows = [
         ("/none/such", "no file"),
         ("sv-os-none-such", "no file"),
@@ -182,17 +245,11 @@ fn programs_are_refused_by_name(rt: HostRuntime) -> Result<(), Fail> {
         ("a\0b", "nul byte found in provided data"),
     ];
     for (program, wanted) in rows {
-        let order = order(rt.alloc(), [program].as_slice())?;
-        assert_eq!(rt; refusal(&rt, &order)?.as_str(), wanted);
+        let order = order(&rt, alloc, [program].as_slice());
+        is_refused(rt, alloc, &order, wanted);
     }
-    let none = order(rt.alloc(), [].as_slice())?;
-    assert_eq!(rt; refusal(&rt, &none)?.as_str(), "no file");
-    let mut order = order(rt.alloc(), ["/bin/true"].as_slice())?;
-    order.directory = Text::from_str(rt.alloc(), plain.as_str())?;
-    let wanted = format!(in rt.alloc(); "can't change to directory {plain}")?;
-    assert_eq!(rt; refusal(&rt, &order)?.as_str(), wanted.as_str());
-    order.user = Text::fixed("nobody");
-    assert_eq!(rt; refusal(&rt, &order)?.as_str(), "can't become user nobody");
-    fs::remove_dir_all(&rt, directory.as_str())?;
-    Ok(())
+    let none = order(&rt, alloc, [].as_slice());
+    is_refused(rt, alloc, &none, "no file");
+    is_refused_in_file(rt, alloc, plain.as_str());
+    fs::remove_dir_all(&rt, directory.as_str()).expect(&rt, "the system does it");
 }

@@ -1,6 +1,7 @@
 //! Jobs that are handed to a gate in memory.
 
-use std::alloc::AllocError;
+use std::alloc::Global;
+use std::process::Abort;
 use std::sync::Wait;
 use sv_gate::{Ready, hand};
 use sv_outside::{HoldGate, Job, JobWord, PumpEnd};
@@ -27,16 +28,19 @@ impl Job for Idle {
     }
 }
 
+/// A gate with room for one job.
+fn gate_of(rt: &impl Abort, alloc: Global) -> Ready<Idle, HoldGate<Idle>> {
+    Ready::new(HoldGate::new(alloc, 1, Vec::new(alloc)).expect(rt, "memory"))
+}
+
 #[test]
-fn a_gate_keeps_jobs_while_it_has_room(rt: HostRuntime) -> Result<(), AllocError> {
-    let held: HoldGate<Idle> = HoldGate::new(rt.alloc(), 1, Vec::new(rt.alloc()))?;
-    let mut gate = Ready::new(held);
+fn a_gate_keeps_jobs_while_it_has_room(rt: HostRuntime) {
+    let mut gate = gate_of(&rt, rt.alloc());
     assert!(rt; hand(&mut gate, Idle {}));
     assert!(rt; !hand(&mut gate, Idle {}));
     let Err(mut back) = gate.start(Idle {}) else {
-        return Err(AllocError);
+        panic!(&rt; "the job was kept")
     };
     assert!(rt; back.word() == JobWord::Console);
     assert!(rt; back.work(&rt) == PumpEnd::Ended);
-    Ok(())
 }

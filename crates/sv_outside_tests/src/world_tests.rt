@@ -1,6 +1,6 @@
 //! A world in memory, worked by hand: what it gives, at which calls it fails, and which orders raise its count of faults.
 
-use std::alloc::{AllocError, Global};
+use std::alloc::Global;
 use std::process::Abort;
 use sv_base::{Bytes, Items, Moment, Piece, Run, Signal, Stream, Text};
 use sv_out::input::Input;
@@ -17,29 +17,33 @@ const ANSWERS: [(&str, &str, &str); 5] = [
     ("", "1", "!."),
 ];
 
-fn script_of(alloc: Global, text: &str) -> Result<Vec<Input>, AllocError> {
-    let mut script = Vec::new(alloc);
-    for byte in text.as_bytes() {
-        script.push(match byte {
-            b't' => Input::Tick { at: Moment::zero() },
-            digit => Input::Failed(u64::from(digit.saturating_sub(b'0'))),
-        })?;
+fn input_of(byte: u8) -> Input {
+    match byte {
+        b't' => Input::Tick { at: Moment::zero() },
+        digit => Input::Failed(u64::from(digit.saturating_sub(b'0'))),
     }
-    Ok(script)
 }
 
-fn calls_of(alloc: Global, text: &str) -> Result<Vec<u64>, AllocError> {
+fn script_of(rt: &impl Abort, alloc: Global, text: &str) -> Vec<Input> {
+    let mut script = Vec::new(alloc);
+    for byte in text.as_bytes() {
+        script.push(input_of(*byte)).expect(rt, "memory");
+    }
+    script
+}
+
+fn calls_of(rt: &impl Abort, alloc: Global, text: &str) -> Vec<u64> {
     let mut calls = Vec::new(alloc);
     for byte in text.as_bytes() {
-        calls.push(u64::from(byte.saturating_sub(b'0')))?;
+        let call = u64::from(byte.saturating_sub(b'0'));
+        calls.push(call).expect(rt, "memory");
     }
-    Ok(calls)
+    calls
 }
 
 fn scripted(rt: &impl Abort, alloc: Global, script: &str, failing: &str) -> ScriptWorld {
-    let script = script_of(alloc, script).expect(rt, "ample memory");
-    let failing = calls_of(alloc, failing).expect(rt, "ample memory");
-    ScriptWorld::new(alloc, script, failing)
+    let script = script_of(rt, alloc, script);
+    ScriptWorld::new(alloc, script, calls_of(rt, alloc, failing))
 }
 
 /// The answer of one call, as the table writes it.
@@ -50,7 +54,7 @@ fn answer<W: World>(rt: &impl Abort, alloc: Global, world: &mut W) -> u8 {
         Ok(_) => b'?',
         Err(NextFault::Failed) => b'!',
         Err(NextFault::Ended) => b'.',
-        Err(NextFault::OutOfMemory) => { Err(AllocError).expect(rt, "ample memory") }
+        Err(NextFault::OutOfMemory) => panic!(rt; "out of memory"),
     }
 }
 
@@ -91,85 +95,107 @@ fn an_order_that_the_script_names_later_raises_the_count(rt: HostRuntime) {
     assert!(&rt; world.given().len() == 1);
 }
 
-fn text(alloc: Global, text: &str) -> Result<Text, AllocError> {
-    Text::from_str(alloc, text)
+fn text(rt: &impl Abort, alloc: Global, text: &str) -> Text {
+    Text::from_str(alloc, text).expect(rt, "memory")
 }
 
-fn bytes(alloc: Global, text: &str) -> Result<Bytes, AllocError> {
-    Bytes::from_slice(alloc, text.as_bytes())
-}
-
-fn piece(rt: &impl Abort, alloc: Global) -> Result<Piece, AllocError> {
+fn piece(rt: &impl Abort, alloc: Global) -> Piece {
     let mut bytes = Vec::new(alloc);
-    bytes.push(7)?;
-    Ok(Piece::new(bytes).expect(rt, "one byte"))
+    bytes.push(7).expect(rt, "memory");
+    Piece::new(bytes).expect(rt, "one byte")
 }
 
-fn spawn(alloc: Global) -> Result<Order, AllocError> {
+fn words(rt: &impl Abort, alloc: Global) -> Items<Text> {
     let mut words = Items::new(alloc);
-    words.push(text(alloc, "/bin/cat")?)?;
-    let mut environment = Items::new(alloc);
-    environment.push((text(alloc, "A")?, text(alloc, "b")?))?;
-    Ok(Order::Spawn(SpawnOrder {
-        run: Run(3),
-        group: text(alloc, "g")?,
-        name: text(alloc, "n")?,
-        directory: text(alloc, "/d")?,
-        umask: text(alloc, "022")?,
-        user: text(alloc, "joe")?,
-        words,
-        environment,
-    }))
+    words.push(text(rt, alloc, "/bin/cat")).expect(rt, "memory");
+    words
 }
 
-#[test]
-fn copies_succeed(rt: HostRuntime) {
-    let alloc = rt.alloc();
+fn environment(rt: &impl Abort, alloc: Global) -> Items<(Text, Text)> {
+    let mut environment = Items::new(alloc);
+    environment
+        .push((text(rt, alloc, "A"), text(rt, alloc, "b")))
+        .expect(rt, "memory");
+    environment
+}
+
+fn spawn(rt: &impl Abort, alloc: Global) -> Order {
+    Order::Spawn(SpawnOrder {
+        run: Run(3),
+        group: text(rt, alloc, "g"),
+        name: text(rt, alloc, "n"),
+        directory: text(rt, alloc, "/d"),
+        umask: text(rt, alloc, "022"),
+        user: text(rt, alloc, "joe"),
+        words: words(rt, alloc),
+        environment: environment(rt, alloc),
+    })
+}
+
+fn output_is_copied(rt: &impl Abort, alloc: Global) {
     let input = Input::Out {
         at: Moment::zero(),
         run: Run(2),
         stream: Stream::Err,
-        bytes: piece(&rt, alloc).expect(&rt, "ample memory"),
+        bytes: piece(rt, alloc),
     };
-    match copy_input(alloc, &input).expect(&rt, "ample memory") {
+    match copy_input(alloc, &input).expect(rt, "ample memory") {
         Input::Out {
             run: Run(2),
             stream: Stream::Err,
             bytes,
             ..
-        } => assert!(&rt; bytes.as_slice() == [7u8].as_slice()),
-        _ => assert!(&rt; false),
+        } => assert!(rt; bytes.as_slice() == [7u8].as_slice()),
+        _ => assert!(rt; false),
     }
-    let order = spawn(alloc).expect(&rt, "ample memory");
-    match copy_order(&order).expect(&rt, "ample memory") {
+}
+
+fn spawn_is_copied(rt: &impl Abort, alloc: Global) {
+    let order = spawn(rt, alloc);
+    match copy_order(&order).expect(rt, "ample memory") {
         Order::Spawn(spawn) => {
-            assert_eq!(&rt; spawn.user.as_str(), "joe");
-            assert!(&rt; spawn.words.as_slice().len() == 1);
-            assert!(&rt; spawn.environment.as_slice().len() == 1);
+            assert_eq!(rt; spawn.user.as_str(), "joe");
+            assert!(rt; spawn.words.as_slice().len() == 1);
+            assert!(rt; spawn.environment.as_slice().len() == 1);
         }
-        _ => assert!(&rt; false),
+        _ => assert!(rt; false),
     }
+}
+
+fn stdin_is_copied(rt: &impl Abort, alloc: Global) {
     let order = Order::Stdin {
         run: Run(1),
-        bytes: bytes(alloc, "hi").expect(&rt, "ample memory"),
+        bytes: Bytes::from_slice(alloc, b"hi").expect(rt, "ample memory"),
     };
-    match copy_order(&order).expect(&rt, "ample memory") {
+    match copy_order(&order).expect(rt, "ample memory") {
         Order::Stdin { run: Run(1), bytes } => {
-            assert!(&rt; bytes.as_slice() == b"hi".as_slice());
+            assert!(rt; bytes.as_slice() == b"hi".as_slice());
         }
-        _ => assert!(&rt; false),
+        _ => assert!(rt; false),
     }
+}
+
+fn kill_is_copied(rt: &impl Abort) {
     let order = Order::Kill {
         run: Run(1),
         signal: Signal::Int,
         group: true,
     };
-    match copy_order(&order).expect(&rt, "ample memory") {
+    match copy_order(&order).expect(rt, "ample memory") {
         Order::Kill {
             run: Run(1),
             signal: Signal::Int,
             group: true,
         } => {}
-        _ => assert!(&rt; false),
+        _ => assert!(rt; false),
     }
+}
+
+#[test]
+fn copies_succeed(rt: HostRuntime) {
+    let alloc = rt.alloc();
+    output_is_copied(&rt, alloc);
+    spawn_is_copied(&rt, alloc);
+    stdin_is_copied(&rt, alloc);
+    kill_is_copied(&rt);
 }

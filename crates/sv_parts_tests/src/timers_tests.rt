@@ -1,7 +1,8 @@
 //! Deadlines that were set and cleared, with who is due, worked out by hand.
 ghost use Rattle.std.specs.Prelude.{◌≡◌};
 
-use std::alloc::{AllocError, Global};
+use std::alloc::Global;
+use std::process::Abort;
 use sv_base::{ChildId, Deadline, Moment};
 use sv_timers::{Agenda, Due, Looked};
 
@@ -11,21 +12,27 @@ fn at(seconds: u8) -> Deadline {
 }
 
 /// Who is due at these seconds, of a table with room for three in its list.
-fn due_at(alloc: Global, due: &Due, seconds: u8) -> Result<Vec<u32>, AllocError> {
-    let mut looked = Looked::new(alloc, 3)?;
+fn due_at(rt: &impl Abort, alloc: Global, due: &Due, seconds: u8) -> Vec<u32> {
+    let mut looked = Looked::new(alloc, 3).expect(rt, "memory");
     let now = Moment::new(1_000 * u64::from(seconds)).unwrap_or(Moment::zero());
     due.settle(now, &mut looked);
     let mut numbers = Vec::new(alloc);
     for child in looked.children() {
-        numbers.push(child.0)?;
+        numbers.push(child.0).expect(rt, "memory");
     }
-    Ok(numbers)
+    numbers
+}
+
+/// These children are due at these seconds.
+fn are_due(rt: &impl Abort, alloc: Global, due: &Due, seconds: u8, children: &[u32]) {
+    let found = due_at(rt, alloc, due, seconds);
+    assert!(rt; found.as_slice() == children, "after {seconds} seconds");
 }
 
 #[test]
-fn the_due_come_in_start_order(rt: HostRuntime) -> Result<(), AllocError> {
+fn the_due_come_in_start_order(rt: HostRuntime) {
     let alloc = rt.alloc();
-    let mut due = Due::new(alloc, 5)?;
+    let mut due = Due::new(alloc, 5).expect(&rt, "memory");
     due.set(ChildId(4), at(250));
     due.set(ChildId(0), at(9));
     due.set(ChildId(2), at(7));
@@ -43,35 +50,29 @@ fn the_due_come_in_start_order(rt: HostRuntime) -> Result<(), AllocError> {
         (250, &[0, 2, 3]),
     ];
     for (seconds, children) in expected {
-        assert!(rt;
-            due_at(alloc, &due, seconds)?.as_slice() == children,
-            "after {seconds} seconds"
-        );
+        are_due(&rt, alloc, &due, seconds, children);
     }
-    Ok(())
 }
 
 #[test]
-fn a_list_counts_looks_past_its_room(rt: HostRuntime) -> Result<(), AllocError> {
+fn a_list_counts_looks_past_its_room(rt: HostRuntime) {
     let alloc = rt.alloc();
-    let mut due = Due::new(alloc, 3)?;
+    let mut due = Due::new(alloc, 3).expect(&rt, "memory");
     due.set(ChildId(0), at(0));
     due.set(ChildId(1), at(0));
     due.set(ChildId(2), at(0));
-    let mut looked = Looked::new(alloc, 2)?;
+    let mut looked = Looked::new(alloc, 2).expect(&rt, "memory");
     due.settle(Moment::zero(), &mut looked);
     assert!(rt; looked.children().len() == 2 && looked.looks() == 3);
     looked.forget();
     assert!(rt; looked.children().is_empty() && looked.looks() == 3);
-    Ok(())
 }
 
 #[test]
-fn no_children_are_never_due(rt: HostRuntime) -> Result<(), AllocError> {
-    let due = Due::new(rt.alloc(), 0)?;
+fn no_children_are_never_due(rt: HostRuntime) {
+    let due = Due::new(rt.alloc(), 0).expect(&rt, "memory");
     assert!(rt; due.earliest().is_none());
-    assert!(rt; due_at(rt.alloc(), &due, 255)?.is_empty());
-    Ok(())
+    assert!(rt; due_at(&rt, rt.alloc(), &due, 255).is_empty());
 }
 
 /// The number of the child that is next, and how many were looked at for it.
@@ -83,8 +84,8 @@ fn told(agenda: &mut Agenda, from: usize, now: Moment) -> (Option<u32>, usize)
 }
 
 #[test]
-fn the_due_are_told_one_by_one(rt: HostRuntime) -> Result<(), AllocError> {
-    let mut agenda = Agenda::new(rt.alloc(), 5)?;
+fn the_due_are_told_one_by_one(rt: HostRuntime) {
+    let mut agenda = Agenda::new(rt.alloc(), 5).expect(&rt, "memory");
     let now = Moment::zero();
     agenda.put(0, Some(at(0)));
     agenda.put(2, Some(at(0)));
@@ -95,5 +96,4 @@ fn the_due_are_told_one_by_one(rt: HostRuntime) -> Result<(), AllocError> {
     agenda.put(4, Some(at(250)));
     assert!(rt; told(&mut agenda, 3, now) == (Some(3), 2));
     assert!(rt; told(&mut agenda, 4, now) == (None, 0));
-    Ok(())
 }

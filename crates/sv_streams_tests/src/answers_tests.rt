@@ -61,43 +61,55 @@ const CASES: [Case; 6] = [
     },
 ];
 
-fn is_wanted(rt: &impl Abort, alloc: Global, call: &Call, case: &Case) {
-    assert!(rt; call.method.as_str() == case.method, "{}", case.body);
-    let subject = subject_of(call).ok().expect(rt, "memory");
+/// A call names what its case says.
+fn names(rt: &impl Abort, call: &Call, case: &Case) {
+    let subject = subject_of(call).expect(rt, "memory");
     match (&subject, case.subject) {
         (None, None) => {}
         (Some(subject), Some(wanted)) => assert!(rt; subject.as_str() == wanted, "{}", case.body),
         _ => assert!(rt; false, "{}", case.body),
     }
-    let several = case.method == "system.multicall";
-    assert_eq!(rt; is_several(call), several, "{}", case.body);
-    let parts = parts_asked(alloc, call).ok().expect(rt, "memory");
+}
+
+/// A call has as many parts as its case says.
+fn has_parts(rt: &impl Abort, alloc: Global, call: &Call, case: &Case) {
+    let parts = parts_asked(alloc, call).expect(rt, "memory");
     match &parts {
         Some(parts) => assert_eq!(rt; Some(parts.len()), case.parts, "{}", case.body),
         None => assert!(rt; case.parts.is_none(), "{}", case.body),
     }
 }
 
+fn is_wanted(rt: &impl Abort, alloc: Global, call: &Call, case: &Case) {
+    assert!(rt; call.method.as_str() == case.method, "{}", case.body);
+    names(rt, call, case);
+    let several = case.method == "system.multicall";
+    assert_eq!(rt; is_several(call), several, "{}", case.body);
+    has_parts(rt, alloc, call, case);
+}
+
 fn ask(rt: &impl Abort, alloc: Global, body: &str, close: bool) -> Ask {
-    let body = Bytes::from_slice(alloc, body.as_bytes()).ok();
-    Ask::Call {
-        body: body.expect(rt, "memory"),
-        close,
+    let body = Bytes::from_slice(alloc, body.as_bytes()).expect(rt, "memory");
+    Ask::Call { body, close }
+}
+
+/// The request of a case is its call, after whose reply the link closes.
+fn is_call(rt: &impl Abort, alloc: Global, case: &Case) {
+    let ask = ask(rt, alloc, case.body, true);
+    let heard = hear(alloc, ask).expect(rt, "memory");
+    match &heard {
+        Heard::Calls(call, close) => {
+            assert!(rt; *close, "{}", case.body);
+            is_wanted(rt, alloc, call, case);
+        }
+        Heard::Refuses(_) => assert!(rt; false, "{}", case.body),
     }
 }
 
 #[test]
 fn requests_are_calls(rt: HostRuntime) {
-    let alloc = rt.alloc();
     for case in &CASES {
-        let heard = hear(alloc, ask(&rt, alloc, case.body, true)).ok();
-        match heard.expect(&rt, "memory") {
-            Heard::Calls(call, close) => {
-                assert!(&rt; close, "{}", case.body);
-                is_wanted(&rt, alloc, &call, case);
-            }
-            Heard::Refuses(_) => assert!(&rt; false, "{}", case.body),
-        }
+        is_call(&rt, rt.alloc(), case);
     }
 }
 
@@ -114,38 +126,45 @@ const UNAUTHORIZED: &str =
 const BAD_REQUEST: &str =
     "HTTP/1.1 400 Bad Request\r\nContent-Type: text/xml\r\nContent-Length: 0\r\nConnection: close\r\n\r\n";
 
+/// A request is refused by this text, after which the link closes.
+fn is_refused(rt: &impl Abort, alloc: Global, ask: Ask, text: &str) {
+    let heard = hear(alloc, ask).expect(rt, "memory");
+    match &heard {
+        Heard::Refuses(sent) => is_said(rt, sent, text, true),
+        Heard::Calls(_, _) => assert!(rt; false, "{text}"),
+    }
+}
+
 #[test]
 fn requests_are_refused(rt: HostRuntime) {
     let alloc = rt.alloc();
     let no_call = "<methodCall><methodName>a</methodName></methodCall> x";
-    let asked = [
-        (ask(&rt, alloc, no_call, false), BAD_REQUEST),
-        (Ask::Bad(Refusal::Unauthorized), UNAUTHORIZED),
-    ];
-    for (ask, text) in asked {
-        match hear(alloc, ask).ok().expect(&rt, "memory") {
-            Heard::Refuses(sent) => is_said(&rt, &sent, text, true),
-            Heard::Calls(_, _) => assert!(&rt; false, "{text}"),
-        }
-    }
+    let bad = ask(&rt, alloc, no_call, false);
+    is_refused(&rt, alloc, bad, BAD_REQUEST);
+    let unauthorized = Ask::Bad(Refusal::Unauthorized);
+    is_refused(&rt, alloc, unauthorized, UNAUTHORIZED);
 }
 
 /// The reply that tells the API's version.
 const VERSION: &str =
     "HTTP/1.1 200 OK\r\nContent-Type: text/xml\r\nContent-Length: 121\r\n\r\n<?xml version='1.0'?><methodResponse><params><param><value><string>3.0</string></value></param></params></methodResponse>";
 
-/// The reply to several calls in one whose params aren't an array, behind which the link closes.
+/// The reply to several calls in one whose params aren't an array, after which the link closes.
 const NO_PARTS: &str =
     "HTTP/1.1 200 OK\r\nContent-Type: text/xml\r\nContent-Length: 260\r\nConnection: close\r\n\r\n<?xml version='1.0'?><methodResponse><fault><value><struct><member><name>faultCode</name><value><int>2</int></value></member><member><name>faultString</name><value><string>INCORRECT_PARAMETERS</string></value></member></struct></value></fault></methodResponse>";
+
+/// An answer is said by this text, after which the link closes or not.
+fn answer_is_said(rt: &impl Abort, alloc: Global, close: bool, answered: &Answered, text: &str) {
+    let sent = say(alloc, close, answered).expect(rt, "memory");
+    is_said(rt, &sent, text, close);
+}
 
 #[test]
 fn answers_are_said(rt: HostRuntime) {
     let alloc = rt.alloc();
     let version = Answered::Value(Value::Text(Text::fixed("3.0")));
-    let sent = say(alloc, false, &version).ok().expect(&rt, "memory");
-    is_said(&rt, &sent, VERSION, false);
-    let sent = say(alloc, true, &no_parts()).ok().expect(&rt, "memory");
-    is_said(&rt, &sent, NO_PARTS, true);
+    answer_is_said(&rt, alloc, false, &version, VERSION);
+    answer_is_said(&rt, alloc, true, &no_parts(), NO_PARTS);
 }
 
 /// A shape, what the call named, what was read, and the body of the reply.
@@ -209,8 +228,9 @@ const BACKS: [Back; 7] = [
     },
 ];
 
-fn come_back(rt: &impl Abort, alloc: Global, back: &Back) {
-    let reading = Reading {
+/// What was to be read.
+fn reading(back: &Back) -> Reading {
+    Reading {
         file: Text::fixed("/m"),
         span: Span {
             start: 0,
@@ -224,15 +244,28 @@ fn come_back(rt: &impl Abort, alloc: Global, back: &Back) {
             None => None,
             Some(name) => Some(Text::fixed(name)),
         },
-    };
-    let reply = match back.part {
-        Some(part) => FileReply::Part(Bytes::from_slice(alloc, part).ok().expect(rt, "memory")),
+    }
+}
+
+/// What became of the read.
+fn file_reply(rt: &impl Abort, alloc: Global, back: &Back) -> FileReply {
+    match back.part {
+        Some(part) => FileReply::Part(Bytes::from_slice(alloc, part).expect(rt, "memory")),
         None if back.missing => FileReply::Missing,
         None => FileReply::Failed,
-    };
-    let answered = read_back(alloc, &reading, &reply).ok();
-    let sent = say(alloc, false, &answered.expect(rt, "memory")).ok();
-    let sent = sent.expect(rt, "memory");
+    }
+}
+
+/// What the call is then answered.
+fn answer(rt: &impl Abort, alloc: Global, back: &Back) -> Answered {
+    let reading = reading(back);
+    let reply = file_reply(rt, alloc, back);
+    read_back(alloc, &reading, &reply).expect(rt, "memory")
+}
+
+fn come_back(rt: &impl Abort, alloc: Global, back: &Back) {
+    let answered = answer(rt, alloc, back);
+    let sent = say(alloc, false, &answered).expect(rt, "memory");
     let text = std::str::from_utf8(sent.text.as_slice()).unwrap_or("");
     assert!(rt; text.contains(back.body), "{}", back.body);
     assert!(rt; !sent.closes, "the link goes on");

@@ -29,43 +29,56 @@ fn waiting(rows: Items<Asked>) -> Waiting {
     }
 }
 
+/// The text is part of the reply with this value.
+fn is_written(rt: &impl Abort, alloc: Global, value: &Value, text: &str) {
+    let written = write_reply(alloc, value).expect(rt, "memory");
+    let written = std::str::from_utf8(written.as_slice()).unwrap_or("");
+    assert!(rt; written.contains(text), "{text}");
+}
+
 /// The text of the value of an answer.
 fn is_text(rt: &impl Abort, alloc: Global, answer: Option<Answer>, close: bool, text: &str) {
     let answer = answer.expect(rt, "an answer");
     assert_eq!(rt; answer.close, close, "{text}");
     match &answer.answered {
-        Answered::Value(value) => {
-            let written = write_reply(alloc, value).ok().expect(rt, "memory");
-            let written = std::str::from_utf8(written.as_slice()).unwrap_or("");
-            assert!(rt; written.contains(text), "{text}");
-        }
+        Answered::Value(value) => is_written(rt, alloc, value, text),
         Answered::Fault(_, _) => assert!(rt; false, "{text}"),
     }
+}
+
+fn number(value: i64) -> Answered {
+    Answered::Value(Value::Int(value))
+}
+
+/// Where the call of a link is answered so, nothing is given yet, or no longer.
+fn gives_nothing(
+    rt: &impl Abort,
+    alloc: Global,
+    calls: &mut Calls,
+    link: LinkId,
+    answered: Answered,
+    told: &str,
+) {
+    let given = calls.answer(alloc, link, answered).expect(rt, "memory");
+    assert!(rt; given.is_none(), "{told}");
+}
+
+fn is_not_at_its_end(rt: &impl Abort, calls: &mut Calls) {
+    let end = calls.finish(LINK).expect(rt, "memory");
+    assert!(rt; end.is_none(), "it isn't answered");
 }
 
 #[test]
 fn one_call_is_answered_at_once(rt: HostRuntime) {
     let alloc = rt.alloc();
     let mut calls = Calls::new(alloc);
-    calls.begin(LINK, true).ok().expect(&rt, "memory");
+    calls.begin(LINK, true).expect(&rt, "memory");
     assert_eq!(&rt; calls.parts_left(LINK), 0, "it has no parts");
-    let other = calls.answer(alloc, LinkId(4), Answered::Value(Value::Int(1)));
-    assert!(&rt; other.ok().expect(&rt, "memory").is_none(), "another link");
-    let end = calls.finish(LINK).ok().expect(&rt, "memory");
-    assert!(&rt; end.is_none(), "it isn't answered");
-    let answer = calls.answer(alloc, LINK, Answered::Value(Value::Int(1)));
-    is_text(
-        &rt,
-        alloc,
-        answer.ok().expect(&rt, "memory"),
-        true,
-        "<int>1</int>",
-    );
-    let again = calls.answer(alloc, LINK, Answered::Value(Value::Int(1)));
-    assert!(&rt;
-        again.ok().expect(&rt, "memory").is_none(),
-        "it is done with"
-    );
+    gives_nothing(&rt, alloc, &mut calls, LinkId(4), number(1), "another link");
+    is_not_at_its_end(&rt, &mut calls);
+    let answer = calls.answer(alloc, LINK, number(1)).expect(&rt, "memory");
+    is_text(&rt, alloc, answer, true, "<int>1</int>");
+    gives_nothing(&rt, alloc, &mut calls, LINK, number(1), "it is done with");
 }
 
 /// The faults of the two rows of what the call waits for.
@@ -77,77 +90,122 @@ fn faults(rt: &impl Abort, calls: &Calls) -> (Option<u32>, Option<u32>) {
     }
 }
 
+/// The start of a process, and the clear of no files.
+fn two_requests(rt: &impl Abort, alloc: Global) -> Items<Request> {
+    let first = ChildId(7);
+    let requests = vec![in alloc; Request::Start(first), Request::Clear(Items::new(alloc))];
+    Items::from_vec(requests.expect(rt, "memory"))
+}
+
+/// The rows of these requests.
+fn two_rows(rt: &impl Abort, alloc: Global) -> Items<Asked> {
+    let first = ChildId(7);
+    let rows = vec![in alloc; row(Some(first), Aim::Started), row(None, Aim::Cleared)];
+    Items::from_vec(rows.expect(rt, "memory"))
+}
+
+fn takes_the_start(rt: &impl Abort, calls: &mut Calls) {
+    let request = calls.take_request(LINK);
+    assert!(rt;
+        matches!(request, Some(Request::Start(ChildId(7)))),
+        "the start first"
+    );
+}
+
+fn takes_the_clear(rt: &impl Abort, calls: &mut Calls) {
+    let request = calls.take_request(LINK);
+    assert!(rt;
+        matches!(request, Some(Request::Clear(_))),
+        "then the clear"
+    );
+}
+
+/// A request goes wrong, and the rows then have these faults.
+fn goes_wrong(
+    rt: &impl Abort,
+    alloc: Global,
+    calls: &mut Calls,
+    setback: Setback,
+    wanted: (Option<u32>, Option<u32>),
+    told: &str,
+) {
+    calls.set_back(alloc, LINK, setback);
+    assert!(rt; faults(rt, calls) == wanted, "{told}");
+}
+
+/// What may go wrong with the start.
+fn the_start_goes_wrong(rt: &impl Abort, alloc: Global, calls: &mut Calls) {
+    let none = (None, None);
+    let no_log = "a process without a log";
+    goes_wrong(rt, alloc, calls, Setback::NoLog, none, no_log);
+    let one = (Some(21), None);
+    goes_wrong(rt, alloc, calls, Setback::NotExecutable, one, "no program");
+}
+
+/// What may go wrong with the clear.
+fn the_clear_goes_wrong(rt: &impl Abort, alloc: Global, calls: &mut Calls) {
+    let missing = (Some(21), Some(20));
+    goes_wrong(rt, alloc, calls, Setback::NoLog, missing, "no main log");
+    let failed = (Some(21), Some(30));
+    goes_wrong(rt, alloc, calls, Setback::NotCleared, failed, "it failed");
+}
+
 #[test]
 fn requests_have_their_rows(rt: HostRuntime) {
     let alloc = rt.alloc();
     let mut calls = Calls::new(alloc);
-    calls.begin(LINK, false).ok().expect(&rt, "memory");
-    let first = ChildId(7);
-    let requests = vec![in alloc; Request::Start(first), Request::Clear(Items::new(alloc))];
-    let requests = Items::from_vec(requests.ok().expect(&rt, "memory"));
-    let rows = vec![in alloc; row(Some(first), Aim::Started), row(None, Aim::Cleared)];
-    let rows = Items::from_vec(rows.ok().expect(&rt, "memory"));
-    calls.act(LINK, requests, waiting(rows));
-    let request = calls.take_request(LINK);
-    assert!(&rt;
-        matches!(request, Some(Request::Start(ChildId(7)))),
-        "the start first"
-    );
-    calls.set_back(alloc, LINK, Setback::NoLog);
-    assert!(&rt;
-        faults(&rt, &calls) == (None, None),
-        "a process without a log"
-    );
-    calls.set_back(alloc, LINK, Setback::NotExecutable);
-    assert!(&rt; faults(&rt, &calls) == (Some(21), None), "no program");
-    let request = calls.take_request(LINK);
-    assert!(&rt;
-        matches!(request, Some(Request::Clear(_))),
-        "then the clear"
-    );
-    calls.set_back(alloc, LINK, Setback::NoLog);
-    assert!(&rt; faults(&rt, &calls) == (Some(21), Some(20)), "no main log");
-    calls.set_back(alloc, LINK, Setback::NotCleared);
-    assert!(&rt; faults(&rt, &calls) == (Some(21), Some(30)), "it failed");
+    calls.begin(LINK, false).expect(&rt, "memory");
+    let requests = two_requests(&rt, alloc);
+    calls.act(LINK, requests, waiting(two_rows(&rt, alloc)));
+    takes_the_start(&rt, &mut calls);
+    the_start_goes_wrong(&rt, alloc, &mut calls);
+    takes_the_clear(&rt, &mut calls);
+    the_clear_goes_wrong(&rt, alloc, &mut calls);
     assert!(&rt; calls.take_request(LINK).is_none(), "no other is left");
+}
+
+/// A call, and a fault.
+fn two_parts(rt: &impl Abort, alloc: Global) -> Vec<Part> {
+    let call = Call {
+        method: Text::fixed("a"),
+        params: Vec::new(alloc),
+    };
+    let parts = vec![in alloc; Part::Call(call), Part::Fault(2, Text::fixed("B"))];
+    parts.expect(rt, "memory")
+}
+
+/// The call is taken; while it acts no other part is.
+fn takes_the_call(rt: &impl Abort, alloc: Global, calls: &mut Calls) {
+    assert!(rt;
+        matches!(calls.take_part(LINK), Some(Part::Call(_))),
+        "the call first"
+    );
+    let rows = Items::new(alloc);
+    calls.act(LINK, Items::new(alloc), waiting(rows));
+    assert_eq!(rt; calls.parts_left(LINK), 0, "it isn't answered");
+    assert!(rt; calls.take_part(LINK).is_none(), "nor begun");
+}
+
+fn takes_the_fault(rt: &impl Abort, calls: &mut Calls) {
+    assert!(rt;
+        matches!(calls.take_part(LINK), Some(Part::Fault(2, _))),
+        "then the fault"
+    );
 }
 
 #[test]
 fn parts_are_answered_in_order(rt: HostRuntime) {
     let alloc = rt.alloc();
     let mut calls = Calls::new(alloc);
-    let call = Call {
-        method: Text::fixed("a"),
-        params: Vec::new(alloc),
-    };
-    let parts = vec![in alloc; Part::Call(call), Part::Fault(2, Text::fixed("B"))];
-    let parts = parts.ok().expect(&rt, "memory");
-    let begun = calls.begin_several(alloc, LINK, false, parts);
-    begun.ok().expect(&rt, "memory");
+    let begun = calls.begin_several(alloc, LINK, false, two_parts(&rt, alloc));
+    begun.expect(&rt, "memory");
     assert_eq!(&rt; calls.parts_left(LINK), 2, "two parts");
-    assert!(&rt;
-        matches!(calls.take_part(LINK), Some(Part::Call(_))),
-        "the call first"
-    );
-    let rows = Items::new(alloc);
-    calls.act(LINK, Items::new(alloc), waiting(rows));
-    assert_eq!(&rt; calls.parts_left(LINK), 0, "it isn't answered");
-    assert!(&rt; calls.take_part(LINK).is_none(), "nor begun");
-    let added = calls.answer(alloc, LINK, Answered::Value(Value::Int(5)));
-    assert!(&rt;
-        added.ok().expect(&rt, "memory").is_none(),
-        "it is gathered"
-    );
-    assert!(&rt;
-        matches!(calls.take_part(LINK), Some(Part::Fault(2, _))),
-        "then the fault"
-    );
-    let added = calls.answer(alloc, LINK, Answered::Fault(2, Text::fixed("B")));
-    assert!(&rt;
-        added.ok().expect(&rt, "memory").is_none(),
-        "it is gathered"
-    );
-    let end = calls.finish(LINK).ok().expect(&rt, "memory");
+    takes_the_call(&rt, alloc, &mut calls);
+    gives_nothing(&rt, alloc, &mut calls, LINK, number(5), "it is gathered");
+    takes_the_fault(&rt, &mut calls);
+    let fault = Answered::Fault(2, Text::fixed("B"));
+    gives_nothing(&rt, alloc, &mut calls, LINK, fault, "it is gathered");
+    let end = calls.finish(LINK).expect(&rt, "memory");
     is_text(&rt, alloc, end, false, RESULTS);
 }
 

@@ -1,6 +1,6 @@
 //! Captured streams, worked by hand.
 
-use std::alloc::{AllocError, Global};
+use std::alloc::Global;
 use std::process::Abort;
 use sv_pipes::{Capture, Part};
 
@@ -65,25 +65,25 @@ fn bytes_of(rt: &impl Abort, alloc: Global, text: &str) -> Vec<u8> {
     bytes
 }
 
-/// Adds the parts to a text, each with this mark before and behind it.
+/// Adds the parts to a text, each with this mark before and after it.
 fn tell(
+    rt: &impl Abort,
     told: &mut String,
     parts: &[Part],
     logged: (&str, &str),
     message: (&str, &str),
-) -> Result<(), AllocError> {
+) {
     for part in parts {
         let (bytes, (before, behind)) = match part {
             Part::Logged(bytes) => (bytes, logged),
             Part::Message(bytes) => (bytes, message),
         };
-        told.push_str(before)?;
+        told.push_str(before).expect(rt, "ample memory");
         for byte in bytes.as_slice() {
-            told.push(char::from(*byte))?;
+            told.push(char::from(*byte)).expect(rt, "ample memory");
         }
-        told.push_str(behind)?;
+        told.push_str(behind).expect(rt, "ample memory");
     }
-    Ok(())
 }
 
 fn limit_of(text: &str) -> u64 {
@@ -105,19 +105,35 @@ fn answer(rt: &impl Abort, alloc: Global, capture: &mut Capture, piece: &str) ->
     }
 }
 
+fn play_step(rt: &impl Abort, alloc: Global, capture: &mut Capture, step: &str) {
+    let (piece, expected) = step.split_once("=>").expect(rt, "a piece and its parts");
+    let parts = answer(rt, alloc, capture, piece);
+    let mut told = String::new(alloc);
+    tell(rt, &mut told, parts.as_slice(), ("L", ";"), ("M", ";"));
+    assert_eq!(rt; told.as_str(), expected);
+}
+
 fn play(rt: &impl Abort, alloc: Global, line: &str) {
     let (limit, steps) = line.split_once('|').expect(rt, "a limit and steps");
     let mut capture = Capture::new(alloc, limit_of(limit)).expect(rt, "ample memory");
     for step in steps.split('|') {
-        let (piece, expected) = step.split_once("=>").expect(rt, "a piece and its parts");
-        let parts = answer(rt, alloc, &mut capture, piece);
-        let mut told = String::new(alloc);
-        tell(&mut told, parts.as_slice(), ("L", ";"), ("M", ";")).expect(rt, "ample memory");
-        assert_eq!(rt; told.as_str(), expected);
+        play_step(rt, alloc, &mut capture, step);
     }
 }
 
-/// The worked stream, cut behind so many bytes.
+/// Gives a piece of the worked stream.
+fn feed(rt: &impl Abort, alloc: Global, capture: &mut Capture, piece: &[u8], told: &mut String) {
+    let parts = capture.feed(alloc, piece).expect(rt, "ample memory");
+    tell(rt, told, parts.as_slice(), ("", ""), ("(", ")"));
+}
+
+/// Ends the worked stream.
+fn close(rt: &impl Abort, alloc: Global, capture: &mut Capture, told: &mut String) {
+    let parts = capture.close(alloc).expect(rt, "ample memory");
+    tell(rt, told, parts.as_slice(), ("", ""), ("(", ")"));
+}
+
+/// The worked stream, cut after so many bytes.
 fn play_cut(rt: &impl Abort, alloc: Global, first: usize, second: usize) {
     let mut capture = Capture::new(alloc, 10).expect(rt, "ample memory");
     let mut told = String::new(alloc);
@@ -127,15 +143,11 @@ fn play_cut(rt: &impl Abort, alloc: Global, first: usize, second: usize) {
         piece.push(*byte).expect(rt, "ample memory");
         count = count.saturating_add(1);
         if count == first || count == second || count == 56 {
-            let parts = capture
-                .feed(alloc, piece.as_slice())
-                .expect(rt, "ample memory");
-            tell(&mut told, parts.as_slice(), ("", ""), ("(", ")")).expect(rt, "ample memory");
+            feed(rt, alloc, &mut capture, piece.as_slice(), &mut told);
             piece.clear();
         }
     }
-    let parts = capture.close(alloc).expect(rt, "ample memory");
-    tell(&mut told, parts.as_slice(), ("", ""), ("(", ")")).expect(rt, "ample memory");
+    close(rt, alloc, &mut capture, &mut told);
     assert_eq!(rt; told.as_str(), "ab(hello)cd<");
 }
 

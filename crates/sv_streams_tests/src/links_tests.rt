@@ -199,6 +199,17 @@ fn feed(
     marks: &[u8],
     is_whole: bool,
 ) {
+    let bytes = requests(rt, alloc, marks);
+    let size = if is_whole { bytes.len() } else { 1 };
+    for piece in bytes.as_slice().chunks(size.max(1)) {
+        links
+            .feed(alloc, LinkId(number), piece)
+            .expect(rt, "memory");
+    }
+}
+
+/// The requests that these marks name.
+fn requests(rt: &impl Abort, alloc: Global, marks: &[u8]) -> Vec<u8> {
     let mut bytes = Vec::new(alloc);
     match marks {
         [b'<', mark] => {
@@ -215,12 +226,7 @@ fn feed(
             put(rt, &mut bytes, request(rt, alloc, *mark).as_bytes());
         },
     }
-    let size = if is_whole { bytes.len() } else { 1 };
-    for piece in bytes.as_slice().chunks(size.max(1)) {
-        links
-            .feed(alloc, LinkId(number), piece)
-            .expect(rt, "memory");
-    }
+    bytes
 }
 
 fn put(rt: &impl Abort, bytes: &mut Vec<u8>, more: &[u8]) {
@@ -243,23 +249,29 @@ fn request(rt: &impl Abort, alloc: Global, mark: u8) -> String {
     text
 }
 
+/// The body of a request, and `.` where the link closes after its reply; or the number of a refusal.
+fn ask_told(rt: &impl Abort, alloc: Global, ask: &Ask) -> String {
+    let told = match ask {
+        Ask::Call { body, close } => {
+            let body = std::str::from_utf8(body.as_slice()).unwrap_or("?");
+            let end = if *close { "." } else { "" };
+            format!(in alloc; "{body}{end}")
+        }
+        Ask::Bad(refusal) => {
+            let status = Status::Bad(*refusal).number();
+            format!(in alloc; "{status}")
+        }
+    };
+    told.expect(rt, "memory")
+}
+
 /// Begins the next request of a link, and looks at it.
 fn asked(rt: &impl Abort, alloc: Global, links: &mut Links, number: u32, wanted: &str) {
-    let mut told = String::new(alloc);
-    match links.take_ask(LinkId(number)) {
-        None => {}
-        Some(Ask::Call { body, close }) => {
-            let body = std::str::from_utf8(body.as_slice()).unwrap_or("?");
-            told.push_str(body).expect(rt, "memory");
-            if close {
-                told.push('.').expect(rt, "memory");
-            }
-        }
-        Some(Ask::Bad(refusal)) => {
-            let status = Status::Bad(refusal).number();
-            told = format!(in alloc; "{status}").expect(rt, "memory");
-        }
-    }
+    let ask = links.take_ask(LinkId(number));
+    let told = match &ask {
+        None => String::new(alloc),
+        Some(ask) => ask_told(rt, alloc, ask),
+    };
     assert!(rt; told.as_str() == wanted, "what link {number} asks");
 }
 

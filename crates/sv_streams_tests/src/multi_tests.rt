@@ -52,21 +52,27 @@ const NO_PARTS: [&str; 7] = [
     "A<value><struct>MgetE</struct></value><value>1</value>Z",
 ];
 
+/// What a letter stands for, where it doesn't stand for itself.
+fn meaning(letter: char) -> &'static str {
+    match letter {
+        'M' => "<member><name>methodName</name><value>",
+        'P' => "<member><name>params</name><value>",
+        'E' => "</value></member>",
+        'A' => "<array><data>",
+        'Z' => "</data></array>",
+        _ => "",
+    }
+}
+
 /// The text with its letters spelled out.
 fn spelled(rt: &impl Abort, alloc: Global, text: &str) -> String {
     let mut out = String::new(alloc);
     for letter in text.chars() {
-        match letter {
-            'M' => out
-                .push_str("<member><name>methodName</name><value>")
-                .expect(rt, "memory"),
-            'P' => out
-                .push_str("<member><name>params</name><value>")
-                .expect(rt, "memory"),
-            'E' => out.push_str("</value></member>").expect(rt, "memory"),
-            'A' => out.push_str("<array><data>").expect(rt, "memory"),
-            'Z' => out.push_str("</data></array>").expect(rt, "memory"),
-            _ => out.push(letter).expect(rt, "memory"),
+        let written = meaning(letter);
+        if written.is_empty() {
+            out.push(letter).expect(rt, "memory");
+        } else {
+            out.push_str(written).expect(rt, "memory");
         }
     }
     out
@@ -98,7 +104,8 @@ fn one_struct(rt: &impl Abort, alloc: Global, members: &str) -> Value {
     value_of(rt, alloc, form.as_str())
 }
 
-fn is_call(rt: &impl Abort, alloc: Global, call: &Call, name: &str, params: &str) -> bool {
+/// The text of a call with this name and these params.
+fn call_text(rt: &impl Abort, alloc: Global, name: &str, params: &str) -> String {
     let mut text = String::new(alloc);
     text.push_str("<?xml version='1.0'?><methodCall><methodName>")
         .expect(rt, "memory");
@@ -107,7 +114,13 @@ fn is_call(rt: &impl Abort, alloc: Global, call: &Call, name: &str, params: &str
     text.push_str(spelled(rt, alloc, params).as_str())
         .expect(rt, "memory");
     text.push_str("</methodCall>").expect(rt, "memory");
-    write_call(alloc, call).expect(rt, "memory").as_slice() == text.as_str().as_bytes()
+    text
+}
+
+fn is_call(rt: &impl Abort, alloc: Global, call: &Call, name: &str, params: &str) -> bool {
+    let text = call_text(rt, alloc, name, params);
+    let written = write_call(alloc, call).expect(rt, "memory");
+    written.as_slice() == text.as_str().as_bytes()
 }
 
 fn is_part(rt: &impl Abort, alloc: Global, part: &Part, wanted: &str) -> bool {
@@ -143,14 +156,20 @@ fn adds(rt: &impl Abort, alloc: Global, gather: &mut Gather, answered: Answered)
     gather.add(alloc, answered).expect(rt, "memory");
 }
 
-fn gives(rt: &impl Abort, alloc: Global, gather: Gather, data: &str) {
-    let value = gather.value().expect(rt, "memory");
+/// The text of a reply with an array of this data.
+fn reply_text(rt: &impl Abort, alloc: Global, data: &str) -> String {
     let mut text = String::new(alloc);
     text.push_str("<?xml version='1.0'?><methodResponse><params><param><value><array><data>")
         .expect(rt, "memory");
     text.push_str(data).expect(rt, "memory");
     text.push_str("</data></array></value></param></params></methodResponse>")
         .expect(rt, "memory");
+    text
+}
+
+fn gives(rt: &impl Abort, alloc: Global, gather: Gather, data: &str) {
+    let value = gather.value().expect(rt, "memory");
+    let text = reply_text(rt, alloc, data);
     let written = write_reply(alloc, &value).expect(rt, "memory");
     assert!(rt; written.as_slice() == text.as_str().as_bytes());
 }

@@ -1,6 +1,6 @@
 //! Talks, worked by hand from the manual's protocol.
 
-use std::alloc::{AllocError, Global};
+use std::alloc::Global;
 use std::process::Abort;
 use sv_pipes::{ListenerTalk, TalkState, Token};
 
@@ -52,28 +52,30 @@ const HELD: [(&str, u64); 15] = [
     ("READY~^RESUME", 0),
 ];
 
-// A talk of 23 bytes, in which an event is sent behind the sixth.
+// A talk of 23 bytes, in which an event is sent after the sixth.
 const TALK: &str = "READY\nRESULT 2\nOKREADY\n";
 
+/// Adds a result to a text.
+fn tell_result(rt: &impl Abort, told: &mut String, body: &[u8]) {
+    told.push('=').expect(rt, "ample memory");
+    for byte in body {
+        let letter = match *byte {
+            b'\n' => '~',
+            other => char::from(other),
+        };
+        told.push(letter).expect(rt, "ample memory");
+    }
+}
+
 /// Adds what is told to a text.
-fn tell(told: &mut String, tokens: &[Token]) -> Result<(), AllocError> {
+fn tell(rt: &impl Abort, told: &mut String, tokens: &[Token]) {
     for token in tokens {
         match token {
-            Token::Ready => told.push('R')?,
-            Token::Wrong => told.push('!')?,
-            Token::Result(body) => {
-                told.push('=')?;
-                for byte in body.as_slice() {
-                    told.push(if *byte == b'\n' {
-                        '~'
-                    } else {
-                        char::from(*byte)
-                    })?;
-                }
-            }
+            Token::Ready => told.push('R').expect(rt, "ample memory"),
+            Token::Wrong => told.push('!').expect(rt, "ample memory"),
+            Token::Result(body) => tell_result(rt, told, body.as_slice()),
         }
     }
-    Ok(())
 }
 
 fn letter(state: TalkState) -> char {
@@ -97,12 +99,21 @@ fn bytes_of(rt: &impl Abort, alloc: Global, text: &str) -> Vec<u8> {
 
 fn feed(rt: &impl Abort, alloc: Global, talk: &mut ListenerTalk, piece: &[u8], told: &mut String) {
     let tokens = talk.feed(alloc, piece).expect(rt, "ample memory");
-    tell(told, tokens.as_slice()).expect(rt, "ample memory");
+    tell(rt, told, tokens.as_slice());
 }
 
 fn send(rt: &impl Abort, talk: &mut ListenerTalk) {
     assert!(rt; talk.state() == TalkState::Ready);
     talk.sent();
+}
+
+fn play_piece(rt: &impl Abort, alloc: Global, talk: &mut ListenerTalk, step: &str) {
+    let (piece, expected) = step.split_once('>').expect(rt, "a piece and what is told");
+    let piece = bytes_of(rt, alloc, piece);
+    let mut told = String::new(alloc);
+    feed(rt, alloc, talk, piece.as_slice(), &mut told);
+    told.push(letter(talk.state())).expect(rt, "ample memory");
+    assert_eq!(rt; told.as_str(), expected);
 }
 
 fn play(rt: &impl Abort, alloc: Global, line: &str) {
@@ -111,12 +122,7 @@ fn play(rt: &impl Abort, alloc: Global, line: &str) {
         if step == "^" {
             send(rt, &mut talk);
         } else {
-            let (piece, expected) = step.split_once('>').expect(rt, "a piece and what is told");
-            let piece = bytes_of(rt, alloc, piece);
-            let mut told = String::new(alloc);
-            feed(rt, alloc, &mut talk, piece.as_slice(), &mut told);
-            told.push(letter(talk.state())).expect(rt, "ample memory");
-            assert_eq!(rt; told.as_str(), expected);
+            play_piece(rt, alloc, &mut talk, step);
         }
     }
 }
@@ -137,7 +143,7 @@ fn check_held(rt: &impl Abort, alloc: Global, text: &str, expected: u64) {
     assert_eq!(rt; talk.held(), expected);
 }
 
-/// The worked talk, cut behind so many bytes, and where the event is sent.
+/// The worked talk, cut after so many bytes, and where the event is sent.
 fn play_cut(rt: &impl Abort, alloc: Global, first: usize, second: usize) {
     let mut talk = ListenerTalk::new(alloc);
     let mut told = String::new(alloc);
@@ -158,23 +164,34 @@ fn play_cut(rt: &impl Abort, alloc: Global, first: usize, second: usize) {
     assert_eq!(rt; told.as_str(), "R=OKRR");
 }
 
+/// So many bytes as a piece can have.
+fn longest_piece(rt: &impl Abort, alloc: Global) -> Vec<u8> {
+    let mut piece = Vec::new(alloc);
+    for _ in 0..65_536 {
+        piece.push(b'x').expect(rt, "ample memory");
+    }
+    piece
+}
+
+/// Gives all but the last byte of the longest result.
+fn feed_longest(rt: &impl Abort, alloc: Global, talk: &mut ListenerTalk, told: &mut String) {
+    let mut piece = longest_piece(rt, alloc);
+    for _ in 0..15 {
+        assert!(rt; talk.state() == TalkState::Busy);
+        feed(rt, alloc, talk, piece.as_slice(), told);
+    }
+    assert!(rt; piece.pop() == Some(b'x'));
+    feed(rt, alloc, talk, piece.as_slice(), told);
+}
+
 fn longest_result(rt: &impl Abort, alloc: Global) {
     let mut talk = ListenerTalk::new(alloc);
     let mut told = String::new(alloc);
     feed(rt, alloc, &mut talk, b"READY\n", &mut told);
     send(rt, &mut talk);
     feed(rt, alloc, &mut talk, b"RESULT 1048576\n", &mut told);
-    let mut piece = Vec::new(alloc);
-    for _ in 0..65_536 {
-        piece.push(b'x').expect(rt, "ample memory");
-    }
     assert_eq!(rt; talk.held(), 15);
-    for _ in 0..15 {
-        assert!(rt; talk.state() == TalkState::Busy);
-        feed(rt, alloc, &mut talk, piece.as_slice(), &mut told);
-    }
-    assert!(rt; piece.pop() == Some(b'x'));
-    feed(rt, alloc, &mut talk, piece.as_slice(), &mut told);
+    feed_longest(rt, alloc, &mut talk, &mut told);
     assert_eq!(rt; talk.held(), 1_048_590);
     assert!(rt; talk.state() == TalkState::Busy);
     feed(rt, alloc, &mut talk, b"x", &mut told);

@@ -9,7 +9,7 @@ use sv_runs::Runs;
 
 /// Each line is a script over two children. A digit names a run. `l1.0` begins it as a listener of child 0, `p1.0` as
 /// another process; `h1=TEXT` is a piece of its stdout, where `/` is a line feed and `_` a space, with the tokens that it
-/// ends behind a colon: `R` for READY, `+` and the bytes of a result, `W` for the first wrong byte. `s1` sends it an event;
+/// ends after a colon: `R` for READY, `+` and the bytes of a result, `W` for the first wrong byte. `s1` sends it an event;
 /// `x1`, `o1` and `e1` end its process, stdout and stderr; `c1` closes its stdin, `u1` loses it. `?1` asks for its child if
 /// its process lives, its child if it is talking, and whether it is ready; `k` whose stdin is closed.
 const SCRIPTS: &str = "\
@@ -93,15 +93,8 @@ fn run(number: u8) -> Run {
     Run(u32::from(digit(number)))
 }
 
-/// Gives a piece to a run and adds what it tells.
-fn hear(
-    rt: &impl Abort,
-    alloc: Global,
-    runs: &mut Runs,
-    run: Run,
-    piece: &[u8],
-    told: &mut String,
-) {
+/// The bytes of a piece.
+fn spelled(rt: &impl Abort, alloc: Global, piece: &[u8]) -> Vec<u8> {
     let mut bytes = Vec::new(alloc);
     for byte in piece {
         let byte = match byte {
@@ -111,17 +104,35 @@ fn hear(
         };
         bytes.push(byte).expect(rt, "memory");
     }
+    bytes
+}
+
+/// Gives a piece to a run and adds what it tells.
+fn hear(
+    rt: &impl Abort,
+    alloc: Global,
+    runs: &mut Runs,
+    run: Run,
+    piece: &[u8],
+    told: &mut String,
+) {
+    let bytes = spelled(rt, alloc, piece);
     let tokens = runs.hear(alloc, run, bytes.as_slice()).expect(rt, "memory");
     for token in tokens.as_slice() {
-        match token {
-            Token::Ready => told.push('R').expect(rt, "memory"),
-            Token::Result(body) => {
-                told.push('+').expect(rt, "memory");
-                let text = std::str::from_utf8(body.as_slice()).unwrap_or("");
-                told.push_str(text).expect(rt, "memory");
-            }
-            Token::Wrong => told.push('W').expect(rt, "memory"),
+        tell(rt, told, token);
+    }
+}
+
+/// Adds a token.
+fn tell(rt: &impl Abort, told: &mut String, token: &Token) {
+    match token {
+        Token::Ready => told.push('R').expect(rt, "memory"),
+        Token::Result(body) => {
+            told.push('+').expect(rt, "memory");
+            let text = std::str::from_utf8(body.as_slice()).unwrap_or("");
+            told.push_str(text).expect(rt, "memory");
         }
+        Token::Wrong => told.push('W').expect(rt, "memory"),
     }
 }
 

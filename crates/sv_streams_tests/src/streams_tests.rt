@@ -1,5 +1,5 @@
 //! Runs that begin, write and end, with the parts written out by hand.
-use std::alloc::{AllocError, Global};
+use std::alloc::Global;
 use std::process::Abort;
 use std::rt::HostRuntime;
 use sv_base::ids::Run;
@@ -55,41 +55,60 @@ fn cuts_a_stream_anywhere(rt: HostRuntime) {
 fn play(rt: &impl Abort, alloc: Global, streams: &mut Streams, word: &str) {
     let (step, wanted) = word.split_once(':').unwrap_or((word, ""));
     let wanted = spelled(rt, alloc, wanted.as_bytes());
-    let mut told = Vec::new(alloc);
-    match step.as_bytes() {
-        [b'b', number, b'=', ..] => begin(rt, alloc, streams, run(*number), step),
-        [b'o', number, b'=', text @ ..] => {
-            let piece = spelled(rt, alloc, text);
-            let parts = streams.feed(alloc, run(*number), Stream::Out, piece.as_slice());
-            tell(&mut told, parts.expect(rt, "memory").as_slice()).expect(rt, "memory");
-        }
-        [b'e', number, b'=', text @ ..] => {
-            let piece = spelled(rt, alloc, text);
-            let parts = streams.feed(alloc, run(*number), Stream::Err, piece.as_slice());
-            tell(&mut told, parts.expect(rt, "memory").as_slice()).expect(rt, "memory");
-        }
-        [b'.', b'o', number] => {
-            let parts = streams.end(alloc, run(*number), Stream::Out);
-            tell(&mut told, parts.expect(rt, "memory").as_slice()).expect(rt, "memory");
-        }
-        [b'.', b'e', number] => {
-            let parts = streams.end(alloc, run(*number), Stream::Err);
-            tell(&mut told, parts.expect(rt, "memory").as_slice()).expect(rt, "memory");
-        }
-        [b'?', number] => asked(rt, alloc, streams, run(*number), &mut told),
-        _ => panic!(rt; "no step is {word}"),
-    }
+    let told = make(rt, alloc, streams, step, word);
     assert!(rt;
         told.as_slice() == wanted.as_slice(),
         "what comes of {word}"
     );
 }
 
+/// Makes the step of a word: what comes of it.
+fn make(rt: &impl Abort, alloc: Global, streams: &mut Streams, step: &str, word: &str) -> Vec<u8> {
+    match step.as_bytes() {
+        [b'b', number, b'=', ..] => {
+            begin(rt, alloc, streams, run(*number), step);
+            Vec::new(alloc)
+        }
+        [b'o', number, b'=', text @ ..] => fed(rt, alloc, streams, run(*number), Stream::Out, text),
+        [b'e', number, b'=', text @ ..] => fed(rt, alloc, streams, run(*number), Stream::Err, text),
+        [b'.', b'o', number] => at_end(rt, alloc, streams, run(*number), Stream::Out),
+        [b'.', b'e', number] => at_end(rt, alloc, streams, run(*number), Stream::Err),
+        [b'?', number] => asked(rt, alloc, streams, run(*number)),
+        _ => panic!(rt; "no step is {word}"),
+    }
+}
+
+/// Gives a piece to a pipe of a run: the parts that come of it.
+fn fed(
+    rt: &impl Abort,
+    alloc: Global,
+    streams: &mut Streams,
+    run: Run,
+    pipe: Stream,
+    text: &[u8],
+) -> Vec<u8> {
+    let piece = spelled(rt, alloc, text);
+    let parts = streams.feed(alloc, run, pipe, piece.as_slice());
+    told(rt, alloc, parts.expect(rt, "memory").as_slice())
+}
+
+/// Ends a pipe of a run: the parts that come of it.
+fn at_end(
+    rt: &impl Abort,
+    alloc: Global,
+    streams: &mut Streams,
+    run: Run,
+    pipe: Stream,
+) -> Vec<u8> {
+    let parts = streams.end(alloc, run, pipe).expect(rt, "memory");
+    told(rt, alloc, parts.as_slice())
+}
+
 fn run(number: u8) -> Run {
     Run(u32::from(number.saturating_sub(b'0')))
 }
 
-/// Begins a run, whose child, pid, redirection and limits stand behind the sign.
+/// Begins a run, whose child, pid, redirection and limits stand after the sign.
 fn begin(rt: &impl Abort, alloc: Global, streams: &mut Streams, run: Run, step: &str) {
     let (_, text) = step.split_once('=').expect(rt, "what it begins with");
     let mut fields = text.split('.');
@@ -134,37 +153,61 @@ fn spelled(rt: &impl Abort, alloc: Global, text: &[u8]) -> Vec<u8> {
     bytes
 }
 
-/// Adds the parts, each with its letter before and a mark behind it.
-fn tell(told: &mut Vec<u8>, parts: &[Part]) -> Result<(), AllocError> {
+fn put(rt: &impl Abort, told: &mut Vec<u8>, bytes: &[u8]) {
+    told.extend_from_slice(bytes).expect(rt, "memory");
+}
+
+/// The parts, each with its letter before and a mark after it.
+fn told(rt: &impl Abort, alloc: Global, parts: &[Part]) -> Vec<u8> {
+    let mut told = Vec::new(alloc);
     for part in parts {
         let (letter, bytes) = match part {
             Part::Logged(bytes) => (b'L', bytes),
             Part::Message(bytes) => (b'M', bytes),
         };
-        told.push(letter)?;
-        told.extend_from_slice(bytes.as_slice())?;
-        told.push(b';')?;
+        told.push(letter).expect(rt, "memory");
+        put(rt, &mut told, bytes.as_slice());
+        told.push(b';').expect(rt, "memory");
     }
-    Ok(())
+    told
 }
 
-/// Adds whose output it is, and the channel of its stderr.
-fn asked(rt: &impl Abort, alloc: Global, streams: &Streams, run: Run, told: &mut Vec<u8>) {
+/// Whose output it is, and the channel of its stderr.
+fn asked(rt: &impl Abort, alloc: Global, streams: &Streams, run: Run) -> Vec<u8> {
     let Some(owner) = streams.owner(run) else {
         assert!(rt; streams.channel(run, Stream::Err).is_none(), "no channel");
-        told.push(b'-').expect(rt, "memory");
-        return;
+        return Vec::from_slice(alloc, b"-").expect(rt, "memory");
     };
     let channel = match streams.channel(run, Stream::Err).expect(rt, "a channel") {
         Stream::Out => 'o',
         Stream::Err => 'e',
     };
     let text = format!(in alloc; "{}.{}{}", owner.child, owner.pid, channel).expect(rt, "memory");
-    told.extend_from_slice(text.as_str().as_bytes())
-        .expect(rt, "memory");
+    text.into_bytes()
 }
 
-/// The stream on one pipe of a run, cut behind so many bytes, with its parts joined: what is logged as it stands, and messages
+/// Gives the next bytes of the stream to a pipe of the first run, and adds the parts.
+fn feed(
+    rt: &impl Abort,
+    alloc: Global,
+    streams: &mut Streams,
+    pipe: Stream,
+    piece: &[u8],
+    told: &mut Vec<u8>,
+) {
+    let parts = streams.feed(alloc, Run(1), pipe, piece);
+    join(rt, told, parts.expect(rt, "memory").as_slice());
+}
+
+/// Ends both pipes of the first run, and adds the parts.
+fn end(rt: &impl Abort, alloc: Global, streams: &mut Streams, told: &mut Vec<u8>) {
+    for ended in [Stream::Err, Stream::Out] {
+        let parts = streams.end(alloc, Run(1), ended);
+        join(rt, told, parts.expect(rt, "memory").as_slice());
+    }
+}
+
+/// The stream on one pipe of a run, cut after so many bytes, with its parts joined: what is logged as it stands, and messages
 /// in round brackets.
 fn play_cut(rt: &impl Abort, alloc: Global, redirect: bool, first: usize, second: usize) {
     let pipe = if redirect { Stream::Err } else { Stream::Out };
@@ -178,31 +221,26 @@ fn play_cut(rt: &impl Abort, alloc: Global, redirect: bool, first: usize, second
         piece.push(*byte).expect(rt, "memory");
         count = count.saturating_add(1);
         if count == first || count == second || count == 56 {
-            let parts = streams.feed(alloc, Run(1), pipe, piece.as_slice());
-            join(&mut told, parts.expect(rt, "memory").as_slice()).expect(rt, "memory");
+            feed(rt, alloc, &mut streams, pipe, piece.as_slice(), &mut told);
             piece.clear();
         }
     }
-    for ended in [Stream::Err, Stream::Out] {
-        let parts = streams.end(alloc, Run(1), ended);
-        join(&mut told, parts.expect(rt, "memory").as_slice()).expect(rt, "memory");
-    }
+    end(rt, alloc, &mut streams, &mut told);
     assert!(rt;
         told.as_slice() == b"ab(hello)cd<".as_slice(),
         "cut behind {first} and {second}"
     );
 }
 
-fn join(told: &mut Vec<u8>, parts: &[Part]) -> Result<(), AllocError> {
+fn join(rt: &impl Abort, told: &mut Vec<u8>, parts: &[Part]) {
     for part in parts {
         match part {
-            Part::Logged(bytes) => told.extend_from_slice(bytes.as_slice())?,
+            Part::Logged(bytes) => put(rt, told, bytes.as_slice()),
             Part::Message(bytes) => {
-                told.push(b'(')?;
-                told.extend_from_slice(bytes.as_slice())?;
-                told.push(b')')?;
+                told.push(b'(').expect(rt, "memory");
+                put(rt, told, bytes.as_slice());
+                told.push(b')').expect(rt, "memory");
             }
         }
     }
-    Ok(())
 }

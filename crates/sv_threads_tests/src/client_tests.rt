@@ -4,8 +4,8 @@ use crate::clients::{ClientLink, Clients, LateConsole, StageClock, StageSpawner,
 use crate::course::{Course, Parts, go_over};
 use crate::daemon::{journal_of, orders_of};
 use crate::start_gate::{StartGate, receive_and_work};
-use crossbeam_channel::{Receiver, bounded};
-use std::alloc::{AllocError, Global};
+use crossbeam_channel::{Receiver, Sender, bounded};
+use std::alloc::Global;
 use std::collections::VecDeque;
 use std::process::Abort;
 use std::sync::Wait;
@@ -39,9 +39,9 @@ type ClientJob<R> = AnyJob<
     NoBoard,
 >;
 
-fn source(alloc: Global, text: &str) -> Result<ListSource, AllocError> {
-    let bytes = Vec::from_slice(alloc, text.as_bytes())?;
-    Ok(ListSource::new(bytes, 65_536, Vec::new(alloc)))
+fn source(rt: &impl Abort, alloc: Global, text: &str) -> ListSource {
+    let bytes = Vec::from_slice(alloc, text.as_bytes()).expect(rt, "ample memory");
+    ListSource::new(bytes, 65_536, Vec::new(alloc))
 }
 
 /// What is done: the daemon answers the second client before the first one, and shuts down.
@@ -49,80 +49,108 @@ struct TwoClients;
 
 impl Course for TwoClients {
     fn over<W: World>(&self, rt: &impl Abort, alloc: Global, world: &mut W) {
-        serve_two(rt, alloc, world).expect(rt, "ample memory");
+        let configuration = Bytes::from_slice(alloc, CONF.as_bytes()).expect(rt, "ample memory");
+        let journal = journal_of(rt, alloc, configuration, world);
+        let text = std::str::from_utf8(journal.written()).expect(rt, "a journal's text");
+        second_comes_first(rt, orders_of(rt, alloc, text).as_str());
     }
 }
 
-fn serve_two<W: World>(rt: &impl Abort, alloc: Global, world: &mut W) -> Result<(), AllocError> {
-    let configuration = Bytes::from_slice(alloc, CONF.as_bytes())?;
-    let journal = journal_of(rt, alloc, configuration, world)?;
-    let text = std::str::from_utf8(journal.written()).expect(rt, "a journal's text");
-    let orders = orders_of(alloc, text)?;
-    let second = orders.as_str().find("\nsend 2 ");
-    let first = orders.as_str().find("\nsend 1 ");
+/// These orders answer the second client before the first one.
+fn second_comes_first(rt: &impl Abort, orders: &str) {
+    let second = orders.find("\nsend 2 ");
+    let first = orders.find("\nsend 1 ");
     assert!(rt; second.is_some() && first.is_some() && second < first);
-    Ok(())
+}
+
+/// The first client, which asks for a start; its reply ends the child and the daemon.
+fn first_client<R: Abort + Copy>(
+    rt: R,
+    alloc: Global,
+    ends_child: Sender<()>,
+    ends_daemon: Sender<()>,
+) -> ClientLink<R> {
+    let mut told = Vec::new(alloc);
+    told.push(ends_child).expect(&rt, "ample memory");
+    told.push(ends_daemon).expect(&rt, "ample memory");
+    ClientLink {
+        rt,
+        begins: None,
+        source: source(&rt, alloc, START),
+        reply: "<boolean>1</boolean>",
+        told,
+    }
+}
+
+/// The second client, which asks for the state once it is told to begin.
+fn second_client<R: Abort + Copy>(
+    rt: R,
+    alloc: Global,
+    begins: Receiver<()>,
+    answers: Sender<()>,
+) -> ClientLink<R> {
+    let mut told = Vec::new(alloc);
+    told.push(answers).expect(&rt, "ample memory");
+    ClientLink {
+        rt,
+        begins: Some(begins),
+        source: source(&rt, alloc, STATE),
+        reply: "RUNNING",
+        told,
+    }
+}
+
+/// What accepts these two clients, the first one first.
+fn both_clients<R: Abort + Copy>(
+    rt: R,
+    alloc: Global,
+    first: ClientLink<R>,
+    second: ClientLink<R>,
+) -> Clients<R> {
+    let mut links = VecDeque::new(alloc);
+    links.push_back(first).expect(&rt, "ample memory");
+    links.push_back(second).expect(&rt, "ample memory");
+    Clients {
+        rt,
+        links,
+        faults: 0,
+    }
 }
 
 /// The first client asks for a start, and the second one, once the child was started, for the daemon's state. The clock moves on only
 /// once the second client has its reply, or after 10,000 takes, and the first one gets its own only then; that ends the
 /// child, and the daemon.
-fn parts<R: Wait + std::time::Clock + Copy>(
+fn parts<R: Abort + Wait + std::time::Clock + Copy>(
     rt: R,
     alloc: Global,
-) -> Result<
-    Parts<StageSpawner<R>, Clients<R>, LateConsole<R>, StageClock<R>, MapShelf>,
-    AllocError,
-> {
-    let (started, begins) = bounded(alloc, 1)?;
-    let (answers, answered) = bounded(alloc, 1)?;
-    let (ends_child, until_child) = bounded(alloc, 1)?;
-    let (ends_daemon, until_daemon) = bounded(alloc, 1)?;
-    let mut first_tells = Vec::new(alloc);
-    first_tells.push(ends_child)?;
-    first_tells.push(ends_daemon)?;
-    let mut second_tells = Vec::new(alloc);
-    second_tells.push(answers)?;
-    let mut links = VecDeque::new(alloc);
-    links.push_back(ClientLink {
-        rt,
-        begins: None,
-        source: source(alloc, START)?,
-        reply: "<boolean>1</boolean>",
-        told: first_tells,
-    })?;
-    links.push_back(ClientLink {
-        rt,
-        begins: Some(begins),
-        source: source(alloc, STATE)?,
-        reply: "RUNNING",
-        told: second_tells,
-    })?;
-    Ok(Parts {
+) -> Parts<StageSpawner<R>, Clients<R>, LateConsole<R>, StageClock<R>, MapShelf> {
+    let (ends_child, until_child) = bounded(alloc, 1).expect(&rt, "ample memory");
+    let (ends_daemon, until_daemon) = bounded(alloc, 1).expect(&rt, "ample memory");
+    let first = first_client(rt, alloc, ends_child, ends_daemon);
+    let (started, begins) = bounded(alloc, 1).expect(&rt, "ample memory");
+    let (answers, answered) = bounded(alloc, 1).expect(&rt, "ample memory");
+    let second = second_client(rt, alloc, begins, answers);
+    Parts {
         spawner: StageSpawner {
             rt,
             started,
             until: Some(until_child),
         },
-        inet: Some(Clients {
-            rt,
-            links,
-            faults: 0,
-        }),
+        inet: Some(both_clients(rt, alloc, first, second)),
         console: LateConsole {
             rt,
             until: Some(until_daemon),
-            source: source(alloc, "signal TERM\n")?,
+            source: source(&rt, alloc, "signal TERM\n"),
         },
         ticker: StageClock::new(rt, None),
         clock: StageClock::new(rt, Some(answered)),
         shelf: MapShelf::new(alloc, Vec::new(alloc)),
-    })
+    }
 }
 
 #[test]
-fn links_are_served_side_by_side(rt: HostRuntime) -> Result<(), AllocError> {
-    let parts = parts(rt, rt.alloc())?;
+fn links_are_served_side_by_side(rt: HostRuntime) {
+    let parts = parts(rt, rt.alloc());
     let gate = StartGate::new(
         rt,
         rt.alloc(),
@@ -131,5 +159,4 @@ fn links_are_served_side_by_side(rt: HostRuntime) -> Result<(), AllocError> {
         },
     );
     go_over(rt, rt.alloc(), parts, gate, &TwoClients);
-    Ok(())
 }

@@ -1,6 +1,6 @@
 //! A daemon over a world, and what its journal says.
 
-use std::alloc::{AllocError, Global};
+use std::alloc::Global;
 use std::process::Abort;
 use sv_base::{Bytes, Host, Items, Moment, Text};
 use sv_out::MapShelf;
@@ -21,24 +21,33 @@ fn host(alloc: Global) -> Host {
     }
 }
 
-pub(crate) fn words(alloc: Global, words: &[&'static str]) -> Result<Vec<Text>, AllocError> {
+pub(crate) fn words(rt: &impl Abort, alloc: Global, words: &[&'static str]) -> Vec<Text> {
     let mut texts = Vec::new(alloc);
     for word in words {
-        texts.push(Text::fixed(word))?;
+        texts.push(Text::fixed(word)).expect(rt, "ample memory");
     }
-    Ok(texts)
+    texts
 }
 
 /// The lines of the orders in a journal.
-pub(crate) fn orders_of(alloc: Global, journal: &str) -> Result<String, AllocError> {
+pub(crate) fn orders_of(rt: &impl Abort, alloc: Global, journal: &str) -> String {
     let mut text = String::new(alloc);
     for line in journal.split('\n') {
         if let Some(order) = line.strip_prefix("> ") {
-            text.push_str(order)?;
-            text.push('\n')?;
+            text.push_str(order).expect(rt, "ample memory");
+            text.push('\n').expect(rt, "ample memory");
         }
     }
-    Ok(text)
+    text
+}
+
+/// A shelf with this configuration.
+fn shelf_of(rt: &impl Abort, alloc: Global, configuration: Bytes) -> MapShelf {
+    let mut shelf = MapShelf::new(alloc, Vec::new(alloc));
+    shelf
+        .set(Text::fixed("/s.conf"), configuration)
+        .expect(rt, "ample memory");
+    shelf
 }
 
 /// Runs a daemon of this configuration over a world, until it has shut down: its journal.
@@ -47,14 +56,13 @@ pub(crate) fn journal_of<W: World>(
     alloc: Global,
     configuration: Bytes,
     world: &mut W,
-) -> Result<ListSink, AllocError> {
-    let mut shelf = MapShelf::new(alloc, Vec::new(alloc));
-    shelf.set(Text::fixed("/s.conf"), configuration)?;
+) -> ListSink {
+    let mut shelf = shelf_of(rt, alloc, configuration);
     let mut journal = ListSink::new(alloc, ROOM, Vec::new(alloc));
     let mut out = ListSink::new(alloc, ROOM, Vec::new(alloc));
     let status = supervise(
         alloc,
-        words(alloc, &["-c", "/s.conf", "--journal"])?.as_slice(),
+        words(rt, alloc, &["-c", "/s.conf", "--journal"]).as_slice(),
         &host(alloc),
         &mut shelf,
         world,
@@ -62,5 +70,5 @@ pub(crate) fn journal_of<W: World>(
         &mut out,
     );
     assert!(rt; status == 0);
-    Ok(journal)
+    journal
 }

@@ -6,7 +6,7 @@ use crate::parts::StillClock;
 use crate::programs::{ALL_RUNS, LateConsole, RUNS, SignalWaiter, TenSpawner, ten_of_each};
 use crate::start_gate::{StartGate, receive_and_work};
 use crossbeam_channel::Receiver;
-use std::alloc::{AllocError, Global};
+use std::alloc::Global;
 use std::process::Abort;
 use std::sync::Wait;
 use std::thread;
@@ -37,17 +37,25 @@ type DaemonJob<R> = AnyJob<
 >;
 
 /// The configuration: twenty programs that are started again at each exit, whose output goes to one log.
-fn configuration(alloc: Global) -> Result<Bytes, AllocError> {
+fn configuration(rt: &impl Abort, alloc: Global) -> Bytes {
     let mut text = String::new(alloc);
-    text.push_str("[supervisord]\nlogfile=NONE\n")?;
+    push(rt, &mut text, "[supervisord]\nlogfile=NONE\n");
     for name in NAMES {
-        text.push_str("[program:")?;
-        text.push_str(name)?;
-        text.push_str("]\ncommand=/bin/x\nstartsecs=0\nautorestart=true\nstdout_logfile=/log/")?;
-        text.push_str(name)?;
-        text.push_str("\nstderr_logfile=NONE\n")?;
+        push(rt, &mut text, "[program:");
+        push(rt, &mut text, name);
+        push(
+            rt,
+            &mut text,
+            "]\ncommand=/bin/x\nstartsecs=0\nautorestart=true\nstdout_logfile=/log/",
+        );
+        push(rt, &mut text, name);
+        push(rt, &mut text, "\nstderr_logfile=NONE\n");
     }
-    Bytes::from_slice(alloc, text.as_bytes())
+    Bytes::from_slice(alloc, text.as_bytes()).expect(rt, "ample memory")
+}
+
+fn push(rt: &impl Abort, text: &mut String, part: &str) {
+    text.push_str(part).expect(rt, "ample memory");
 }
 
 /// How many programs of this name were started by these orders; all of them for the empty name.
@@ -66,58 +74,57 @@ struct Supervised;
 
 impl Course for Supervised {
     fn over<W: World>(&self, rt: &impl Abort, alloc: Global, world: &mut W) {
-        supervise_and_replay(rt, alloc, world).expect(rt, "ample memory");
+        let journal = journal_of(rt, alloc, configuration(rt, alloc), world);
+        replayed(rt, alloc, journal.written());
     }
-}
-
-fn supervise_and_replay<W: World>(
-    rt: &impl Abort,
-    alloc: Global,
-    world: &mut W,
-) -> Result<(), AllocError> {
-    let journal = journal_of(rt, alloc, configuration(alloc)?, world)?;
-    replayed(rt, alloc, journal.written())
 }
 
 /// Each program was started ten times; a replay writes the orders that the journal has.
-fn replayed(rt: &impl Abort, alloc: Global, journal: &[u8]) -> Result<(), AllocError> {
+fn replayed(rt: &impl Abort, alloc: Global, journal: &[u8]) {
     let text = std::str::from_utf8(journal).expect(rt, "a journal's text");
-    let orders = orders_of(alloc, text)?;
-    assert!(rt; starts_of(orders.as_str(), "") == ALL_RUNS);
+    let orders = orders_of(rt, alloc, text);
+    are_started(rt, orders.as_str());
+    let lines = replay_of(rt, alloc, journal);
+    assert!(rt; lines.written() == orders.as_bytes());
+}
+
+/// Each program was started ten times by these orders.
+fn are_started(rt: &impl Abort, orders: &str) {
+    assert!(rt; starts_of(orders, "") == ALL_RUNS);
     for name in NAMES {
-        assert!(rt; starts_of(orders.as_str(), name) == RUNS, "{name}");
+        assert!(rt; starts_of(orders, name) == RUNS, "{name}");
     }
-    let bytes = Vec::from_slice(alloc, journal)?;
+}
+
+/// What a replay of a journal writes.
+fn replay_of(rt: &impl Abort, alloc: Global, journal: &[u8]) -> ListSink {
+    let bytes = Vec::from_slice(alloc, journal).expect(rt, "ample memory");
     let mut source = ListSource::new(bytes, 4_096, Vec::new(alloc));
     let mut lines = ListSink::new(alloc, ROOM, Vec::new(alloc));
     let status = replay(
         alloc,
-        words(alloc, &["run"])?.as_slice(),
+        words(rt, alloc, &["run"]).as_slice(),
         &mut source,
         &mut lines,
     );
     assert!(rt; status == 0);
-    assert!(rt; lines.written() == orders.as_bytes());
-    Ok(())
+    lines
 }
 
 /// The parts: twenty programs and a console that wait for each other.
 fn parts<R: Abort + Wait + std::time::Clock + Copy>(
     rt: R,
     alloc: Global,
-) -> Result<
-    Parts<TenSpawner<R>, ScriptListen, LateConsole<R>, StillClock<R>, MapShelf>,
-    AllocError,
-> {
-    let (spawner, console) = ten_of_each(rt, alloc)?;
-    Ok(Parts {
+) -> Parts<TenSpawner<R>, ScriptListen, LateConsole<R>, StillClock<R>, MapShelf> {
+    let (spawner, console) = ten_of_each(rt, alloc);
+    Parts {
         spawner,
         inet: None,
         console,
         ticker: StillClock::new(rt),
         clock: StillClock::new(rt),
         shelf: MapShelf::new(alloc, Vec::new(alloc)),
-    })
+    }
 }
 
 #[test]
@@ -129,6 +136,6 @@ fn a_daemon_over_threads_is_replayed(rt: HostRuntime) {
             thread::spawn(&rt, move || receive_and_work(&rt, &from)).is_ok()
         },
     );
-    let parts = parts(rt, rt.alloc()).expect(&rt, "ample memory");
+    let parts = parts(rt, rt.alloc());
     go_over(rt, rt.alloc(), parts, gate, &Supervised);
 }

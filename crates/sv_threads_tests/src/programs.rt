@@ -3,6 +3,7 @@ ghost use Rattle.std.specs.Prelude.{None};
 
 use crossbeam_channel::{Receiver, Sender, bounded};
 use std::alloc::{AllocError, Global};
+use std::process::Abort;
 use std::sync::Wait;
 use sv_base::{How, Pid, Signal, Text};
 use sv_out::failed::Failed;
@@ -86,11 +87,12 @@ impl<R: Wait + Drop> Waiter for SignalWaiter<R> {
 }
 
 /// The spawner, and the console that asks for the end after all runs.
-pub(crate) fn ten_of_each<R: Wait + Copy>(
+pub(crate) fn ten_of_each<R: Abort + Wait + Copy>(
     rt: R,
     alloc: Global,
-) -> Result<(TenSpawner<R>, LateConsole<R>), AllocError> {
-    let (to, from) = bounded(alloc, usize::from(ALL_RUNS))?;
+) -> (TenSpawner<R>, LateConsole<R>) {
+    let (to, from) = bounded(alloc, usize::from(ALL_RUNS)).expect(&rt, "ample memory");
+    let text = Vec::from_slice(alloc, b"signal TERM\n").expect(&rt, "ample memory");
     let spawner = TenSpawner {
         rt,
         asked: to,
@@ -102,13 +104,9 @@ pub(crate) fn ten_of_each<R: Wait + Copy>(
         rt,
         asked: from,
         awaited: ALL_RUNS,
-        text: ListSource::new(
-            Vec::from_slice(alloc, b"signal TERM\n")?,
-            9,
-            Vec::new(alloc),
-        ),
+        text: ListSource::new(text, 9, Vec::new(alloc)),
     };
-    Ok((spawner, console))
+    (spawner, console)
 }
 
 impl<R: Drop> TenSpawner<R> {

@@ -5,7 +5,7 @@ use crate::course::{Course, Parts, go_over};
 use crate::daemon::{journal_of, orders_of};
 use crate::start_gate::{StartGate, receive_and_work};
 use crossbeam_channel::Receiver;
-use std::alloc::{AllocError, Global};
+use std::alloc::Global;
 use std::process::{Abort, Processes};
 use std::rt::Files;
 use std::thread;
@@ -64,32 +64,27 @@ struct Copying;
 
 impl Course for Copying {
     fn over<W: World>(&self, rt: &impl Abort, alloc: Global, world: &mut W) {
-        copy_until_signal(rt, alloc, world).expect(rt, "ample memory");
+        let configuration = Bytes::from_slice(alloc, CAT.as_bytes()).expect(rt, "ample memory");
+        let journal = journal_of(rt, alloc, configuration, world);
+        let text = std::str::from_utf8(journal.written()).expect(rt, "a journal's text");
+        has_all_states(rt, orders_of(rt, alloc, text).as_str());
     }
 }
 
-fn copy_until_signal<W: World>(
-    rt: &impl Abort,
-    alloc: Global,
-    world: &mut W,
-) -> Result<(), AllocError> {
-    let configuration = Bytes::from_slice(alloc, CAT.as_bytes())?;
-    let journal = journal_of(rt, alloc, configuration, world)?;
-    let text = std::str::from_utf8(journal.written()).expect(rt, "a journal's text");
-    let orders = orders_of(alloc, text)?;
+/// The program has all states by these orders.
+fn has_all_states(rt: &impl Abort, orders: &str) {
     for state in STATES {
-        assert!(rt; orders.as_str().contains(state), "{state}");
+        assert!(rt; orders.contains(state), "{state}");
     }
-    Ok(())
 }
 
 /// The parts: the real spawner and the real clock.
-fn parts<R: Processes + Files + std::time::Clock + Copy>(
+fn parts<R: Abort + Processes + Files + std::time::Clock + Copy>(
     rt: R,
     alloc: Global,
-) -> Result<Parts<OsSpawner<R>, ScriptListen, PausedConsole<R>, OsClock<R>, MapShelf>, AllocError> {
-    let text = Vec::from_slice(alloc, b"signal TERM\n")?;
-    Ok(Parts {
+) -> Parts<OsSpawner<R>, ScriptListen, PausedConsole<R>, OsClock<R>, MapShelf> {
+    let text = Vec::from_slice(alloc, b"signal TERM\n").expect(&rt, "ample memory");
+    Parts {
         spawner: OsSpawner::new(rt),
         inet: None,
         console: PausedConsole {
@@ -99,7 +94,7 @@ fn parts<R: Processes + Files + std::time::Clock + Copy>(
         ticker: OsClock::new(rt),
         clock: OsClock::new(rt),
         shelf: MapShelf::new(alloc, Vec::new(alloc)),
-    })
+    }
 }
 
 #[test]
@@ -111,6 +106,6 @@ fn a_real_program_runs_until_the_console_ends_it(rt: HostRuntime) {
             thread::spawn(&rt, move || receive_and_work(&rt, &from)).is_ok()
         },
     );
-    let parts = parts(rt, rt.alloc()).expect(&rt, "ample memory");
+    let parts = parts(rt, rt.alloc());
     go_over(rt, rt.alloc(), parts, gate, &Copying);
 }
