@@ -25,7 +25,7 @@ const CUT: &str =
 /// The line of a piece.
 fn put_piece(rt: &impl Abort, journal: &mut String, bytes: &[u8]) {
     journal.push_str("0 piece 1 ").expect(rt, "memory");
-    put_token(rt, journal, bytes);
+    put_token(journal, bytes).expect(rt, "memory");
     journal.push('\n').expect(rt, "memory");
 }
 

@@ -1,5 +1,5 @@
 //! Journals in a short form, in which a call, its reply, a spawn and an event are a line of words each, and what is written
-//! stands after the input that gives it.
+//! stands behind the input that gives it.
 //!
 //! Before `go` a line is a section of the configuration, `KIND NAME KEY=VALUE ..`, or `size FILE NUMBER`. The daemon has a
 //! server at a port, the interface of methods unless a line `bare` takes it away, and no main log unless a `daemon` line names
@@ -19,7 +19,7 @@
 //! `false` are truths, a word that begins with a digit or `-` is an integer, and any other a text, in which `~` is a space and
 //! `^` a line feed; a first `'` is dropped, so a text may begin with a digit or be empty.
 
-use std::alloc::Global;
+use std::alloc::{AllocError, Global};
 use std::process::Abort;
 use sv_base::text::Text;
 use sv_loop::replay;
@@ -58,142 +58,106 @@ fn hex(digit: u8) -> char {
         .unwrap_or(b'0') as char
 }
 
-fn put(rt: &impl Abort, out: &mut String, text: &str) {
-    out.push_str(text).expect(rt, "memory");
-}
-
-fn put_letter(rt: &impl Abort, out: &mut String, letter: char) {
-    out.push(letter).expect(rt, "memory");
-}
-
-/// A line as it stands.
-fn put_line(rt: &impl Abort, out: &mut String, line: &str) {
-    put(rt, out, line);
-    put(rt, out, "\n");
-}
-
 /// The token of bytes.
-pub(crate) fn put_token(rt: &impl Abort, out: &mut String, bytes: &[u8]) {
+pub(crate) fn put_token(out: &mut String, bytes: &[u8]) -> Result<(), AllocError> {
     if bytes.is_empty() {
-        put(rt, out, "%");
+        out.push('%')?;
     }
     for byte in bytes {
-        put_byte(rt, out, *byte);
+        if (0x21..=0x7e).contains(byte) && *byte != b'%' {
+            out.push(*byte as char)?;
+        } else {
+            out.push('%')?;
+            out.push(hex(*byte / 16))?;
+            out.push(hex(*byte % 16))?;
+        }
     }
-}
-
-fn put_byte(rt: &impl Abort, out: &mut String, byte: u8) {
-    if (0x21..=0x7e).contains(&byte) && byte != b'%' {
-        put_letter(rt, out, byte as char);
-    } else {
-        put(rt, out, "%");
-        put_letter(rt, out, hex(byte / 16));
-        put_letter(rt, out, hex(byte % 16));
-    }
+    Ok(())
 }
 
 /// A word as the text that it stands for.
-fn put_text(rt: &impl Abort, out: &mut String, word: &str) {
+fn put_text(out: &mut String, word: &str) -> Result<(), AllocError> {
     for letter in word.strip_prefix('\'').unwrap_or(word).chars() {
-        let letter = match letter {
+        out.push(match letter {
             '~' => ' ',
             '^' => '\n',
             letter => letter,
-        };
-        put_letter(rt, out, letter);
+        })?;
     }
+    Ok(())
 }
 
-fn put_scalar(rt: &impl Abort, out: &mut String, word: &str) {
+fn put_scalar(out: &mut String, word: &str) -> Result<(), AllocError> {
     if word == "true" {
-        put(rt, out, "<value><boolean>1</boolean></value>");
-    } else if word == "false" {
-        put(rt, out, "<value><boolean>0</boolean></value>");
-    } else if word.starts_with(|first: char| first == '-' || first.is_ascii_digit()) {
-        put(rt, out, "<value><int>");
-        put(rt, out, word);
-        put(rt, out, "</int></value>");
-    } else {
-        put(rt, out, "<value><string>");
-        put_text(rt, out, word);
-        put(rt, out, "</string></value>");
+        return out.push_str("<value><boolean>1</boolean></value>");
     }
+    if word == "false" {
+        return out.push_str("<value><boolean>0</boolean></value>");
+    }
+    if word.starts_with(|first: char| first == '-' || first.is_ascii_digit()) {
+        out.push_str("<value><int>")?;
+        out.push_str(word)?;
+        return out.push_str("</int></value>");
+    }
+    out.push_str("<value><string>")?;
+    put_text(out, word)?;
+    out.push_str("</string></value>")
 }
 
-/// What stands after a value that is in these arrays (`false`) and structs (`true`).
-fn put_end(rt: &impl Abort, out: &mut String, inside: &[bool]) {
+/// What stands behind a value that is in these arrays (`false`) and structs (`true`).
+fn put_end(out: &mut String, inside: &[bool]) -> Result<(), AllocError> {
     match inside.last() {
-        None => put(rt, out, "</param>"),
-        Some(true) => put(rt, out, "</member>"),
-        Some(false) => {}
+        None => out.push_str("</param>"),
+        Some(true) => out.push_str("</member>"),
+        Some(false) => Ok(()),
     }
 }
 
 /// Values, each a param.
-fn put_values(rt: &impl Abort, alloc: Global, out: &mut String, words: &str) {
+fn put_values(alloc: Global, out: &mut String, words: &str) -> Result<(), AllocError> {
     let mut inside: Vec<bool> = Vec::new(alloc);
     let mut is_named = false;
     for word in words.split(' ') {
-        if !word.is_empty() {
-            is_named = put_word(rt, out, &mut inside, is_named, word);
+        if word.is_empty() {
+            continue;
+        }
+        let is_member = inside.as_slice().last().copied().unwrap_or(false);
+        if word == "]" || word == "}" {
+            let _ = inside.pop();
+            out.push_str(if word == "]" {
+                "</data></array></value>"
+            } else {
+                "</struct></value>"
+            })?;
+            put_end(out, inside.as_slice())?;
+            is_named = false;
+        } else if is_member && !is_named {
+            out.push_str("<member><name>")?;
+            out.push_str(word)?;
+            out.push_str("</name>")?;
+            is_named = true;
+        } else {
+            if inside.as_slice().is_empty() {
+                out.push_str("<param>")?;
+            }
+            is_named = false;
+            match word {
+                "[" => {
+                    out.push_str("<value><array><data>")?;
+                    inside.push(false)?;
+                }
+                "{" => {
+                    out.push_str("<value><struct>")?;
+                    inside.push(true)?;
+                }
+                word => {
+                    put_scalar(out, word)?;
+                    put_end(out, inside.as_slice())?;
+                }
+            }
         }
     }
-}
-
-/// A word in these arrays and structs, after the name of a member or not. Answers whether it is such a name itself.
-fn put_word(
-    rt: &impl Abort,
-    out: &mut String,
-    inside: &mut Vec<bool>,
-    is_named: bool,
-    word: &str,
-) -> bool {
-    let is_member = inside.as_slice().last().copied().unwrap_or(false);
-    if word == "]" || word == "}" {
-        put_close(rt, out, inside, word);
-        false
-    } else if is_member && !is_named {
-        put(rt, out, "<member><name>");
-        put(rt, out, word);
-        put(rt, out, "</name>");
-        true
-    } else {
-        put_value(rt, out, inside, word);
-        false
-    }
-}
-
-/// The end of an array or of a struct.
-fn put_close(rt: &impl Abort, out: &mut String, inside: &mut Vec<bool>, word: &str) {
-    let _ = inside.pop();
-    let end = if word == "]" {
-        "</data></array></value>"
-    } else {
-        "</struct></value>"
-    };
-    put(rt, out, end);
-    put_end(rt, out, inside.as_slice());
-}
-
-/// A scalar, or the beginning of an array or of a struct.
-fn put_value(rt: &impl Abort, out: &mut String, inside: &mut Vec<bool>, word: &str) {
-    if inside.as_slice().is_empty() {
-        put(rt, out, "<param>");
-    }
-    match word {
-        "[" => {
-            put(rt, out, "<value><array><data>");
-            inside.push(false).expect(rt, "memory");
-        }
-        "{" => {
-            put(rt, out, "<value><struct>");
-            inside.push(true).expect(rt, "memory");
-        }
-        word => {
-            put_scalar(rt, out, word);
-            put_end(rt, out, inside.as_slice());
-        }
-    }
+    Ok(())
 }
 
 /// A first word and what follows it.
@@ -201,333 +165,255 @@ fn cut(line: &str) -> (&str, &str) {
     line.split_once(' ').unwrap_or((line, ""))
 }
 
-/// The body of a request that calls a method with these values.
-fn call_body(rt: &impl Abort, alloc: Global, method: &str, values: &str) -> String {
-    let mut body = String::new(alloc);
-    put(rt, &mut body, "<methodCall><methodName>");
-    if !method.starts_with("system.") {
-        put(rt, &mut body, "supervisor.");
-    }
-    put(rt, &mut body, method);
-    put(rt, &mut body, "</methodName><params>");
-    put_values(rt, alloc, &mut body, values);
-    put(rt, &mut body, "</params></methodCall>");
-    body
-}
-
 /// A request of a call.
-fn put_call(rt: &impl Abort, alloc: Global, out: &mut String, words: &str, closes: bool) {
+fn put_call(alloc: Global, out: &mut String, words: &str, closes: bool) -> Result<(), AllocError> {
     let (method, values) = cut(words);
-    let body = call_body(rt, alloc, method, values);
-    put(rt, out, "POST /RPC2 HTTP/1.1\r\nHost: x\r\n");
+    let mut body = String::new(alloc);
+    body.push_str("<methodCall><methodName>")?;
+    if !method.starts_with("system.") {
+        body.push_str("supervisor.")?;
+    }
+    body.push_str(method)?;
+    body.push_str("</methodName><params>")?;
+    put_values(alloc, &mut body, values)?;
+    body.push_str("</params></methodCall>")?;
+    let length = body.len();
+    out.push_str("POST /RPC2 HTTP/1.1\r\nHost: x\r\n")?;
     if closes {
-        put(rt, out, "Connection: close\r\n");
+        out.push_str("Connection: close\r\n")?;
     }
-    put_length(rt, out, body.len());
-    put(rt, out, "\r\n");
-    put(rt, out, body.as_str());
-}
-
-fn put_length(rt: &impl Abort, out: &mut String, length: usize) {
-    write!(out, "Content-Length: {length}\r\n").expect(rt, "memory");
-}
-
-/// The requests of calls, which stand with ` | ` between them.
-fn calls_text(rt: &impl Abort, alloc: Global, calls: &str, closes: bool) -> String {
-    let mut text = String::new(alloc);
-    for call in calls.split('|') {
-        let call = call.strip_prefix(' ').unwrap_or(call);
-        put_call(rt, alloc, &mut text, call, closes);
-    }
-    text
+    out.push_str(format!(in alloc; "Content-Length: {length}\r\n\r\n")?.as_str())?;
+    out.push_str(body.as_str())
 }
 
 /// The piece of a link with these calls.
 fn put_piece(
-    rt: &impl Abort,
     alloc: Global,
     out: &mut String,
     moment: &str,
     words: &str,
     closes: bool,
-) {
+) -> Result<(), AllocError> {
     let (link, calls) = cut(words);
-    let piece = calls_text(rt, alloc, calls, closes);
-    write!(out, "{moment} piece {link} ").expect(rt, "memory");
-    put_token(rt, out, piece.as_str().as_bytes());
-    put(rt, out, "\n");
-}
-
-/// A reply with this body.
-fn reply_text(rt: &impl Abort, alloc: Global, body: &str, closes: bool) -> String {
-    let mut text = String::new(alloc);
-    put(
-        rt,
-        &mut text,
-        "HTTP/1.1 200 OK\r\nContent-Type: text/xml\r\n",
-    );
-    put_length(rt, &mut text, body.len());
-    if closes {
-        put(rt, &mut text, "Connection: close\r\n");
+    let mut piece = String::new(alloc);
+    for call in calls.split('|') {
+        put_call(
+            alloc,
+            &mut piece,
+            call.strip_prefix(' ').unwrap_or(call),
+            closes,
+        )?;
     }
-    put(rt, &mut text, "\r\n");
-    put(rt, &mut text, body);
-    text
+    out.push_str(format!(in alloc; "{moment} piece {link} ")?.as_str())?;
+    put_token(out, piece.as_str().as_bytes())?;
+    out.push('\n')
 }
 
 /// The send of a reply with this body.
 fn put_send(
-    rt: &impl Abort,
     alloc: Global,
     out: &mut String,
     link: &str,
     body: &str,
     closes: bool,
-) {
-    let text = reply_text(rt, alloc, body, closes);
-    write!(out, "send {link} ").expect(rt, "memory");
-    put_token(rt, out, text.as_str().as_bytes());
-    put(rt, out, "\n");
+) -> Result<(), AllocError> {
+    let mut text = String::new(alloc);
+    text.push_str("HTTP/1.1 200 OK\r\nContent-Type: text/xml\r\n")?;
+    let length = body.len();
+    text.push_str(format!(in alloc; "Content-Length: {length}\r\n")?.as_str())?;
+    if closes {
+        text.push_str("Connection: close\r\n")?;
+    }
+    text.push_str("\r\n")?;
+    text.push_str(body)?;
+    out.push_str(format!(in alloc; "send {link} ")?.as_str())?;
+    put_token(out, text.as_str().as_bytes())?;
+    out.push('\n')
 }
 
-fn value_body(rt: &impl Abort, alloc: Global, value: &str) -> String {
-    let mut body = String::new(alloc);
-    put(
-        rt,
-        &mut body,
-        "<?xml version='1.0'?><methodResponse><params>",
-    );
-    put_values(rt, alloc, &mut body, value);
-    put(rt, &mut body, "</params></methodResponse>");
-    body
-}
-
-fn put_value_reply(rt: &impl Abort, alloc: Global, out: &mut String, words: &str, closes: bool) {
+fn put_value_reply(
+    alloc: Global,
+    out: &mut String,
+    words: &str,
+    closes: bool,
+) -> Result<(), AllocError> {
     let (link, value) = cut(words);
-    let body = value_body(rt, alloc, value);
-    put_send(rt, alloc, out, link, body.as_str(), closes);
+    let mut body = String::new(alloc);
+    body.push_str("<?xml version='1.0'?><methodResponse><params>")?;
+    put_values(alloc, &mut body, value)?;
+    body.push_str("</params></methodResponse>")?;
+    put_send(alloc, out, link, body.as_str(), closes)
 }
 
-fn fault_body(rt: &impl Abort, alloc: Global, fault: &str) -> String {
+fn put_fault_reply(
+    alloc: Global,
+    out: &mut String,
+    words: &str,
+    closes: bool,
+) -> Result<(), AllocError> {
+    let (link, fault) = cut(words);
     let (number, text) = cut(fault);
     let mut body = String::new(alloc);
-    put(
-        rt,
-        &mut body,
-        "<?xml version='1.0'?><methodResponse><fault><value><struct>",
-    );
-    put(rt, &mut body, "<member><name>faultCode</name><value><int>");
-    put(rt, &mut body, number);
-    put(
-        rt,
-        &mut body,
-        "</int></value></member><member><name>faultString</name><value><string>",
-    );
-    put_text(rt, &mut body, text);
-    put(
-        rt,
-        &mut body,
-        "</string></value></member></struct></value></fault></methodResponse>",
-    );
-    body
+    body.push_str("<?xml version='1.0'?><methodResponse><fault><value><struct>")?;
+    body.push_str("<member><name>faultCode</name><value><int>")?;
+    body.push_str(number)?;
+    body.push_str("</int></value></member><member><name>faultString</name><value><string>")?;
+    put_text(&mut body, text)?;
+    body.push_str("</string></value></member></struct></value></fault></methodResponse>")?;
+    put_send(alloc, out, link, body.as_str(), closes)
 }
 
-fn put_fault_reply(rt: &impl Abort, alloc: Global, out: &mut String, words: &str, closes: bool) {
-    let (link, fault) = cut(words);
-    let body = fault_body(rt, alloc, fault);
-    put_send(rt, alloc, out, link, body.as_str(), closes);
-}
-
-fn put_spawn(rt: &impl Abort, out: &mut String, words: &str) {
+fn put_spawn(alloc: Global, out: &mut String, words: &str) -> Result<(), AllocError> {
     let (run, process) = cut(words);
     let (group, name) = cut(process);
-    write!(out, "spawn {run} {group} {name} % % % 1 {name} 4 ").expect(rt, "memory");
-    put(rt, out, "SUPERVISOR_ENABLED 1 SUPERVISOR_GROUP_NAME ");
-    write!(out, "{group} SUPERVISOR_PROCESS_NAME {name} ").expect(rt, "memory");
-    put(rt, out, "SUPERVISOR_SERVER_URL http://localhost:9001\n");
+    out.push_str(format!(in alloc; "spawn {run} {group} {name} % % % 1 {name} 4 ")?.as_str())?;
+    out.push_str("SUPERVISOR_ENABLED 1 SUPERVISOR_GROUP_NAME ")?;
+    out.push_str(format!(in alloc; "{group} SUPERVISOR_PROCESS_NAME {name} ")?.as_str())?;
+    out.push_str("SUPERVISOR_SERVER_URL http://localhost:9001\n")
 }
 
-/// A word as a text of its own.
-fn text_of(rt: &impl Abort, alloc: Global, word: &str) -> String {
-    let mut text = String::new(alloc);
-    put_text(rt, &mut text, word);
-    text
-}
-
-/// The envelope and the body of an event.
-fn event_text(rt: &impl Abort, alloc: Global, event: &str) -> String {
+fn put_event(alloc: Global, out: &mut String, words: &str) -> Result<(), AllocError> {
+    let (run, event) = cut(words);
     let (pool, numbers) = cut(event);
     let (serial, rest) = cut(numbers);
     let (poolserial, rest) = cut(rest);
     let (kind, content) = cut(rest);
-    let body = text_of(rt, alloc, content);
+    let mut body = String::new(alloc);
+    put_text(&mut body, content)?;
     let length = body.len();
     let mut text = String::new(alloc);
-    write!(text, "ver:3.0 server:supervisor serial:{serial} ").expect(rt, "memory");
-    write!(text, "pool:{pool} poolserial:{poolserial} ").expect(rt, "memory");
-    write!(text, "eventname:{kind} len:{length}\n").expect(rt, "memory");
-    put(rt, &mut text, body.as_str());
-    text
-}
-
-fn put_event(rt: &impl Abort, alloc: Global, out: &mut String, words: &str) {
-    let (run, event) = cut(words);
-    let text = event_text(rt, alloc, event);
-    write!(out, "stdin {run} ").expect(rt, "memory");
-    put_token(rt, out, text.as_str().as_bytes());
-    put(rt, out, "\n");
+    text.push_str(format!(in alloc; "ver:3.0 server:supervisor serial:{serial} ")?.as_str())?;
+    text.push_str(format!(in alloc; "pool:{pool} poolserial:{poolserial} ")?.as_str())?;
+    text.push_str(format!(in alloc; "eventname:{kind} len:{length}\n")?.as_str())?;
+    text.push_str(body.as_str())?;
+    out.push_str(format!(in alloc; "stdin {run} ")?.as_str())?;
+    put_token(out, text.as_str().as_bytes())?;
+    out.push('\n')
 }
 
 /// An order or a fault that is written.
-fn put_written(rt: &impl Abort, alloc: Global, out: &mut String, line: &str) {
+fn put_written(alloc: Global, out: &mut String, line: &str) -> Result<(), AllocError> {
     let (word, rest) = cut(line);
     match word {
-        "sent" => put_value_reply(rt, alloc, out, rest, false),
-        "ended" => put_value_reply(rt, alloc, out, rest, true),
-        "refused" => put_fault_reply(rt, alloc, out, rest, false),
-        "parted" => put_fault_reply(rt, alloc, out, rest, true),
-        "spawn" => put_spawn(rt, out, rest),
-        "event" => put_event(rt, alloc, out, rest),
-        _ => put_line(rt, out, line),
+        "sent" => put_value_reply(alloc, out, rest, false),
+        "ended" => put_value_reply(alloc, out, rest, true),
+        "refused" => put_fault_reply(alloc, out, rest, false),
+        "parted" => put_fault_reply(alloc, out, rest, true),
+        "spawn" => put_spawn(alloc, out, rest),
+        "event" => put_event(alloc, out, rest),
+        _ => {
+            out.push_str(line)?;
+            out.push('\n')
+        }
     }
-}
-
-/// The keys of a section, each on a line.
-fn put_keys(rt: &impl Abort, out: &mut String, keys: &str) {
-    for key in keys.split(' ') {
-        put_line(rt, out, key);
-    }
-}
-
-/// The section of the daemon, or that of this kind and this name.
-fn put_section(rt: &impl Abort, conf: &mut String, kind: &str, rest: &str) {
-    if kind == "daemon" {
-        put_line(rt, conf, "[supervisord]");
-        return put_keys(rt, conf, rest);
-    }
-    let (name, keys) = cut(rest);
-    put_name(rt, conf, kind, name);
-    if kind == "program" || kind == "listener" {
-        put(rt, conf, "command=");
-        put(rt, conf, name);
-        put(rt, conf, "\nstdout_logfile=NONE\nstderr_logfile=NONE\n");
-    }
-    put_keys(rt, conf, keys);
-}
-
-/// The line of a section's kind and name.
-fn put_name(rt: &impl Abort, conf: &mut String, kind: &str, name: &str) {
-    let front = match kind {
-        "listener" => "[eventlistener:",
-        "group" => "[group:",
-        _ => "[program:",
-    };
-    put(rt, conf, front);
-    put(rt, conf, name);
-    put(rt, conf, "]\n");
 }
 
 impl Spelled {
-    fn new(rt: &impl Abort, alloc: Global) -> Spelled {
-        Spelled {
+    fn new(alloc: Global) -> Result<Spelled, AllocError> {
+        Ok(Spelled {
             sizes: String::new(alloc),
-            conf: String::from_str(alloc, DAEMON).expect(rt, "memory"),
+            conf: String::from_str(alloc, DAEMON)?,
             journal: String::new(alloc),
             written: String::new(alloc),
             lines: 6,
             status: 0,
             is_begun: false,
-        }
+        })
     }
 
-    /// The line that ends the header.
-    fn put_begin(&mut self, rt: &impl Abort, line: &str) {
-        self.is_begun = true;
-        put(
-            rt,
-            &mut self.journal,
-            "supervisor-journal 1\nhost h\nhere /\npid 1\n",
-        );
-        put(rt, &mut self.journal, self.sizes.as_str());
-        put(rt, &mut self.journal, "conf ");
-        put_token(rt, &mut self.journal, self.conf.as_str().as_bytes());
-        put(rt, &mut self.journal, "\n");
-        put_line(rt, &mut self.journal, line);
+    /// A section of the configuration.
+    fn put_section(&mut self, kind: &str, rest: &str) -> Result<(), AllocError> {
+        let (name, keys) = cut(rest);
+        self.conf.push_str(match kind {
+            "daemon" => "[supervisord]",
+            "listener" => "[eventlistener:",
+            "group" => "[group:",
+            _ => "[program:",
+        })?;
+        if kind != "daemon" {
+            self.conf.push_str(name)?;
+            self.conf.push(']')?;
+        }
+        self.conf.push('\n')?;
+        if kind == "program" || kind == "listener" {
+            self.conf.push_str("command=")?;
+            self.conf.push_str(name)?;
+            self.conf
+                .push_str("\nstdout_logfile=NONE\nstderr_logfile=NONE\n")?;
+        }
+        let keys = if kind == "daemon" { rest } else { keys };
+        for key in keys.split(' ') {
+            self.conf.push_str(key)?;
+            self.conf.push('\n')?;
+        }
+        Ok(())
     }
 
     /// A line of the header; `go` ends it.
-    fn put_header(&mut self, rt: &impl Abort, alloc: Global, line: &str) {
+    fn put_header(&mut self, alloc: Global, line: &str) -> Result<(), AllocError> {
         let (kind, rest) = cut(line);
         match kind {
             "bare" => {
-                self.conf = String::from_str(alloc, BARE).expect(rt, "memory");
+                self.conf = String::from_str(alloc, BARE)?;
+                Ok(())
             }
-            "go" => self.put_begin(rt, line),
+            "go" => {
+                self.is_begun = true;
+                self.journal
+                    .push_str("supervisor-journal 1\nhost h\nhere /\npid 1\n")?;
+                self.journal.push_str(self.sizes.as_str())?;
+                self.journal.push_str("conf ")?;
+                put_token(&mut self.journal, self.conf.as_str().as_bytes())?;
+                self.journal.push('\n')?;
+                self.journal.push_str(line)?;
+                self.journal.push('\n')
+            }
             "size" => {
                 self.lines = self.lines.saturating_add(1);
-                put_line(rt, &mut self.sizes, line);
+                self.sizes.push_str(line)?;
+                self.sizes.push('\n')
             }
-            kind => put_section(rt, &mut self.conf, kind, rest),
+            kind => self.put_section(kind, rest),
         }
     }
 
-    /// The input before isn't accepted.
-    fn put_refusal(&mut self, rt: &impl Abort) {
-        self.status = 7;
-        let lines = self.lines;
-        write!(self.written, "fault 7 line {lines}\n").expect(rt, "memory");
-    }
-
-    fn put_input(&mut self, rt: &impl Abort, alloc: Global, line: &str) {
+    /// A line behind the header.
+    fn put_line(&mut self, alloc: Global, line: &str) -> Result<(), AllocError> {
+        if let Some(order) = line.strip_prefix("> ") {
+            return put_written(alloc, &mut self.written, order);
+        }
+        if line == "!" {
+            self.status = 7;
+            let lines = self.lines;
+            return self
+                .written
+                .push_str(format!(in alloc; "fault 7 line {lines}\n")?.as_str());
+        }
         self.lines = self.lines.saturating_add(1);
         let (moment, input) = cut(line);
         let (word, rest) = cut(input);
         match word {
-            "call" => put_piece(rt, alloc, &mut self.journal, moment, rest, false),
-            "last" => put_piece(rt, alloc, &mut self.journal, moment, rest, true),
-            _ => put_line(rt, &mut self.journal, line),
-        }
-    }
-
-    /// A line after the header.
-    fn put_behind(&mut self, rt: &impl Abort, alloc: Global, line: &str) {
-        match line.strip_prefix("> ") {
-            Some(order) => put_written(rt, alloc, &mut self.written, order),
-            None if line == "!" => self.put_refusal(rt),
-            None => self.put_input(rt, alloc, line),
+            "call" => put_piece(alloc, &mut self.journal, moment, rest, false),
+            "last" => put_piece(alloc, &mut self.journal, moment, rest, true),
+            _ => {
+                self.journal.push_str(line)?;
+                self.journal.push('\n')
+            }
         }
     }
 }
 
 /// What the lines come to.
-pub(crate) fn spell(rt: &impl Abort, alloc: Global, lines: &str) -> Spelled {
-    let mut script = Spelled::new(rt, alloc);
+pub(crate) fn spell(alloc: Global, lines: &str) -> Result<Spelled, AllocError> {
+    let mut script = Spelled::new(alloc)?;
     for line in lines.lines() {
         if script.is_begun {
-            script.put_behind(rt, alloc, line);
+            script.put_line(alloc, line)?;
         } else {
-            script.put_header(rt, alloc, line);
+            script.put_header(alloc, line)?;
         }
     }
-    script
-}
-
-/// The status of a journal that is replayed to this sink.
-fn status_of(rt: &impl Abort, alloc: Global, journal: &str, sink: &mut ListSink) -> u8 {
-    let mut words = Vec::new(alloc);
-    words.push(Text::fixed("run")).expect(rt, "memory");
-    let bytes = Vec::from_slice(alloc, journal.as_bytes()).expect(rt, "memory");
-    let mut source = ListSource::new(bytes, 4_096, Vec::new(alloc));
-    replay(alloc, words.as_slice(), &mut source, sink)
-}
-
-/// Each line that is written is the one that is wanted.
-fn are_wanted(rt: &impl Abort, alloc: Global, name: &str, written: &[u8], wanted: &str) {
-    let text = String::from_utf8_lossy(alloc, written).expect(rt, "memory");
-    for (line, (written, should)) in text.as_str().lines().zip(wanted.lines()).enumerate() {
-        assert_eq!(rt; written, should, "{name}, order line {line}");
-    }
-    assert_eq!(rt; text.as_str(), wanted, "{name}");
+    Ok(script)
 }
 
 /// A journal is replayed with this status, and each line that is written is the one that is wanted.
@@ -539,15 +425,23 @@ pub(crate) fn replayed(
     status: u8,
     wanted: &str,
 ) {
+    let mut words = Vec::new(alloc);
+    words.push(Text::fixed("run")).expect(rt, "memory");
+    let bytes = Vec::from_slice(alloc, journal.as_bytes()).expect(rt, "memory");
+    let mut source = ListSource::new(bytes, 4_096, Vec::new(alloc));
     let mut sink = ListSink::new(alloc, 1_000_000, Vec::new(alloc));
-    let ended = status_of(rt, alloc, journal, &mut sink);
-    are_wanted(rt, alloc, name, sink.written(), wanted);
+    let ended = replay(alloc, words.as_slice(), &mut source, &mut sink);
+    let text = String::from_utf8_lossy(alloc, sink.written()).expect(rt, "memory");
+    for (line, (written, should)) in text.as_str().lines().zip(wanted.lines()).enumerate() {
+        assert_eq!(rt; written, should, "{name}, order line {line}");
+    }
+    assert_eq!(rt; text.as_str(), wanted, "{name}");
     assert_eq!(rt; ended, status, "{name}");
 }
 
 /// A script is replayed.
 pub(crate) fn perform(rt: &impl Abort, alloc: Global, script: &Script) {
-    let spelled = spell(rt, alloc, script.lines);
+    let spelled = spell(alloc, script.lines).expect(rt, "memory");
     replayed(
         rt,
         alloc,

@@ -1,7 +1,7 @@
 //! Journals of several calls in one: their shapes, their waits, and parts that act. Each was worked out by hand.
 
 use crate::scripts::{Script, perform, put_token, replayed, spell};
-use std::alloc::Global;
+use std::alloc::{AllocError, Global};
 use std::process::Abort;
 
 /// What is no list of calls is refused whole; a bad part is a fault in its place.
@@ -134,7 +134,7 @@ go 0
     },
 ];
 
-/// Each part is begun when the one before has its answer, in the same turn; there is one reply, after the last.
+/// Each part is begun when the one before has its answer, in the same turn; there is one reply, behind the last.
 const WAITS: [Script; 8] = [
     Script {
         name: "a_wait_in_the_middle",
@@ -529,47 +529,42 @@ const REQUEST: &str =
 const OPENED: &str =
     "supervisor-journal 1\nhost h\nhere /\npid 1\nconf [supervisord]%0Alogfile=NONE%0A[inet_http_server]%0Aport=9001%0A[rpcinterface:supervisor]%0A[program:x]%0Acommand=x%0Astdout_logfile=NONE%0Astderr_logfile=NONE%0Aautostart=false%0A\ngo 0\n0 open 1 inet\n";
 
-/// What stands after it.
+/// What stands behind it.
 const STARTED: &str = "pid 12\n1000 tick\n";
 
 /// What is written once the request is whole.
 const REPLY: &str =
     "state x x STOPPED STARTING\nspawn 1 x x % % % 1 x 4 SUPERVISOR_ENABLED 1 SUPERVISOR_GROUP_NAME x SUPERVISOR_PROCESS_NAME x SUPERVISOR_SERVER_URL http://localhost:9001\nstate x x STARTING RUNNING\nsend 1 HTTP/1.1%20200%20OK%0D%0AContent-Type:%20text/xml%0D%0AContent-Length:%20802%0D%0A%0D%0A<?xml%20version='1.0'?><methodResponse><params><param><value><array><data><value><array><data><value><boolean>1</boolean></value></data></array></value><value><array><data><value><struct><member><name>statecode</name><value><int>1</int></value></member><member><name>statename</name><value><string>RUNNING</string></value></member></struct></value></data></array></value><value><struct><member><name>faultCode</name><value><int>2</int></value></member><member><name>faultString</name><value><string>INCORRECT_PARAMETERS</string></value></member></struct></value><value><struct><member><name>faultCode</name><value><int>1</int></value></member><member><name>faultString</name><value><string>UNKNOWN_METHOD</string></value></member></struct></value></data></array></value></param></params></methodResponse>\nmore 1\n";
 
-fn put(rt: &impl Abort, out: &mut String, text: &str) {
-    out.push_str(text).expect(rt, "memory");
-}
-
 /// The journal of the request in one piece, or in two.
-fn journal(rt: &impl Abort, alloc: Global, front: &[u8], back: &[u8]) -> String {
-    let mut out = String::new(alloc);
-    put(rt, &mut out, OPENED);
+fn journal(alloc: Global, front: &[u8], back: &[u8]) -> Result<String, AllocError> {
+    let mut out = String::from_str(alloc, OPENED)?;
     for piece in [front, back] {
         if !piece.is_empty() {
-            put(rt, &mut out, "0 piece 1 ");
-            put_token(rt, &mut out, piece);
-            put(rt, &mut out, "\n");
+            out.push_str("0 piece 1 ")?;
+            put_token(&mut out, piece)?;
+            out.push('\n')?;
         }
     }
-    put(rt, &mut out, STARTED);
-    out
+    out.push_str(STARTED)?;
+    Ok(out)
 }
 
 /// What is written where the link is read on so many times before the reply.
-fn written(rt: &impl Abort, alloc: Global, reads: u8) -> String {
+fn written(alloc: Global, reads: u8) -> Result<String, AllocError> {
     let mut out = String::new(alloc);
     for _ in 0..reads {
-        put(rt, &mut out, "more 1\n");
+        out.push_str("more 1\n")?;
     }
-    put(rt, &mut out, REPLY);
-    out
+    out.push_str(REPLY)?;
+    Ok(out)
 }
 
 #[test]
 fn four_calls_in_one_piece(rt: HostRuntime) {
     let alloc = rt.alloc();
-    let journal = journal(&rt, alloc, REQUEST.as_bytes(), b"");
-    let written = written(&rt, alloc, 1);
+    let journal = journal(alloc, REQUEST.as_bytes(), b"").expect(&rt, "memory");
+    let written = written(alloc, 1).expect(&rt, "memory");
     replayed(&rt, alloc, "whole", journal.as_str(), 0, written.as_str());
 }
 
@@ -592,29 +587,21 @@ pid 12
 #[test]
 fn four_calls_in_the_short_form(rt: HostRuntime) {
     let alloc = rt.alloc();
-    let spelled = spell(&rt, alloc, FOUR_CALLS);
-    is_whole_journal(&rt, alloc, spelled.journal.as_str());
-    is_whole_reply(&rt, alloc, spelled.written.as_str());
+    let spelled = spell(alloc, FOUR_CALLS).expect(&rt, "memory");
+    let journal = journal(alloc, REQUEST.as_bytes(), b"").expect(&rt, "memory");
+    let written = written(alloc, 1).expect(&rt, "memory");
+    assert_eq!(rt; spelled.journal.as_str(), journal.as_str());
+    assert_eq!(rt; spelled.written.as_str(), written.as_str());
 }
 
-fn is_whole_journal(rt: &impl Abort, alloc: Global, spelled: &str) {
-    let journal = journal(rt, alloc, REQUEST.as_bytes(), b"");
-    assert_eq!(rt; spelled, journal.as_str());
-}
-
-fn is_whole_reply(rt: &impl Abort, alloc: Global, spelled: &str) {
-    let written = written(rt, alloc, 1);
-    assert_eq!(rt; spelled, written.as_str());
-}
-
-/// The request cut after so many bytes: the link is read on once more, and nothing else is other.
+/// The request cut behind so many bytes: the link is read on once more, and nothing else is other.
 fn cut_behind(rt: &impl Abort, alloc: Global, at: usize) {
     if at >= REQUEST.len() {
         return;
     }
     let (front, back) = REQUEST.as_bytes().split_at(at);
-    let journal = journal(rt, alloc, front, back);
-    let written = written(rt, alloc, 2);
+    let journal = journal(alloc, front, back).expect(rt, "memory");
+    let written = written(alloc, 2).expect(rt, "memory");
     replayed(rt, alloc, "cut", journal.as_str(), 0, written.as_str());
 }
 

@@ -3,6 +3,8 @@
 #![tactic(auto)]
 
 #[cfg(test)]
+mod adapter_tests;
+#[cfg(test)]
 mod generated_tests;
 #[cfg(test)]
 mod link_tests;

@@ -1,10 +1,13 @@
 //! Known sizes and the orders of logs, worked out by hand.
-use crate::plain::{config, group_of_one, process};
-use std::alloc::Global;
+use std::alloc::{AllocError, Global};
 use std::process::Abort;
+use sv_base::config::{ClientSpec, Config};
 use sv_base::groups::Groups;
-use sv_base::number::{Backups, CaptureBytes};
+use sv_base::items::Items;
+use sv_base::number::{Backups, CaptureBytes, Retries, Seconds};
+use sv_base::signal::Signal;
 use sv_base::spec::{GroupSpec, LogSpec, Spec};
+use sv_base::state::{Autorestart, Level};
 use sv_base::text::Text;
 use sv_files::KnownSizes;
 use sv_out::order::Order;
@@ -20,27 +23,57 @@ fn log(rt: &impl Abort, file: Option<&'static str>, maxbytes: u64, backups: u32)
 }
 
 /// A process with these files for its two logs.
-fn logging(
+fn process(
     rt: &impl Abort,
     alloc: Global,
     stdout: Option<&'static str>,
     stderr: Option<&'static str>,
 ) -> Spec {
-    let mut spec = process(alloc, "g", "p");
-    spec.stdout = log(rt, stdout, 0, 0);
-    spec.stderr = log(rt, stderr, 0, 0);
-    spec
+    Spec {
+        group: Text::fixed("g"),
+        name: Text::fixed("p"),
+        words: Items::new(alloc),
+        priority: 999,
+        autostart: true,
+        startsecs: Seconds::least(),
+        startretries: Retries::least(),
+        autorestart: Autorestart::Never,
+        exitcodes: Items::new(alloc),
+        stopsignal: Signal::Term,
+        stopwaitsecs: Seconds::least(),
+        stopasgroup: false,
+        killasgroup: false,
+        redirect_stderr: false,
+        stdout: log(rt, stdout, 0, 0),
+        stderr: log(rt, stderr, 0, 0),
+        environment: Items::new(alloc),
+        directory: Text::fixed(""),
+        umask: Text::fixed(""),
+        user: Text::fixed(""),
+    }
 }
 
-/// A process that logs to `/p` and `/e`, and one that logs to `/p` alone.
-fn groups(rt: &impl Abort, alloc: Global) -> Groups {
+/// The main log `/m`, a process that logs to `/p` and `/e`, and one that logs to `/p` alone.
+fn config(rt: &impl Abort, alloc: Global) -> Config {
     let mut groups = Vec::new(alloc);
-    add_group(rt, alloc, &mut groups, "g", Some("/p"), Some("/e"));
-    add_group(rt, alloc, &mut groups, "h", Some("/p"), None);
-    Groups::new(groups).expect(rt, "a roster")
+    group(rt, alloc, &mut groups, "g", Some("/p"), Some("/e"));
+    group(rt, alloc, &mut groups, "h", Some("/p"), None);
+    Config {
+        identifier: Text::fixed("sv"),
+        main: log(rt, Some("/m"), 0, 0),
+        level: Level::Info,
+        groups: Groups::new(groups).expect(rt, "a roster"),
+        servers: Items::new(alloc),
+        client: ClientSpec {
+            url: Text::fixed(""),
+            username: Text::fixed(""),
+            password: Text::fixed(""),
+        },
+        rpc: false,
+    }
 }
 
-fn add_group(
+fn group(
     rt: &impl Abort,
     alloc: Global,
     groups: &mut Vec<GroupSpec>,
@@ -48,30 +81,31 @@ fn add_group(
     stdout: Option<&'static str>,
     stderr: Option<&'static str>,
 ) {
-    let process = logging(rt, alloc, stdout, stderr);
-    let group = group_of_one(rt, alloc, name, process);
+    let mut members = Items::new(alloc);
+    members
+        .push(process(rt, alloc, stdout, stderr))
+        .expect(rt, "memory");
+    let group = GroupSpec {
+        name: Text::fixed(name),
+        priority: 999,
+        members,
+        pool: None,
+    };
     groups.push(group).expect(rt, "memory");
 }
 
-/// The sizes that are known of the main log `/m` and of the logs of these groups.
-fn known_sizes(rt: &impl Abort, alloc: Global) -> KnownSizes {
-    let main = log(rt, Some("/m"), 0, 0);
-    let config = config(alloc, "sv", main, groups(rt, alloc));
-    KnownSizes::new(&config, Vec::new(alloc)).expect(rt, "memory")
-}
-
 /// The sizes as text: each name with its size behind it.
-fn told(rt: &impl Abort, alloc: Global, sizes: &KnownSizes) -> String {
+fn told(alloc: Global, sizes: &KnownSizes) -> Result<String, AllocError> {
     let mut text = String::new(alloc);
     for (name, size) in sizes.as_slice() {
         let name = name.as_str();
-        write!(text, "{name} {size};").expect(rt, "memory");
+        write!(text, "{name} {size};")?;
     }
-    text
+    Ok(text)
 }
 
-fn push_order(rt: &impl Abort, text: &mut String, order: &Order) {
-    let pushed = match order {
+fn push_order(text: &mut String, order: &Order) -> Result<(), AllocError> {
+    match order {
         Order::Append { file, bytes } => {
             let file = file.as_str();
             let bytes = std::str::from_utf8(bytes.as_slice()).unwrap_or("");
@@ -87,36 +121,20 @@ fn push_order(rt: &impl Abort, text: &mut String, order: &Order) {
             write!(text, "fresh {file};")
         }
         _ => text.push_str("other;"),
-    };
-    pushed.expect(rt, "memory");
+    }
 }
 
-fn orders(rt: &impl Abort, alloc: Global, given: &[Order]) -> String {
+fn orders(alloc: Global, given: &[Order]) -> Result<String, AllocError> {
     let mut text = String::new(alloc);
     for order in given {
-        push_order(rt, &mut text, order);
+        push_order(&mut text, order)?;
     }
-    text
+    Ok(text)
 }
 
 fn is_told(rt: &impl Abort, alloc: Global, sizes: &KnownSizes, text: &str) {
-    let told = told(rt, alloc, sizes);
+    let told = told(alloc, sizes).expect(rt, "memory");
     assert_eq!(rt; told.as_str(), text);
-}
-
-/// Logs a piece, and tells its orders.
-fn ordered(
-    rt: &impl Abort,
-    alloc: Global,
-    sizes: &mut KnownSizes,
-    log: &LogSpec,
-    piece: &str,
-) -> String {
-    let mut given = Vec::new(alloc);
-    sizes
-        .append(alloc, log, piece.as_bytes(), &mut given)
-        .expect(rt, "memory");
-    orders(rt, alloc, given.as_slice())
 }
 
 /// Logs a piece, which gives these orders and leaves these sizes.
@@ -129,7 +147,11 @@ fn logs(
     text: &str,
     after: &str,
 ) {
-    let given = ordered(rt, alloc, sizes, log, piece);
+    let mut given = Vec::new(alloc);
+    sizes
+        .append(alloc, log, piece.as_bytes(), &mut given)
+        .expect(rt, "memory");
+    let given = orders(alloc, given.as_slice()).expect(rt, "memory");
     assert_eq!(rt; given.as_str(), text);
     is_told(rt, alloc, sizes, after);
 }
@@ -137,7 +159,8 @@ fn logs(
 #[test]
 fn sizes_of_a_configuration(rt: HostRuntime) {
     let alloc = rt.alloc();
-    let mut sizes = known_sizes(&rt, alloc);
+    let config = config(&rt, alloc);
+    let mut sizes = KnownSizes::new(&config, Vec::new(alloc)).expect(&rt, "memory");
     is_told(&rt, alloc, &sizes, "/e 0;/m 0;/p 0;");
     grows(&rt, alloc, &mut sizes, "/z", "/e 0;/m 0;/p 0;/z 2;");
     grows(&rt, alloc, &mut sizes, "/a", "/a 2;/e 0;/m 0;/p 0;/z 2;");
@@ -199,7 +222,8 @@ const PIECES: [(u64, u32, Option<&str>, &str, &str, &str); 6] = [
 #[test]
 fn pieces_of_logs(rt: HostRuntime) {
     let alloc = rt.alloc();
-    let mut sizes = known_sizes(&rt, alloc);
+    let config = config(&rt, alloc);
+    let mut sizes = KnownSizes::new(&config, Vec::new(alloc)).expect(&rt, "memory");
     for (maxbytes, backups, file, piece, orders, after) in PIECES {
         let log = log(&rt, file, maxbytes, backups);
         logs(&rt, alloc, &mut sizes, &log, piece, orders, after);

@@ -1,0 +1,122 @@
+//! Configurations of 1,048,576 bytes, and of one more, with ample memory.
+
+use crate::tests::{fault_said, host, order_said};
+use std::alloc::Global;
+use std::process::Abort;
+use sv_base::bytes::Bytes;
+use sv_base::config::Config;
+use sv_base::text::Text;
+use sv_conf::ConfFault;
+use sv_conf::config::config;
+use sv_conf::includes::includes;
+
+/// The most bytes of a text.
+const MOST: usize = 1_048_576;
+
+/// What is told of a text of more bytes.
+const TOO_LONG: &str = "1 Ini 4 TooLong";
+
+/// What a text begins with, in 64 bytes, and a block of 64 bytes that stands 16,383 times after it, with a number of five
+/// digits in the place of the `#`: sections with their keys.
+const SECTIONS: (&str, &str) = (
+    "[program:p]\ncommand=c\n;;;;;;;;;;;;;;;;;;;;;;;;;;;;;;;;;;;;;;;;;\n",
+    "[section:s#]\nfirst=1234567890\nsecond=1234567890123456789012\n",
+);
+
+/// The same: one value with its further lines.
+const LINES: (&str, &str) = (
+    "[program:p]\ncommand=c\n[o]\nk=abcdefghijklmnopqrstuvwxyzabcdefghi\n",
+    "  line #abcdefghijklmnopqrstuvwxyzabcdefghijklmnopqrstuvwxy\n",
+);
+
+fn filled(rt: &impl Abort, alloc: Global, parts: (&str, &str)) -> String {
+    let mut text = String::from_str(alloc, parts.0).expect(rt, "memory");
+    let (before, after) = parts.1.split_once('#').unwrap_or(("", ""));
+    for number in 10_000..26_383u32 {
+        write!(text, "{before}{number}{after}").expect(rt, "memory");
+    }
+    assert_eq!(rt; text.as_str().len(), MOST);
+    text
+}
+
+/// A text that begins so, and then has so many words of 16 bytes with their spaces.
+fn with_words(rt: &impl Abort, alloc: Global, begin: &str, count: usize) -> String {
+    let mut text = String::from_str(alloc, begin).expect(rt, "memory");
+    for _ in 0..count {
+        text.push_str("abcdefghijklmno ").expect(rt, "memory");
+    }
+    assert_eq!(rt; text.as_str().len(), MOST);
+    text
+}
+
+/// The order of the processes, or the fault.
+fn said(rt: &impl Abort, alloc: Global, main: &str, more: &[(Text, Bytes)]) -> String {
+    match config(alloc, main.as_bytes(), more, &host(rt, alloc)) {
+        Ok(config) => order_said(rt, alloc, &config),
+        Err(fault) => fault_said(rt, alloc, &fault),
+    }
+}
+
+fn is_said(rt: &impl Abort, alloc: Global, main: &str, wanted: &str) {
+    let said = said(rt, alloc, main, &[]);
+    assert_eq!(rt; said.as_str(), wanted);
+}
+
+/// The same of a text that another includes.
+fn is_said_included(rt: &impl Abort, alloc: Global, text: &str, wanted: &str) {
+    let mut more = Vec::new(alloc);
+    let bytes = Bytes::from_slice(alloc, text.as_bytes()).expect(rt, "memory");
+    more.push((Text::fixed("i"), bytes)).expect(rt, "memory");
+    let said = said(rt, alloc, "[other]\nkey=value\n", more.as_slice());
+    assert_eq!(rt; said.as_str(), wanted);
+}
+
+#[test]
+fn a_text_of_the_most_bytes_and_of_one_more(rt: HostRuntime) {
+    let mut text = filled(&rt, rt.alloc(), SECTIONS);
+    is_said(&rt, rt.alloc(), text.as_str(), "p:p");
+    text.push('\n').expect(&rt, "memory");
+    is_said(&rt, rt.alloc(), text.as_str(), TOO_LONG);
+}
+
+/// One value: sections and keys of included texts are looked up one by one, so many of them would take long.
+#[test]
+fn an_included_text_of_the_most_bytes_and_of_one_more(rt: HostRuntime) {
+    let mut text = filled(&rt, rt.alloc(), LINES);
+    is_said_included(&rt, rt.alloc(), text.as_str(), "p:p");
+    text.push('\n').expect(&rt, "memory");
+    is_said_included(&rt, rt.alloc(), text.as_str(), TOO_LONG);
+}
+
+#[test]
+fn a_command_of_the_most_bytes(rt: HostRuntime) {
+    let text = with_words(&rt, rt.alloc(), "[program:p]\ncommand=/bin/progra ", 65_534);
+    let host = host(&rt, rt.alloc());
+    let found = config(rt.alloc(), text.as_str().as_bytes(), &[], &host);
+    has_words(&rt, &found.expect(&rt, "a configuration"), 65_535);
+}
+
+/// The first process has a command of so many words.
+fn has_words(rt: &impl Abort, config: &Config, count: usize) {
+    let group = config.groups.as_slice().first().expect(rt, "a group");
+    let member = group.members.as_slice().first().expect(rt, "a process");
+    assert_eq!(rt; member.words.as_slice().len(), count);
+}
+
+#[test]
+fn patterns_of_the_most_bytes_and_of_one_more(rt: HostRuntime) {
+    let mut text = with_words(&rt, rt.alloc(), "[include]\nfiles=", 65_535);
+    let host = host(&rt, rt.alloc());
+    let patterns = includes(rt.alloc(), text.as_str().as_bytes(), &host);
+    assert!(rt; patterns.is_ok_and(|patterns| patterns.len() == 65_535));
+    text.push('a').expect(&rt, "memory");
+    match includes(rt.alloc(), text.as_str().as_bytes(), &host) {
+        Err(fault) => is_too_long(&rt, rt.alloc(), &fault),
+        Ok(_) => panic!(rt; "one byte too many"),
+    }
+}
+
+fn is_too_long(rt: &impl Abort, alloc: Global, fault: &ConfFault) {
+    let said = fault_said(rt, alloc, fault);
+    assert_eq!(rt; said.as_str(), TOO_LONG);
+}
