@@ -1,7 +1,7 @@
 -- Sorting by insertion keeps each element.
-use Rattle.std.proofs.Common.{◌≡◌, ℕ, ℤ, List, [], ◌∷◌, ◌++◌, map, sym, subst, append_assoc, append-nil}
+use Rattle.std.proofs.Common.{ℕ, ℤ, List, [], ◌∷◌, ◌++◌, map, sym, subst, append_assoc, append-nil}
 use Rattle.std.proofs.lemmas.List.Sorted.{IsPermutation-refl, IsPermutation-to_front, IsPermutation-insert, IsPermutation-append_left, IsPermutation-trans}
-use Rattle.std.specs.List.{insert, prefix_len}
+use Rattle.std.specs.List.{prefix_len}
 use Rattle.std.specs.List.Sorted.{IsPermutation}
 use Rattle.std.specs.Ordering.{is_lt}
 use Rattle.sv_base.specs.Order.{start_order}
@@ -11,6 +11,7 @@ use Rattle.sv_conf.specs.Configuration.{placed, sorted_from, sorted_members, sor
 
 module _ {A : Type 0} (priority : A → ℤ) (name : A → List ℕ) where
   one_placed : (done : List A) (one : A) → IsPermutation (done ++ one ∷ []) (placed priority name done one)
+  unfolding placed
   one_placed done one =
       IsPermutation-trans (done ++ one ∷ []) (one ∷ done) (placed priority name done one) (IsPermutation-to_front done one)
       (IsPermutation-insert done (prefix_len (λ other. is_lt (start_order priority name other one)) done) one)
@@ -27,4 +28,5 @@ pub members_kept : (members : List Spec) → IsPermutation members (sorted_membe
 members_kept members = all_placed (λ (m : Spec). m.priority) (λ (m : Spec). m.name) [] members
 
 pub groups_kept : (groups : List GroupSpec) → IsPermutation (map with_sorted groups) (sorted_groups groups)
+unfolding sorted_groups
 groups_kept groups = all_placed (λ (g : GroupSpec). g.priority) (λ (g : GroupSpec). g.name) [] (map with_sorted groups)

@@ -1,6 +1,6 @@
 -- The facts that a machine offers have the form of their type.
-use Rattle.std.proofs.Common.{◌≡◌, ℕ, List, Bool, true, false, Option, Some, None, refl, sym, ap, subst}
-use Rattle.sv_base.specs.declared.spec.LogSpec.{LogSpec}
+use Rattle.std.proofs.Common.{◌≡◌, ℕ, List, Bool, true, false, Option, Some, None, if◌then◌else◌, refl}
+use Rattle.sv_base.specs.declared.kind.Kind.TheVariants as kinds
 use Rattle.sv_base.specs.declared.state.State.{State}
 use Rattle.sv_base.specs.declared.state.State.TheVariants.{Stopped, Starting, Running, Backoff, Stopping, Exited, Fatal, Unknown}
 use Rattle.sv_base.specs.declared.state.Stream.{Stream}
@@ -9,6 +9,7 @@ use Rattle.sv_children.specs.Crew.{Member}
 use Rattle.sv_core.specs.Output.{log_fact, log_kind, log_of, message_fact, message_kind}
 use Rattle.sv_event_laws.specs.Bodies.{tells}
 use Rattle.sv_events.specs.declared.fact.Fact.{Fact}
+use Rattle.sv_events.specs.declared.fact.Fact.TheVariants as facts
 use Rattle.sv_facts.specs.EdgeFacts.{entry_fact, kind_of}
 
 pub entry_tells : (to from : State) (pid : ℕ) (member : Member) → tells (kind_of to) (entry_fact to pid member from) ≡ true
@@ -26,10 +27,16 @@ pub log_tells : (pid : ℕ) (channel : Stream) (member : Option Member) (bytes :
 log_tells pid channel None bytes fact e = cc
 log_tells pid Out (Some m) bytes fact e = asked (log_of Out m.spec).events e
   where
-    asked : (events : Bool) → (if events then Some (Log m.spec.name m.group.name pid Out bytes) else None) ≡ Some fact → tells ProcessLogStdout fact ≡ true
-    asked true e = rw (sym e) refl
+    asked : (events : Bool) → (if events then Some (facts.Log m.spec.name m.group.name pid Out bytes) else None) ≡ Some fact
+        → tells kinds.ProcessLogStdout fact ≡ true
+    asked true e = cc
     asked false e = cc
-log_tells pid Err (Some m) bytes fact e = cc
+log_tells pid Err (Some m) bytes fact e = asked (log_of Err m.spec).events e
+  where
+    asked : (events : Bool) → (if events then Some (facts.Log m.spec.name m.group.name pid Err bytes) else None) ≡ Some fact
+        → tells kinds.ProcessLogStderr fact ≡ true
+    asked true e = cc
+    asked false e = cc
 
 pub message_tells : (pid : ℕ) (channel : Stream) (member : Option Member) (bytes : List ℕ) (fact : Fact)
     → message_fact pid member bytes ≡ Some fact → tells (message_kind channel) fact ≡ true
