@@ -66,8 +66,8 @@ fn group(rt: &impl Abort, alloc: Global, name: &'static str, names: &[&'static s
     }
 }
 
-/// The program d, alone in its group, and after it the group g of three.
-fn groups(rt: &impl Abort, alloc: Global) -> Groups {
+/// The program d, alone in its group, and behind it the group g of three.
+fn one_and_three(rt: &impl Abort, alloc: Global) -> Children {
     let mut groups = Vec::new(alloc);
     groups
         .push(group(rt, alloc, "d", &["d"]))
@@ -75,15 +75,11 @@ fn groups(rt: &impl Abort, alloc: Global) -> Groups {
     groups
         .push(group(rt, alloc, "g", &["a", "b", "c"]))
         .expect(rt, "memory");
-    Groups::new(groups).expect(rt, "a roster")
-}
-
-fn config(alloc: Global, groups: Groups) -> Config {
-    Config {
+    let config = Config {
         identifier: Text::fixed("supervisor"),
         main: no_log(),
         level: Level::Info,
-        groups,
+        groups: Groups::new(groups).expect(rt, "a roster"),
         servers: Items::new(alloc),
         client: ClientSpec {
             url: Text::fixed(""),
@@ -91,12 +87,7 @@ fn config(alloc: Global, groups: Groups) -> Config {
             password: Text::fixed(""),
         },
         rpc: false,
-    }
-}
-
-/// The children of these groups.
-fn one_and_three(rt: &impl Abort, alloc: Global) -> Children {
-    let config = config(alloc, groups(rt, alloc));
+    };
     Children::new(alloc, &config).expect(rt, "memory")
 }
 
@@ -121,53 +112,39 @@ fn names_are_the_rosters(rt: HostRuntime) {
     }
 }
 
-/// The child b is brought news that it heeds: its edges are reported, and this is to be done.
-fn step(
-    rt: &impl Abort,
-    children: &mut Children,
-    news: &News,
-    deed: ChildDeed,
-    given: &mut Vec<Order>,
-) {
-    let step = children.bring(2, news, Mood::Running, Moment::zero());
-    let step = step.expect(rt, "a step");
-    assert!(rt; step.deed == Some(deed));
-    children.report(2, &step.edges, given).expect(rt, "memory");
-}
-
-/// What is needed to start the child b.
-fn is_spawned(rt: &impl Abort, children: &Children) {
-    let spawn = children
-        .spawn_order(2, Run(7))
-        .expect(rt, "memory")
-        .expect(rt, "a process");
-    assert!(rt; spawn.group.as_str() == "g");
-    assert!(rt; spawn.name.as_str() == "b");
-    assert!(rt; spawn.directory.as_str() == "/var");
-}
-
-/// The child b runs, and the end of another run doesn't concern it.
-fn is_running(rt: &impl Abort, children: &mut Children) {
-    let now = Moment::zero();
-    let pid = Pid::new(12).expect(rt, "a pid");
-    let _told = children.answer(2, Run(7), Told::Started(pid), now);
-    let other = News::Exit(Run(8), How::Code(0));
-    assert!(rt; children.bring(2, &other, Mood::Running, now).is_none());
-}
-
 /// The child b is started as run 7, and stopped: its reports, its spawn and its signal name the group g.
 #[test]
 fn one_child_is_started_and_stopped(rt: HostRuntime) {
     let alloc = rt.alloc();
     let mut children = one_and_three(&rt, alloc);
+    let now = Moment::zero();
     let mut given = Vec::new(alloc);
-    let spawn = ChildDeed::Spawn;
-    step(&rt, &mut children, &News::Start, spawn, &mut given);
-    is_spawned(&rt, &children);
-    is_running(&rt, &mut children);
-    let kill = ChildDeed::Kill(Signal::Term, false);
-    step(&rt, &mut children, &News::Stop, kill, &mut given);
+    let start = children
+        .bring(2, &News::Start, Mood::Running, now)
+        .expect(&rt, "a step");
+    assert!(rt; start.deed == Some(ChildDeed::Spawn));
+    children
+        .report(2, &start.edges, &mut given)
+        .expect(&rt, "memory");
+    let spawn = children
+        .spawn_order(2, Run(7))
+        .expect(&rt, "memory")
+        .expect(&rt, "a process");
+    assert!(rt; spawn.group.as_str() == "g");
+    assert!(rt; spawn.name.as_str() == "b");
+    assert!(rt; spawn.directory.as_str() == "/var");
+    let pid = Pid::new(12).expect(&rt, "a pid");
+    let _told = children.answer(2, Run(7), Told::Started(pid), now);
+    let other = News::Exit(Run(8), How::Code(0));
+    assert!(rt; children.bring(2, &other, Mood::Running, now).is_none());
+    let stop = children
+        .bring(2, &News::Stop, Mood::Running, now)
+        .expect(&rt, "a step");
+    assert!(rt; stop.deed == Some(ChildDeed::Kill(Signal::Term, false)));
     assert!(rt; !children.are_at_rest(Span { from: 0, to: 4 }));
+    children
+        .report(2, &stop.edges, &mut given)
+        .expect(&rt, "memory");
     children
         .kill(2, Signal::Term, false, &mut given)
         .expect(&rt, "memory");

@@ -1,8 +1,7 @@
 //! The commands, worked by hand: the calls that each makes, and what each answer prints.
-use std::alloc::Global;
-use std::process::Abort;
+use std::alloc::{AllocError, Global};
 use sv_base::Text;
-use sv_commands::{Shown, Step, reply_shown, steps_of};
+use sv_commands::{Step, reply_shown, steps_of};
 use sv_xmlcall::{Answered, Value};
 
 /// Each line has the words of a command, `=>`, and its calls, without the `supervisor.` before each method.
@@ -51,7 +50,7 @@ reload=>none
 
 /// Each line has the words of a command with one call, an answer, and what it prints: a status and a text in which `~`
 /// stands for a line feed. An answer is `true`, `false`, a number, a fault as `!` and its number, a text as `'` and the
-/// text, or rows as `[`, the parts of each with `/` between them and each with `;` after it. `bad` is of another kind.
+/// text, or rows as `[`, the parts of each with `/` between them and each with `;` behind it. `bad` is of another kind.
 const ANSWERS: &str = "\
 start x|true|0 x: started~
 start x:x|true|0 x: started~
@@ -105,76 +104,54 @@ status|true|bad
 status|!6|1 ERROR (shutting down)~
 ";
 
-fn words_of(rt: &impl Abort, alloc: Global, line: &str) -> Vec<Text> {
+fn words_of(alloc: Global, line: &str) -> Result<Vec<Text>, AllocError> {
     let mut words = Vec::new(alloc);
     for word in line.split(' ') {
-        let word = Text::from_str(alloc, word).expect(rt, "ample memory");
-        words.push(word).expect(rt, "ample memory");
+        words.push(Text::from_str(alloc, word)?)?;
     }
-    words
+    Ok(words)
 }
 
-fn put(rt: &impl Abort, out: &mut String, text: &str) {
-    out.push_str(text).expect(rt, "ample memory");
-}
-
-fn put_param(rt: &impl Abort, alloc: Global, out: &mut String, param: &Value) {
-    match param {
-        Value::Text(text) => put(rt, out, text.as_str()),
-        Value::Int(number) => {
-            let number = format!(in alloc; "{number}").expect(rt, "ample memory");
-            put(rt, out, number.as_str());
-        }
-        _ => put(rt, out, "?"),
-    }
-}
-
-fn put_call(rt: &impl Abort, alloc: Global, out: &mut String, step: &Step) {
+fn put_call(alloc: Global, out: &mut String, step: &Step) -> Result<(), AllocError> {
     let method = step.call.method.as_str();
-    let name = method.strip_prefix("supervisor.").unwrap_or(method);
-    put(rt, out, name);
-    put(rt, out, "(");
+    out.push_str(method.strip_prefix("supervisor.").unwrap_or(method))?;
+    out.push('(')?;
     let mut first = true;
     for param in &step.call.params {
         if !first {
-            put(rt, out, ",");
+            out.push(',')?;
         }
         first = false;
-        put_param(rt, alloc, out, param);
-    }
-    put(rt, out, ")");
-}
-
-/// The calls of the steps, with a space between them.
-fn calls_told(rt: &impl Abort, alloc: Global, steps: &[Step]) -> String {
-    let mut out = String::new(alloc);
-    for step in steps {
-        if !out.as_str().is_empty() {
-            put(rt, &mut out, " ");
+        match param {
+            Value::Text(text) => out.push_str(text.as_str())?,
+            Value::Int(number) => out.push_str(format!(in alloc; "{number}")?.as_str())?,
+            _ => out.push('?')?,
         }
-        put_call(rt, alloc, &mut out, step);
     }
-    out
+    out.push(')')?;
+    Ok(())
 }
 
-fn word(rt: &impl Abort, alloc: Global, text: &str) -> String {
-    String::from_str(alloc, text).expect(rt, "ample memory")
-}
-
-fn calls_of(rt: &impl Abort, alloc: Global, line: &str) -> String {
-    let words = words_of(rt, alloc, line);
-    let steps = steps_of(alloc, words.as_slice()).expect(rt, "ample memory");
-    match &steps {
-        Some(steps) => calls_told(rt, alloc, steps.as_slice()),
-        None => word(rt, alloc, "none"),
+fn calls_of(alloc: Global, line: &str) -> Result<String, AllocError> {
+    let words = words_of(alloc, line)?;
+    let Some(steps) = steps_of(alloc, words.as_slice())? else {
+        return String::from_str(alloc, "none");
+    };
+    let mut out = String::new(alloc);
+    for step in steps.as_slice() {
+        if !out.as_str().is_empty() {
+            out.push(' ')?;
+        }
+        put_call(alloc, &mut out, step)?;
     }
+    Ok(out)
 }
 
 #[test]
 fn commands_make_their_calls(rt: HostRuntime) {
     for line in CALLS.lines() {
         let (words, expected) = line.split_once("=>").expect(&rt, "two cells");
-        let calls = calls_of(&rt, rt.alloc(), words);
+        let calls = calls_of(rt.alloc(), words).expect(&rt, "ample memory");
         assert_eq!(&rt; calls.as_str(), expected, "{words}");
     }
 }
@@ -183,127 +160,85 @@ fn number_of(text: &str) -> i64 {
     text.parse::<i64>().unwrap_or(-1)
 }
 
-fn text_value(rt: &impl Abort, alloc: Global, text: &str) -> Value {
+fn text_value(alloc: Global, text: &str) -> Result<Value, AllocError> {
     let mut content = String::new(alloc);
     for c in text.chars() {
-        let c = if c == '~' { '\n' } else { c };
-        content.push(c).expect(rt, "ample memory");
+        content.push(if c == '~' { '\n' } else { c })?;
     }
-    Value::Text(Text::from_string(content))
-}
-
-/// The name of a member of a row, by its place: a status stands third and last, a state before what is said of it.
-fn member_name(place: u8, is_status: bool) -> &'static str {
-    match place {
-        0 => "group",
-        1 => "name",
-        2 if is_status => "status",
-        2 => "statename",
-        _ => "description",
-    }
-}
-
-fn member_of(rt: &impl Abort, alloc: Global, name: &'static str, part: &str) -> (Text, Value) {
-    let value = match name {
-        "status" => Value::Int(number_of(part)),
-        _ => text_value(rt, alloc, part),
-    };
-    (Text::fixed(name), value)
+    Ok(Value::Text(Text::from_string(content)))
 }
 
 /// The struct of a row: a group, a name, and a status, or a state with what is said of it.
-fn row_of(rt: &impl Abort, alloc: Global, row: &str) -> Value {
+fn row_of(alloc: Global, row: &str) -> Result<Value, AllocError> {
     let mut members = Vec::new(alloc);
     let mut place = 0u8;
     let parts = row.split('/').count();
     for part in row.split('/') {
-        let name = member_name(place, parts == 3 && part != "RUNNING");
-        let member = member_of(rt, alloc, name, part);
-        members.push(member).expect(rt, "ample memory");
+        match place {
+            0 => members.push((Text::fixed("group"), text_value(alloc, part)?))?,
+            1 => members.push((Text::fixed("name"), text_value(alloc, part)?))?,
+            2 if parts == 3 && part != "RUNNING" => {
+                members.push((Text::fixed("status"), Value::Int(number_of(part))))?
+            }
+            2 => members.push((Text::fixed("statename"), text_value(alloc, part)?))?,
+            _ => members.push((Text::fixed("description"), text_value(alloc, part)?))?,
+        }
         place = place.saturating_add(1);
     }
-    Value::Struct(members)
+    Ok(Value::Struct(members))
 }
 
-fn rows_of(rt: &impl Abort, alloc: Global, rows: &str) -> Value {
+fn rows_of(alloc: Global, rows: &str) -> Result<Value, AllocError> {
     let mut values = Vec::new(alloc);
     for row in rows.split(';') {
         if !row.is_empty() {
-            let value = row_of(rt, alloc, row);
-            values.push(value).expect(rt, "ample memory");
+            values.push(row_of(alloc, row)?)?;
         }
     }
-    Value::Array(values)
+    Ok(Value::Array(values))
 }
 
-/// The struct of a process, of which only its number is looked at.
-fn process_of(rt: &impl Abort, alloc: Global, pid: &str) -> Value {
-    let mut members = Vec::new(alloc);
-    let member = (Text::fixed("pid"), Value::Int(number_of(pid)));
-    members.push(member).expect(rt, "ample memory");
-    Value::Struct(members)
-}
-
-fn plain_value(text: &str) -> Value {
-    match text {
+fn answer_of(alloc: Global, text: &str) -> Result<Answered, AllocError> {
+    if let Some(number) = text.strip_prefix('!') {
+        return Ok(Answered::Fault(number_of(number), Text::fixed("TEXT")));
+    }
+    if let Some(content) = text.strip_prefix('\'') {
+        return Ok(Answered::Value(text_value(alloc, content)?));
+    }
+    if let Some(rows) = text.strip_prefix('[') {
+        return Ok(Answered::Value(rows_of(alloc, rows)?));
+    }
+    if let Some(pid) = text.strip_prefix('{') {
+        let mut members = Vec::new(alloc);
+        members.push((Text::fixed("pid"), Value::Int(number_of(pid))))?;
+        return Ok(Answered::Value(Value::Struct(members)));
+    }
+    Ok(Answered::Value(match text {
         "true" => Value::Truth(true),
         "false" => Value::Truth(false),
         number => Value::Int(number_of(number)),
-    }
+    }))
 }
 
-fn value_of(rt: &impl Abort, alloc: Global, text: &str) -> Value {
-    if let Some(content) = text.strip_prefix('\'') {
-        return text_value(rt, alloc, content);
-    }
-    if let Some(rows) = text.strip_prefix('[') {
-        return rows_of(rt, alloc, rows);
-    }
-    match text.strip_prefix('{') {
-        Some(pid) => process_of(rt, alloc, pid),
-        None => plain_value(text),
-    }
-}
-
-fn answer_of(rt: &impl Abort, alloc: Global, text: &str) -> Answered {
-    match text.strip_prefix('!') {
-        Some(number) => Answered::Fault(number_of(number), Text::fixed("TEXT")),
-        None => Answered::Value(value_of(rt, alloc, text)),
-    }
-}
-
-/// The status, a space and the text, in which `~` stands for a line feed.
-fn shown_told(rt: &impl Abort, alloc: Global, shown: &Shown) -> String {
-    let status = shown.status.number();
-    let text = String::from_utf8_lossy(alloc, shown.text.as_slice());
-    let text = text.expect(rt, "ample memory");
-    let mut out = format!(in alloc; "{status} ").expect(rt, "ample memory");
-    for c in text.as_str().chars() {
-        let c = if c == '\n' { '~' } else { c };
-        out.push(c).expect(rt, "ample memory");
-    }
-    out
-}
-
-/// What an answer to the one call of these steps prints.
-fn answer_printed(rt: &impl Abort, alloc: Global, steps: &[Step], answer: &str) -> String {
-    let [step] = steps else {
-        return word(rt, alloc, "not one call");
+fn printed(alloc: Global, words: &str, answer: &str) -> Result<String, AllocError> {
+    let words = words_of(alloc, words)?;
+    let Some(steps) = steps_of(alloc, words.as_slice())? else {
+        return String::from_str(alloc, "none");
     };
-    let answered = answer_of(rt, alloc, answer);
-    let shown = reply_shown(alloc, &step.line, &answered).expect(rt, "ample memory");
-    match &shown {
-        Some(shown) => shown_told(rt, alloc, shown),
-        None => word(rt, alloc, "bad"),
-    }
-}
-
-fn printed(rt: &impl Abort, alloc: Global, words: &str, answer: &str) -> String {
-    let words = words_of(rt, alloc, words);
-    let steps = steps_of(alloc, words.as_slice()).expect(rt, "ample memory");
-    match &steps {
-        Some(steps) => answer_printed(rt, alloc, steps.as_slice(), answer),
-        None => word(rt, alloc, "none"),
+    let [step] = steps.as_slice() else {
+        return String::from_str(alloc, "not one call");
+    };
+    match reply_shown(alloc, &step.line, &answer_of(alloc, answer)?)? {
+        Some(shown) => {
+            let status = shown.status.number();
+            let text = String::from_utf8_lossy(alloc, shown.text.as_slice())?;
+            let mut out = format!(in alloc; "{status} ")?;
+            for c in text.as_str().chars() {
+                out.push(if c == '\n' { '~' } else { c })?;
+            }
+            Ok(out)
+        }
+        None => String::from_str(alloc, "bad"),
     }
 }
 
@@ -312,7 +247,7 @@ fn answers_print_their_lines(rt: HostRuntime) {
     for line in ANSWERS.lines() {
         let (words, rest) = line.split_once('|').expect(&rt, "the words");
         let (answer, expected) = rest.split_once('|').expect(&rt, "an answer");
-        let text = printed(&rt, rt.alloc(), words, answer);
+        let text = printed(rt.alloc(), words, answer).expect(&rt, "ample memory");
         assert_eq!(&rt; text.as_str(), expected, "{words}: {answer}");
     }
 }

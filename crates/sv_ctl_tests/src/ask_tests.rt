@@ -67,84 +67,59 @@ const REQUEST: &str =
 Authorization: Basic dXNlcjphYmM=\r\n\r\n\
 <?xml version='1.0'?><methodCall><methodName>supervisor.getAPIVersion</methodName><params></params></methodCall>";
 
-fn place_said(alloc: Global, place: &Place, host: &str) -> Result<String, AllocError> {
-    match place {
-        Place::Inet(name, port) => {
-            let (name, port) = (name.as_str(), *port);
-            format!(in alloc; "inet {name} {port} {host}")
-        }
-        Place::Unix(path) => {
-            let path = path.as_str();
-            format!(in alloc; "unix {path} {host}")
-        }
-    }
-}
-
-fn place_text(rt: &impl Abort, alloc: Global, url: &str) -> String {
+fn place_text(alloc: Global, url: &str) -> Result<String, AllocError> {
     let host = host_of(url);
-    let text = match place_of(alloc, url).expect(rt, "ample memory") {
-        Some(place) => place_said(alloc, &place, host),
+    match place_of(alloc, url)? {
+        Some(Place::Inet(name, port)) => {
+            let name = name.as_str();
+            Ok(format!(in alloc; "inet {name} {port} {host}")?)
+        }
+        Some(Place::Unix(path)) => {
+            let path = path.as_str();
+            Ok(format!(in alloc; "unix {path} {host}")?)
+        }
         None => String::from_str(alloc, "none"),
-    };
-    text.expect(rt, "ample memory")
-}
-
-/// A URL has the place and the Host that its line says.
-fn url_is(rt: &impl Abort, alloc: Global, line: &str) {
-    let (url, expected) = line.split_once("=>").expect(rt, "two cells");
-    let text = place_text(rt, alloc, url);
-    assert_eq!(rt; text.as_str(), expected, "{url}");
+    }
 }
 
 #[test]
 fn urls_have_their_places(rt: HostRuntime) {
     for line in URLS.lines() {
-        url_is(&rt, rt.alloc(), line);
+        let (url, expected) = line.split_once("=>").expect(&rt, "two cells");
+        let text = place_text(rt.alloc(), url).expect(&rt, "ample memory");
+        assert_eq!(&rt; text.as_str(), expected, "{url}");
     }
 }
 
-/// What a letter of a stream stands for, if not for itself.
-fn part_of(letter: u8) -> Option<&'static str> {
-    match letter {
-        b'~' => Some("\r\n"),
-        b'$' => Some(VALUE),
-        b'%' => Some(FAULT),
-        b'#' => Some("HTTP/1.1 200 OK\r\nContent-Length: "),
-        _ => None,
-    }
-}
-
-fn stream_of(rt: &impl Abort, alloc: Global, text: &str) -> Vec<u8> {
+fn stream_of(alloc: Global, text: &str) -> Result<Vec<u8>, AllocError> {
     let mut bytes = Vec::new(alloc);
     for byte in text.as_bytes() {
-        match part_of(*byte) {
-            Some(part) => bytes
-                .extend_from_slice(part.as_bytes())
-                .expect(rt, "ample memory"),
-            None => bytes.push(*byte).expect(rt, "ample memory"),
-        }
+        let part: &str = match *byte {
+            b'~' => "\r\n",
+            b'$' => VALUE,
+            b'%' => FAULT,
+            b'#' => "HTTP/1.1 200 OK\r\nContent-Length: ",
+            _ => {
+                bytes.push(*byte)?;
+                continue;
+            }
+        };
+        bytes.extend_from_slice(part.as_bytes())?;
     }
-    bytes
+    Ok(bytes)
 }
 
-fn outcome(rt: &impl Abort, alloc: Global, answer: Result<Answered, AskFault>) -> String {
-    let text = match answer {
+fn outcome(alloc: Global, answer: Result<Answered, AskFault>) -> Result<String, AllocError> {
+    match answer {
         Ok(Answered::Value(Value::Text(_))) => String::from_str(alloc, "value"),
         Ok(Answered::Value(_)) => String::from_str(alloc, "another value"),
-        Ok(Answered::Fault(number, _)) => format!(in alloc; "fault {number}"),
-        Err(fault) => fault_said(alloc, fault),
-    };
-    text.expect(rt, "ample memory")
-}
-
-fn fault_said(alloc: Global, fault: AskFault) -> Result<String, AllocError> {
-    match fault {
-        AskFault::Refused => String::from_str(alloc, "refused"),
-        AskFault::LinkFailed => String::from_str(alloc, "broke off"),
-        AskFault::Ended => String::from_str(alloc, "ended"),
-        AskFault::BadReply => String::from_str(alloc, "bad"),
-        AskFault::Status(status) => format!(in alloc; "status {status}"),
-        AskFault::OutOfMemory => Err(AllocError),
+        Ok(Answered::Fault(number, _)) => Ok(format!(in alloc; "fault {number}")?),
+        Err(AskFault::Refused) => String::from_str(alloc, "refused"),
+        Err(AskFault::LinkFailed) => String::from_str(alloc, "broke off"),
+        Err(AskFault::Ended) => String::from_str(alloc, "ended"),
+        Err(AskFault::BadReply) => String::from_str(alloc, "bad"),
+        Err(AskFault::Status(status)) => Ok(format!(in alloc; "status {status}")?),
+        Err(AskFault::OutOfMemory) => Err(AllocError),
     }
 }
 
@@ -156,69 +131,60 @@ fn client() -> ClientSpec {
     }
 }
 
-fn calls_of(rt: &impl Abort, alloc: Global, call: u64) -> Vec<u64> {
+fn calls_of(alloc: Global, call: u64) -> Result<Vec<u64>, AllocError> {
     let mut calls = Vec::new(alloc);
     if 0 < call {
-        calls.push(call).expect(rt, "ample memory");
+        calls.push(call)?;
     }
-    calls
+    Ok(calls)
 }
 
 /// A dial with one link, which gives this stream, at most `most` bytes in each call; of the link the call of this number
 /// fails, and of the dial that of that number.
 fn dial_of(
-    rt: &impl Abort,
     alloc: Global,
     text: &str,
     most: usize,
     link: u64,
     dial: u64,
-) -> ScriptDial
+) -> Result<ScriptDial, AllocError>
     requires { 1 ≤ most }
 {
-    let stream = stream_of(rt, alloc, text);
-    let script = Script::new(stream, most, calls_of(rt, alloc, link));
+    let script = Script::new(stream_of(alloc, text)?, most, calls_of(alloc, link)?);
     let mut scripts = VecDeque::new(alloc);
-    scripts.push_back(script).expect(rt, "ample memory");
-    ScriptDial::new(alloc, scripts, calls_of(rt, alloc, dial))
+    scripts.push_back(script)?;
+    Ok(ScriptDial::new(alloc, scripts, calls_of(alloc, dial)?))
 }
 
 /// What a call over the dial comes to.
-fn told(rt: &impl Abort, alloc: Global, dial: &mut ScriptDial) -> String {
+fn told(alloc: Global, dial: &mut ScriptDial) -> Result<String, AllocError> {
     let place = Place::Inet(Text::fixed("h"), 9001);
     let call = Call {
         method: Text::fixed("supervisor.getAPIVersion"),
         params: Vec::new(alloc),
     };
     let answer = ask_server(alloc, dial, &place, &client(), &call);
-    outcome(rt, alloc, answer)
-}
-
-/// What was sent over the one link of the dial.
-fn request_is_sent(rt: &impl Abort, dial: &ScriptDial, line: &str) {
-    match dial.exchanges() {
-        [exchange] => assert!(rt; exchange.sent.as_slice() == REQUEST.as_bytes(), "{line}"),
-        _ => assert!(rt; false, "the link was given back"),
-    }
-}
-
-/// A stream that comes so many bytes at a time at most comes to what its line says.
-fn reply_is(rt: &impl Abort, alloc: Global, line: &str, most: usize)
-    requires { 1 ≤ most }
-{
-    let (stream, expected) = line.split_once("=>").expect(rt, "two cells");
-    let mut dial = dial_of(rt, alloc, stream, most, 0, 0);
-    let text = told(rt, alloc, &mut dial);
-    assert_eq!(rt; text.as_str(), expected, "{line}");
-    assert!(rt; dial.faults() == 0);
-    request_is_sent(rt, &dial, line);
+    outcome(alloc, answer)
 }
 
 #[test]
 fn replies_come_to_this(rt: HostRuntime) {
     for line in REPLIES.lines() {
-        reply_is(&rt, rt.alloc(), line, 100_000);
-        reply_is(&rt, rt.alloc(), line, 1);
+        let (stream, expected) = line.split_once("=>").expect(&rt, "two cells");
+        for whole in [true, false] {
+            let most = if whole { 100_000 } else { 1 };
+            let mut dial = dial_of(rt.alloc(), stream, most, 0, 0).expect(&rt, "ample memory");
+            let text = told(rt.alloc(), &mut dial).expect(&rt, "ample memory");
+            assert_eq!(&rt; text.as_str(), expected, "{line}");
+            assert!(&rt; dial.faults() == 0);
+            match dial.exchanges() {
+                [exchange] => assert!(&rt;
+                    exchange.sent.as_slice() == REQUEST.as_bytes(),
+                    "{line}"
+                ),
+                _ => assert!(&rt; false, "the link was given back"),
+            }
+        }
     }
 }
 
@@ -231,18 +197,15 @@ const FAILURES: [(u64, u64, &str, u64); 5] = [
     (0, 1, "refused", 1),
 ];
 
-/// A call where one of the link or of the dial fails comes to what its line says.
-fn failure_is(rt: &impl Abort, alloc: Global, line: &(u64, u64, &str, u64)) {
-    let (link, dials, expected, faults) = *line;
-    let mut dial = dial_of(rt, alloc, "#104~~$", 100_000, link, dials);
-    let text = told(rt, alloc, &mut dial);
-    assert_eq!(rt; text.as_str(), expected, "{link} {dials}");
-    assert!(rt; dial.faults() == faults);
-}
-
 #[test]
 fn failures_are_counted(rt: HostRuntime) {
-    for line in &FAILURES {
-        failure_is(&rt, rt.alloc(), line);
+    for (link, dials, expected, faults) in FAILURES {
+        let mut dial = dial_of(rt.alloc(), "#104~~$", 100_000, link, dials).expect(
+            &rt,
+            "ample memory",
+        );
+        let text = told(rt.alloc(), &mut dial).expect(&rt, "ample memory");
+        assert_eq!(&rt; text.as_str(), expected, "{link} {dials}");
+        assert!(&rt; dial.faults() == faults);
     }
 }

@@ -1,177 +1,153 @@
 //! Replies, written as short texts.
 ghost use Rattle.std.specs.Prelude.{◌≤◌};
 
-use std::alloc::Global;
+use std::alloc::{AllocError, Global};
 use std::collections::VecDeque;
-use std::process::Abort;
 use sv_out::{Script, ScriptDial};
 
-fn put(rt: &impl Abort, out: &mut String, text: &str) {
-    out.push_str(text).expect(rt, "ample memory");
-}
-
 /// A value: `true`, `false`, a number as `#` and its digits, a text as `'` and itself, the struct of a process's number as
-/// `@` and its digits, rows as `[` and processes as `{`, the parts of each with `/` between them and each with `;` after.
-fn put_value(rt: &impl Abort, out: &mut String, text: &str) {
-    match text {
-        "true" => put(rt, out, "<value><boolean>1</boolean></value>"),
-        "false" => put(rt, out, "<value><boolean>0</boolean></value>"),
-        text => put_other(rt, out, text),
+/// `@` and its digits, rows as `[` and processes as `{`, the parts of each with `/` between them and each with `;` behind.
+fn put_value(out: &mut String, text: &str) -> Result<(), AllocError> {
+    if text == "true" {
+        return out.push_str("<value><boolean>1</boolean></value>");
     }
-}
-
-/// A value that is no truth.
-fn put_other(rt: &impl Abort, out: &mut String, text: &str) {
+    if text == "false" {
+        return out.push_str("<value><boolean>0</boolean></value>");
+    }
     if let Some(digits) = text.strip_prefix('#') {
-        return put_typed(rt, out, "int", digits);
+        return put_typed(out, "int", digits);
     }
     if let Some(content) = text.strip_prefix('\'') {
-        return put_typed(rt, out, "string", content);
+        return put_typed(out, "string", content);
     }
     if let Some(digits) = text.strip_prefix('@') {
-        put(rt, out, "<value><struct>");
-        put_member(rt, out, "pid", "int", digits);
-        return put(rt, out, "</struct></value>");
+        out.push_str("<value><struct>")?;
+        put_member(out, "pid", "int", digits)?;
+        return out.push_str("</struct></value>");
     }
     if let Some(rows) = text.strip_prefix('[') {
-        return put_structs(rt, out, rows, "status", "int");
+        return put_structs(out, rows, "status", "int");
     }
     if let Some(processes) = text.strip_prefix('{') {
-        put_structs(rt, out, processes, "statename", "string");
+        return put_structs(out, processes, "statename", "string");
     }
+    Ok(())
 }
 
-fn put_typed(rt: &impl Abort, out: &mut String, tag: &str, content: &str) {
-    put(rt, out, "<value><");
-    put(rt, out, tag);
-    put(rt, out, ">");
-    put(rt, out, content);
-    put(rt, out, "</");
-    put(rt, out, tag);
-    put(rt, out, "></value>");
+fn put_typed(out: &mut String, tag: &str, content: &str) -> Result<(), AllocError> {
+    out.push_str("<value><")?;
+    out.push_str(tag)?;
+    out.push('>')?;
+    out.push_str(content)?;
+    out.push_str("</")?;
+    out.push_str(tag)?;
+    out.push_str("></value>")
 }
 
-fn put_member(rt: &impl Abort, out: &mut String, name: &str, tag: &str, content: &str) {
-    put(rt, out, "<member><name>");
-    put(rt, out, name);
-    put(rt, out, "</name>");
-    put_typed(rt, out, tag, content);
-    put(rt, out, "</member>");
+fn put_member(out: &mut String, name: &str, tag: &str, content: &str) -> Result<(), AllocError> {
+    out.push_str("<member><name>")?;
+    out.push_str(name)?;
+    out.push_str("</name>")?;
+    put_typed(out, tag, content)?;
+    out.push_str("</member>")
 }
 
-fn put_structs(rt: &impl Abort, out: &mut String, text: &str, third: &str, tag: &str) {
-    put(rt, out, "<value><array><data>");
+fn put_structs(out: &mut String, text: &str, third: &str, tag: &str) -> Result<(), AllocError> {
+    out.push_str("<value><array><data>")?;
     for part in text.split(';') {
         if !part.is_empty() {
-            put_struct(rt, out, part, third, tag);
+            put_struct(out, part, third, tag)?;
         }
     }
-    put(rt, out, "</data></array></value>");
+    out.push_str("</data></array></value>")
 }
 
 /// A group, a name, a third member and what is said of it.
-fn put_struct(rt: &impl Abort, out: &mut String, text: &str, third: &str, tag: &str) {
-    put(rt, out, "<value><struct>");
+fn put_struct(out: &mut String, text: &str, third: &str, tag: &str) -> Result<(), AllocError> {
+    out.push_str("<value><struct>")?;
     let mut parts = text.strip_suffix('/').unwrap_or(text).split('/');
-    put_part(rt, out, "group", "string", parts.next());
-    put_part(rt, out, "name", "string", parts.next());
-    put_part(rt, out, third, tag, parts.next());
-    put_part(rt, out, "description", "string", parts.next());
-    put(rt, out, "</struct></value>");
+    put_part(out, "group", "string", parts.next())?;
+    put_part(out, "name", "string", parts.next())?;
+    put_part(out, third, tag, parts.next())?;
+    put_part(out, "description", "string", parts.next())?;
+    out.push_str("</struct></value>")
 }
 
 /// A member, where something is said of it.
-fn put_part(rt: &impl Abort, out: &mut String, name: &str, tag: &str, part: Option<&str>) {
-    if let Some(part) = part {
-        put_member(rt, out, name, tag, part);
+fn put_part(out: &mut String, name: &str, tag: &str, part: Option<&str>) -> Result<(), AllocError> {
+    match part {
+        Some(part) => put_member(out, name, tag, part),
+        None => Ok(()),
     }
 }
 
-fn body_of(rt: &impl Abort, alloc: Global, text: &str) -> String {
-    let mut out = String::new(alloc);
-    put(rt, &mut out, "<methodResponse>");
+fn body_of(alloc: Global, text: &str) -> Result<String, AllocError> {
+    let mut out = String::from_str(alloc, "<methodResponse>")?;
     match text.strip_prefix('!') {
-        Some(number) => put_fault(rt, &mut out, number),
+        Some(number) => {
+            out.push_str("<fault><value><struct>")?;
+            put_member(&mut out, "faultCode", "int", number)?;
+            put_member(&mut out, "faultString", "string", "x")?;
+            out.push_str("</struct></value></fault>")?;
+        }
         None => {
-            put(rt, &mut out, "<params><param>");
-            put_value(rt, &mut out, text);
-            put(rt, &mut out, "</param></params>");
+            out.push_str("<params><param>")?;
+            put_value(&mut out, text)?;
+            out.push_str("</param></params>")?;
         }
     }
-    put(rt, &mut out, "</methodResponse>");
-    out
+    out.push_str("</methodResponse>")?;
+    Ok(out)
 }
 
-fn put_fault(rt: &impl Abort, out: &mut String, number: &str) {
-    put(rt, out, "<fault><value><struct>");
-    put_member(rt, out, "faultCode", "int", number);
-    put_member(rt, out, "faultString", "string", "x");
-    put(rt, out, "</struct></value></fault>");
-}
-
-/// The bytes of a reply: a body with status 200, or a status after `?`, or after `=` the bytes themselves, in which `^`
+/// The bytes of a reply: a body with status 200, or a status behind `?`, or after `=` the bytes themselves, in which `^`
 /// stands for CR LF.
-pub(crate) fn reply_of(rt: &impl Abort, alloc: Global, text: &str) -> String {
+pub(crate) fn reply_of(alloc: Global, text: &str) -> Result<String, AllocError> {
     if let Some(raw) = text.strip_prefix('=') {
-        return raw_of(rt, alloc, raw);
+        let mut out = String::new(alloc);
+        for part in raw.chars() {
+            match part {
+                '^' => out.push_str("\r\n")?,
+                part => out.push(part)?,
+            }
+        }
+        return Ok(out);
     }
     if let Some(status) = text.strip_prefix('?') {
-        let reply = format!(in alloc; "HTTP/1.1 {status} No\r\nContent-Length: 0\r\n\r\n");
-        return reply.expect(rt, "ample memory");
+        return Ok(format!(in alloc; "HTTP/1.1 {status} No\r\nContent-Length: 0\r\n\r\n")?);
     }
-    let body = body_of(rt, alloc, text);
+    let body = body_of(alloc, text)?;
     let size = body.as_str().len();
-    let reply = format!(in alloc; "HTTP/1.1 200 OK\r\nContent-Length: {size}\r\n\r\n{body}");
-    reply.expect(rt, "ample memory")
+    Ok(format!(in alloc; "HTTP/1.1 200 OK\r\nContent-Length: {size}\r\n\r\n{body}")?)
 }
 
-fn raw_of(rt: &impl Abort, alloc: Global, raw: &str) -> String {
-    let mut out = String::new(alloc);
-    for part in raw.chars() {
-        match part {
-            '^' => put(rt, &mut out, "\r\n"),
-            part => out.push(part).expect(rt, "ample memory"),
-        }
-    }
-    out
-}
-
-/// The script of a link that gives a reply, of which the call of this number fails.
-fn script_of(rt: &impl Abort, alloc: Global, reply: &str, most: usize, call: u64) -> Script
-    requires { 1 ≤ most }
-{
-    let reply = reply_of(rt, alloc, reply);
-    let bytes = Vec::from_slice(alloc, reply.as_str().as_bytes()).expect(rt, "ample memory");
-    Script::new(bytes, most, one_call(rt, alloc, call))
-}
-
-/// A dial whose links give the replies of a text in turn, each after a bar, so many bytes at a time at most. The calls of
+/// A dial whose links give the replies of a text in turn, each behind a bar, so many bytes at a time at most. The calls of
 /// the dial and those of each link that are to fail are told by their numbers.
 pub(crate) fn dial_of(
-    rt: &impl Abort,
     alloc: Global,
     replies: &str,
     most: usize,
     dials: u64,
     links: u64,
-) -> ScriptDial
+) -> Result<ScriptDial, AllocError>
     requires { 1 ≤ most }
 {
     let mut scripts = VecDeque::new(alloc);
     for part in replies.split('|') {
         if !part.is_empty() {
-            let script = script_of(rt, alloc, part, most, links);
-            scripts.push_back(script).expect(rt, "ample memory");
+            let reply = reply_of(alloc, part)?;
+            let bytes = Vec::from_slice(alloc, reply.as_str().as_bytes())?;
+            scripts.push_back(Script::new(bytes, most, one_call(alloc, links)?))?;
         }
     }
-    ScriptDial::new(alloc, scripts, one_call(rt, alloc, dials))
+    Ok(ScriptDial::new(alloc, scripts, one_call(alloc, dials)?))
 }
 
 /// A list of one call, or of none where its number is 0.
-pub(crate) fn one_call(rt: &impl Abort, alloc: Global, call: u64) -> Vec<u64> {
+pub(crate) fn one_call(alloc: Global, call: u64) -> Result<Vec<u64>, AllocError> {
     let mut calls = Vec::new(alloc);
     if 0 < call {
-        calls.push(call).expect(rt, "ample memory");
+        calls.push(call)?;
     }
-    calls
+    Ok(calls)
 }

@@ -48,28 +48,19 @@ const TEXTS: [Text; 4] = [
     },
 ];
 
-fn put(rt: &impl Abort, text: &mut String, part: &str) {
-    text.push_str(part).expect(rt, "ample memory");
-}
-
-fn written(rt: &impl Abort, alloc: Global, text: &Text) -> String {
-    let mut all = String::from_str(alloc, text.head).expect(rt, "ample memory");
+fn written(alloc: Global, text: &Text) -> Result<String, AllocError> {
+    let mut all = String::from_str(alloc, text.head)?;
     for number in 10_000..text.past {
-        let number = format!(in alloc; "{number}").expect(rt, "ample memory");
-        put_block(rt, &mut all, text.block, number.as_str());
-    }
-    all
-}
-
-/// Adds a block with this number in the place of each `#`.
-fn put_block(rt: &impl Abort, all: &mut String, block: &str, number: &str) {
-    for letter in block.chars() {
-        if letter == '#' {
-            put(rt, all, number);
-        } else {
-            all.push(letter).expect(rt, "ample memory");
+        let number = format!(in alloc; "{number}")?;
+        for letter in text.block.chars() {
+            if letter == '#' {
+                all.push_str(number.as_str())?;
+            } else {
+                all.push(letter)?;
+            }
         }
     }
+    Ok(all)
 }
 
 fn keys_of(sections: &[Section]) -> usize {
@@ -80,62 +71,46 @@ fn keys_of(sections: &[Section]) -> usize {
     keys
 }
 
-fn told(rt: &impl Abort, alloc: Global, sections: &[Section]) -> String {
+fn told(alloc: Global, sections: &[Section]) -> Result<String, AllocError> {
     let count = sections.len();
     let keys = keys_of(sections);
-    let mut text = format!(in alloc; "{count} sections, {keys} keys").expect(rt, "ample memory");
+    let mut text = format!(in alloc; "{count} sections, {keys} keys")?;
     if let Some(section) = sections.last() {
-        put_last(rt, &mut text, section);
+        text.push_str(", [")?;
+        text.push_str(section.name.as_str())?;
+        text.push_str("] ")?;
+        if let Some(entry) = section.keys.as_slice().last() {
+            text.push_str(entry.0.as_str())?;
+            text.push('=')?;
+            text.push_str(entry.1.as_str())?;
+        }
     }
-    text
+    Ok(text)
 }
 
-/// Adds the name of the last section and its last key.
-fn put_last(rt: &impl Abort, text: &mut String, section: &Section) {
-    put(rt, text, ", [");
-    put(rt, text, section.name.as_str());
-    put(rt, text, "] ");
-    if let Some(entry) = section.keys.as_slice().last() {
-        put(rt, text, entry.0.as_str());
-        put(rt, text, "=");
-        put(rt, text, entry.1.as_str());
-    }
-}
-
-fn said(rt: &impl Abort, alloc: Global, bytes: &[u8]) -> String {
+fn said(alloc: Global, bytes: &[u8]) -> Result<String, AllocError> {
     match sections(alloc, bytes) {
-        Ok(sections) => told(rt, alloc, sections.as_slice()),
-        Err(fault) => fault_said(alloc, fault).expect(rt, "ample memory"),
-    }
-}
-
-fn fault_said(alloc: Global, fault: IniFault) -> Result<String, AllocError> {
-    match fault {
-        IniFault::OutOfMemory => Err(AllocError),
-        fault => format!(in alloc; "{fault}"),
+        Ok(sections) => told(alloc, sections.as_slice()),
+        Err(IniFault::OutOfMemory) => Err(AllocError),
+        Err(fault) => format!(in alloc; "{fault}"),
     }
 }
 
 fn says(rt: &impl Abort, alloc: Global, text: &str, expected: &str) {
-    let said = said(rt, alloc, text.as_bytes());
+    let said = said(alloc, text.as_bytes()).expect(rt, "ample memory");
     assert_eq!(rt; said.as_str(), expected);
 }
 
 #[test]
 fn texts_of_the_most_bytes_and_of_one_more(rt: HostRuntime) {
     let alloc = rt.alloc();
-    for row in &TEXTS {
-        most_and_one_more(&rt, alloc, row);
+    for row in TEXTS {
+        let mut text = written(alloc, &row).expect(&rt, "ample memory");
+        assert_eq!(rt; text.as_str().len(), 1_048_576);
+        says(&rt, alloc, text.as_str(), row.expected);
+        text.push('\n').expect(&rt, "ample memory");
+        says(&rt, alloc, text.as_str(), "4 TooLong");
     }
-}
-
-/// The text says what is expected, and with one more byte that it is too long.
-fn most_and_one_more(rt: &impl Abort, alloc: Global, row: &Text) {
-    let mut text = written(rt, alloc, row);
-    assert_eq!(rt; text.as_str().len(), 1_048_576);
-    says(rt, alloc, text.as_str(), row.expected);
-    put(rt, &mut text, "\n");
-    says(rt, alloc, text.as_str(), "4 TooLong");
 }
 
 /// One value over 131,071 further lines.
@@ -144,18 +119,16 @@ fn a_value_of_the_most_lines(rt: HostRuntime) {
     let alloc = rt.alloc();
     let mut text = String::from_str(alloc, "[a]\nk=v\n").expect(&rt, "ample memory");
     for _ in 0..131_071 {
-        put(&rt, &mut text, " x12345\n");
+        text.push_str(" x12345\n").expect(&rt, "ample memory");
     }
     assert_eq!(rt; text.as_str().len(), 1_048_576);
     match sections(alloc, text.as_str().as_bytes()) {
-        Ok(sections) => has_the_whole_value(&rt, sections.as_slice()),
+        Ok(sections) => {
+            let section = sections.as_slice().last().expect(&rt, "a section");
+            let entry = section.keys.as_slice().last().expect(&rt, "a key");
+            // one byte, then a line feed and six bytes for each further line
+            assert_eq!(rt; entry.1.as_str().len(), 917_498);
+        }
         Err(_) => assert!(rt; false, "sections"),
     }
-}
-
-fn has_the_whole_value(rt: &impl Abort, sections: &[Section]) {
-    let section = sections.last().expect(rt, "a section");
-    let entry = section.keys.as_slice().last().expect(rt, "a key");
-    // one byte, then a line feed and six bytes for each further line
-    assert_eq!(rt; entry.1.as_str().len(), 917_498);
 }

@@ -140,70 +140,60 @@ const SAMPLE_SECTIONS: &str =
     "[unix_http_server]file=/tmp/supervisor.sock|[inet_http_server]port=127.0.0.1:9001|username=user|password=123|[supervisord]logfile=/tmp/supervisord.log|logfile_maxbytes=50MB|logfile_backups=10|loglevel=info|pidfile=/tmp/supervisord.pid|nodaemon=false|minfds=1024|minprocs=200|[rpcinterface:supervisor]supervisor.rpcinterface_factory=supervisor.rpcinterface:make_main_rpcinterface|[supervisorctl]serverurl=unix:///tmp/supervisor.sock|[program:cat]command=/bin/cat|priority=10|[program:web]command=/usr/bin/web --port=80%(process_num)02d|process_name=%(program_name)s_%(process_num)02d|numprocs=2|autorestart=true|[eventlistener:mem]command=memmon -a 200MB|events=TICK_60|[group:front]programs=web|priority=20|[include]files=conf.d/*.ini|";
 
 /// The bytes that a cell of the table stands for.
-fn cell(rt: &impl Abort, alloc: Global, cell: &str) -> String {
+fn cell(alloc: Global, cell: &str) -> Result<String, AllocError> {
     let mut text = String::new(alloc);
     for letter in cell.chars() {
-        let letter = match letter {
+        text.push(match letter {
             '~' => '\n',
             '^' => '\r',
             '`' => '\t',
             '@' => '\0',
             _ => letter,
-        };
-        text.push(letter).expect(rt, "ample memory");
+        })?;
     }
-    text
+    Ok(text)
 }
 
 /// The sections as the table writes them.
-fn told(rt: &impl Abort, alloc: Global, sections: &[Section]) -> String {
+fn told(alloc: Global, sections: &[Section]) -> Result<String, AllocError> {
     let mut text = String::new(alloc);
     for section in sections {
-        tell(rt, &mut text, section);
+        tell(&mut text, section)?;
     }
-    text
+    Ok(text)
 }
 
-fn tell(rt: &impl Abort, text: &mut String, section: &Section) {
-    put(rt, text, "[");
-    put(rt, text, section.name.as_str());
-    put(rt, text, "]");
+fn tell(text: &mut String, section: &Section) -> Result<(), AllocError> {
+    text.push('[')?;
+    text.push_str(section.name.as_str())?;
+    text.push(']')?;
     for entry in section.keys.as_slice() {
-        put(rt, text, entry.0.as_str());
-        put(rt, text, "=");
-        put(rt, text, entry.1.as_str());
-        put(rt, text, "|");
+        text.push_str(entry.0.as_str())?;
+        text.push('=')?;
+        text.push_str(entry.1.as_str())?;
+        text.push('|')?;
     }
-}
-
-fn put(rt: &impl Abort, text: &mut String, part: &str) {
-    text.push_str(part).expect(rt, "ample memory");
+    Ok(())
 }
 
 /// What the bytes say, as the table writes it.
-fn said(rt: &impl Abort, alloc: Global, bytes: &[u8]) -> String {
+fn said(alloc: Global, bytes: &[u8]) -> Result<String, AllocError> {
     match sections(alloc, bytes) {
-        Ok(sections) => told(rt, alloc, sections.as_slice()),
-        Err(fault) => fault_said(alloc, fault).expect(rt, "ample memory"),
-    }
-}
-
-fn fault_said(alloc: Global, fault: IniFault) -> Result<String, AllocError> {
-    match fault {
-        IniFault::OutOfMemory => Err(AllocError),
-        fault => format!(in alloc; "{fault}"),
+        Ok(sections) => told(alloc, sections.as_slice()),
+        Err(IniFault::OutOfMemory) => Err(AllocError),
+        Err(fault) => format!(in alloc; "{fault}"),
     }
 }
 
 fn says(rt: &impl Abort, alloc: Global, bytes: &[u8], expected: &str) {
-    let said = said(rt, alloc, bytes);
+    let said = said(alloc, bytes).expect(rt, "ample memory");
     assert_eq!(rt; said.as_str(), expected);
 }
 
 fn row(rt: &impl Abort, alloc: Global, row: &str) {
     let (text, expected) = row.split_once(" => ").expect(rt, "two cells");
-    let text = cell(rt, alloc, text);
-    let expected = cell(rt, alloc, expected);
+    let text = cell(alloc, text).expect(rt, "ample memory");
+    let expected = cell(alloc, expected).expect(rt, "ample memory");
     says(rt, alloc, text.as_bytes(), expected.as_str());
 }
 
@@ -214,12 +204,6 @@ fn filled(rt: &impl Abort, alloc: Global, byte: u8, count: usize) -> Vec<u8> {
         bytes.push(byte).expect(rt, "ample memory");
     }
     bytes
-}
-
-/// What so many bytes say, all the same.
-fn filled_says(rt: &impl Abort, alloc: Global, byte: u8, count: usize, expected: &str) {
-    let bytes = filled(rt, alloc, byte, count);
-    says(rt, alloc, bytes.as_slice(), expected);
 }
 
 #[test]
@@ -244,8 +228,10 @@ fn texts_and_what_they_say(rt: HostRuntime) {
 #[test]
 fn sizes_and_numbers(rt: HostRuntime) {
     let alloc = rt.alloc();
-    filled_says(&rt, alloc, b'#', 1_048_576, "");
-    filled_says(&rt, alloc, 0xff, 1_048_577, "4 TooLong");
+    let most = filled(&rt, alloc, b'#', 1_048_576);
+    says(&rt, alloc, most.as_slice(), "");
+    let more = filled(&rt, alloc, 0xff, 1_048_577);
+    says(&rt, alloc, more.as_slice(), "4 TooLong");
     assert!(rt; IniFault::NotUtf8(0).number() == Some(1));
     assert!(rt; IniFault::BadLine(1).number() == Some(2));
     assert!(rt; IniFault::OutsideSection(1).number() == Some(3));

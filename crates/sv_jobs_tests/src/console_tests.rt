@@ -40,31 +40,21 @@ fn most_of(text: &str) -> usize
     }
 }
 
-/// A source of this input, a slash being a line feed.
-fn source_of(rt: &impl Abort, alloc: Global, input: &str, most: &str, failing: &str) -> ListSource {
+fn console_line<R: Abort + Wait>(rt: &R, alloc: Global, line: &str) {
+    let (input, rest) = line.split_once('|').expect(rt, "the input");
+    let (most, rest) = rest.split_once('|').expect(rt, "the most");
+    let (failing, rest) = rest.split_once('|').expect(rt, "the calls");
+    let (expected, end) = rest.split_once('|').expect(rt, "the notes");
     let mut bytes = bytes_of(rt, alloc, input);
     for byte in bytes.iter_mut() {
         if *byte == b'/' {
             *byte = b'\n';
         }
     }
-    ListSource::new(bytes, most_of(most), calls_of(rt, alloc, failing))
-}
-
-/// How the console of a source ends, and what it posts.
-fn heard<R: Abort + Wait>(rt: &R, alloc: Global, source: &mut ListSource) -> (PumpEnd, String) {
+    let mut source = ListSource::new(bytes, most_of(most), calls_of(rt, alloc, failing));
     let (mut taker, mut poster) = lane_of(rt, alloc);
-    let came = console(rt, alloc, source, &mut poster);
-    (came, notes_of(rt, alloc, &mut taker, &mut poster))
-}
-
-fn console_line<R: Abort + Wait>(rt: &R, alloc: Global, line: &str) {
-    let (input, rest) = line.split_once('|').expect(rt, "the input");
-    let (most, rest) = rest.split_once('|').expect(rt, "the most");
-    let (failing, rest) = rest.split_once('|').expect(rt, "the calls");
-    let (expected, end) = rest.split_once('|').expect(rt, "the notes");
-    let mut source = source_of(rt, alloc, input, most, failing);
-    let (came, notes) = heard(rt, alloc, &mut source);
+    let came = console(rt, alloc, &mut source, &mut poster);
+    let notes = notes_of(rt, alloc, &mut taker, &mut poster);
     if came == PumpEnd::OutOfMemory {
         assert!(rt; notes.as_str().ends_with("?"), "{line}");
         return;
@@ -84,7 +74,7 @@ fn a_console_posts_what_its_lines_ask_for(rt: HostRuntime) {
     }
 }
 
-/// A line `start` with a name of so many bytes, and after it a further line.
+/// A line `start` with a name of so many bytes, and behind it a further line.
 fn long_input(rt: &impl Abort, alloc: Global, count: usize) -> Vec<u8> {
     let mut bytes = bytes_of(rt, alloc, "start ");
     let name = Vec::from_elem(alloc, b'x', count).expect(rt, "ample memory");
@@ -109,8 +99,10 @@ fn a_line_has_at_most_4096_bytes(rt: HostRuntime) {
     ] {
         let input = long_input(&rt, alloc, count);
         let mut source = ListSource::new(input, most_of(most), Vec::new(alloc));
-        let (came, text) = heard(&rt, alloc, &mut source);
+        let (mut taker, mut poster) = lane_of(&rt, alloc);
+        let came = console(&rt, alloc, &mut source, &mut poster);
         assert!(rt; came == PumpEnd::Ended);
+        let text = notes_of(&rt, alloc, &mut taker, &mut poster);
         assert_eq!(rt; text.as_str().len(), notes, "{count} {most}");
     }
 }
@@ -125,7 +117,10 @@ fn a_line_that_is_no_text_is_passed_over(rt: HostRuntime) {
         }
     }
     let mut source = ListSource::new(bytes, 9, Vec::new(alloc));
-    let (came, text) = heard(&rt, alloc, &mut source);
-    assert!(rt; came == PumpEnd::Ended);
-    assert_eq!(rt; text.as_str(), "+c");
+    let (mut taker, mut poster) = lane_of(&rt, alloc);
+    assert!(rt; console(&rt, alloc, &mut source, &mut poster) == PumpEnd::Ended);
+    assert_eq!(rt;
+        notes_of(&rt, alloc, &mut taker, &mut poster).as_str(),
+        "+c"
+    );
 }

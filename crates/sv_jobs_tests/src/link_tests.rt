@@ -9,7 +9,7 @@ use std::process::Abort;
 use std::sync::Wait;
 use sv_base::{Bytes, LinkId, Place, Text};
 use sv_jobs::{LinkWord, Note, serve_link};
-use sv_lane::{Poster, Taker};
+use sv_lane::Poster;
 use sv_out::{Dial, Link, Script, ScriptDial, ScriptLink};
 use sv_outside::PumpEnd;
 
@@ -72,39 +72,6 @@ fn told(rt: &impl Abort, alloc: Global, link: ScriptLink) -> String {
     text
 }
 
-/// A link with these bytes, the most bytes of a call and the calls that fail.
-fn link_of(rt: &impl Abort, alloc: Global, bytes: Vec<u8>, most: usize, failing: &str) -> ScriptLink
-    requires { 1 ≤ most }
-{
-    let script = Script::new(bytes, most, calls_of(rt, alloc, failing));
-    ScriptLink::new(alloc, Place::Unix(Text::fixed("/s")), script)
-}
-
-/// Serves a link that gets these words.
-fn serve<R: Abort + Wait>(
-    rt: &R,
-    alloc: Global,
-    link: &mut ScriptLink,
-    poster: &mut Poster<Note>,
-    words: &str,
-) -> PumpEnd {
-    let (mut words_taker, mut words_poster) = lane_of(rt, alloc);
-    post_words(rt, alloc, &mut words_poster, words);
-    serve_link(rt, alloc, link, LinkId(7), poster, &mut words_taker)
-}
-
-/// How a link that gets these words ends, and what is posted.
-fn served<R: Abort + Wait>(
-    rt: &R,
-    alloc: Global,
-    link: &mut ScriptLink,
-    words: &str,
-) -> (PumpEnd, String) {
-    let (mut taker, mut poster) = lane_of(rt, alloc);
-    let came = serve(rt, alloc, link, &mut poster, words);
-    (came, notes_of(rt, alloc, &mut taker, &mut poster))
-}
-
 fn serve_line<R: Abort + Wait>(rt: &R, alloc: Global, line: &str) {
     let (bytes, rest) = line.split_once('|').expect(rt, "the bytes");
     let (most, rest) = rest.split_once('|').expect(rt, "the most");
@@ -112,9 +79,24 @@ fn serve_line<R: Abort + Wait>(rt: &R, alloc: Global, line: &str) {
     let (words, rest) = rest.split_once('|').expect(rt, "the words");
     let (expected, rest) = rest.split_once('|').expect(rt, "the notes");
     let (exchanged, end) = rest.rsplit_once('|').expect(rt, "what was exchanged");
-    let bytes = bytes_of(rt, alloc, bytes);
-    let mut link = link_of(rt, alloc, bytes, most_of(most), failing);
-    let (came, notes) = served(rt, alloc, &mut link, words);
+    let script = Script::new(
+        bytes_of(rt, alloc, bytes),
+        most_of(most),
+        calls_of(rt, alloc, failing),
+    );
+    let mut link = ScriptLink::new(alloc, Place::Unix(Text::fixed("/s")), script);
+    let (mut taker, mut poster) = lane_of(rt, alloc);
+    let (mut words_taker, mut words_poster) = lane_of(rt, alloc);
+    post_words(rt, alloc, &mut words_poster, words);
+    let came = serve_link(
+        rt,
+        alloc,
+        &mut link,
+        LinkId(7),
+        &mut poster,
+        &mut words_taker,
+    );
+    let notes = notes_of(rt, alloc, &mut taker, &mut poster);
     if came == PumpEnd::OutOfMemory {
         assert!(rt; notes.as_str().ends_with("? ."), "{line}");
         return;
@@ -132,10 +114,26 @@ fn a_link_is_served_word_by_word(rt: HostRuntime) {
     }
 }
 
-/// Hears pieces that grow, and then the end.
-fn hear_pieces<R: Abort + Wait>(rt: &R, taker: &mut Taker<Note>) {
+#[test]
+fn pieces_of_a_link_grow_while_reads_fill_them(rt: HostRuntime) {
+    let alloc = rt.alloc();
+    let bytes = Vec::from_elem(alloc, b'x', 200_000).expect(&rt, "ample memory");
+    let script = Script::new(bytes, 65_536, Vec::new(alloc));
+    let mut link = ScriptLink::new(alloc, Place::Unix(Text::fixed("/s")), script);
+    let (mut taker, mut poster) = lane_of(&rt, alloc);
+    let (mut words_taker, mut words_poster) = lane_of(&rt, alloc);
+    post_words(&rt, alloc, &mut words_poster, "+ + + + + + + .");
+    let came = serve_link(
+        &rt,
+        alloc,
+        &mut link,
+        LinkId(7),
+        &mut poster,
+        &mut words_taker,
+    );
+    assert!(rt; came == PumpEnd::Ended);
     for expected in [4_096, 8_192, 16_384, 32_768, 65_536, 65_536, 7_488] {
-        match taker.take(rt) {
+        match taker.take(&rt) {
             Note::Piece(number, piece) => {
                 assert!(rt; number == LinkId(7));
                 assert_eq!(rt; piece.as_slice().len(), expected);
@@ -143,16 +141,5 @@ fn hear_pieces<R: Abort + Wait>(rt: &R, taker: &mut Taker<Note>) {
             note => assert!(rt; false, "{note:?}"),
         }
     }
-    assert!(rt; matches!(taker.take(rt), Note::LinkEnd(LinkId(7))));
-}
-
-#[test]
-fn pieces_of_a_link_grow_while_reads_fill_them(rt: HostRuntime) {
-    let alloc = rt.alloc();
-    let bytes = Vec::from_elem(alloc, b'x', 200_000).expect(&rt, "ample memory");
-    let mut link = link_of(&rt, alloc, bytes, 65_536, "");
-    let (mut taker, mut poster) = lane_of(&rt, alloc);
-    let came = serve(&rt, alloc, &mut link, &mut poster, "+ + + + + + + .");
-    assert!(rt; came == PumpEnd::Ended);
-    hear_pieces(&rt, &mut taker);
+    assert!(rt; matches!(taker.take(&rt), Note::LinkEnd(LinkId(7))));
 }

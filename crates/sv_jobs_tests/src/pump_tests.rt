@@ -8,7 +8,6 @@ use std::process::Abort;
 use std::sync::Wait;
 use sv_base::{Run, Stream};
 use sv_jobs::{Note, pump};
-use sv_lane::Taker;
 use sv_out::source::ListSource;
 use sv_outside::PumpEnd;
 
@@ -37,13 +36,6 @@ fn most_of(text: &str) -> usize
     }
 }
 
-/// How the pump of a source ends, and what it posts.
-fn pumped<R: Abort + Wait>(rt: &R, alloc: Global, source: &mut ListSource) -> (PumpEnd, String) {
-    let (mut taker, mut poster) = lane_of(rt, alloc);
-    let came = pump(rt, alloc, source, Run(7), Stream::Err, &mut poster);
-    (came, notes_of(rt, alloc, &mut taker, &mut poster))
-}
-
 fn pump_line<R: Abort + Wait>(rt: &R, alloc: Global, line: &str) {
     let (bytes, rest) = line.split_once('|').expect(rt, "the bytes");
     let (most, rest) = rest.split_once('|').expect(rt, "the most");
@@ -54,7 +46,9 @@ fn pump_line<R: Abort + Wait>(rt: &R, alloc: Global, line: &str) {
         most_of(most),
         calls_of(rt, alloc, failing),
     );
-    let (came, notes) = pumped(rt, alloc, &mut source);
+    let (mut taker, mut poster) = lane_of(rt, alloc);
+    let came = pump(rt, alloc, &mut source, Run(7), Stream::Err, &mut poster);
+    let notes = notes_of(rt, alloc, &mut taker, &mut poster);
     if came == PumpEnd::OutOfMemory {
         assert!(rt; notes.as_str().ends_with("? ."), "{line}");
         return;
@@ -74,20 +68,6 @@ fn a_pump_posts_each_piece_and_the_end(rt: HostRuntime) {
     }
 }
 
-/// Hears pieces that grow, and then the end.
-fn hear_pieces<R: Abort + Wait>(rt: &R, taker: &mut Taker<Note>) {
-    for expected in [4_096, 8_192, 16_384, 32_768, 65_536, 65_536, 7_488] {
-        match taker.take(rt) {
-            Note::Out(run, stream, piece) => {
-                assert!(rt; run == Run(7) && stream == Stream::Out);
-                assert_eq!(rt; piece.as_slice().len(), expected);
-            }
-            note => assert!(rt; false, "{note:?}"),
-        }
-    }
-    assert!(rt; matches!(taker.take(rt), Note::OutEnd(Run(7), Stream::Out)));
-}
-
 #[test]
 fn pieces_grow_while_reads_fill_them(rt: HostRuntime) {
     let alloc = rt.alloc();
@@ -96,5 +76,14 @@ fn pieces_grow_while_reads_fill_them(rt: HostRuntime) {
     let (mut taker, mut poster) = lane_of(&rt, alloc);
     let came = pump(&rt, alloc, &mut source, Run(7), Stream::Out, &mut poster);
     assert!(rt; came == PumpEnd::Ended);
-    hear_pieces(&rt, &mut taker);
+    for expected in [4_096, 8_192, 16_384, 32_768, 65_536, 65_536, 7_488] {
+        match taker.take(&rt) {
+            Note::Out(run, stream, piece) => {
+                assert!(rt; run == Run(7) && stream == Stream::Out);
+                assert_eq!(rt; piece.as_slice().len(), expected);
+            }
+            note => assert!(rt; false, "{note:?}"),
+        }
+    }
+    assert!(rt; matches!(taker.take(&rt), Note::OutEnd(Run(7), Stream::Out)));
 }

@@ -7,7 +7,6 @@ use std::process::Abort;
 use std::sync::Wait;
 use sv_base::{ExitSignal, How, Moment, Place, Run, Side, Text};
 use sv_jobs::{Note, accept_links, ticker, watch};
-use sv_lane::{Poster, Taker};
 use sv_out::{Link, Script, ScriptLink};
 use sv_outside::{FixedClock, ScriptListen, ScriptWaiter};
 
@@ -62,41 +61,36 @@ const ACCEPTS: &str = "\
 123|o
 ";
 
-/// The notes of four accepts, whose links are posted at this seat.
-fn accept_four<R: Abort + Wait>(
-    rt: &R,
-    alloc: Global,
-    listen: &mut ScriptListen,
-    links: &mut Poster<ScriptLink>,
-) -> String {
+fn accept_line<R: Abort + Wait>(rt: &R, alloc: Global, line: &str) {
+    let (failing, expected) = line.split_once('|').expect(rt, "the calls");
+    let mut listen = ScriptListen::new(links_of(rt, alloc, "a b c"), calls_of(rt, alloc, failing));
     let (mut taker, mut poster) = lane_of(rt, alloc);
-    accept_links(rt, listen, Side::Inet, 4, &mut poster, links);
-    notes_of(rt, alloc, &mut taker, &mut poster)
-}
-
-/// The next links are the first ones of a, b and c, so many of them.
-fn hear_links<R: Abort + Wait>(rt: &R, links: &mut Taker<ScriptLink>, given: u64, line: &str) {
+    let (mut links_taker, mut links_poster) = lane_of(rt, alloc);
+    accept_links(
+        rt,
+        &mut listen,
+        Side::Inet,
+        4,
+        &mut poster,
+        &mut links_poster,
+    );
+    assert_eq!(rt;
+        notes_of(rt, alloc, &mut taker, &mut poster).as_str(),
+        expected,
+        "{line}"
+    );
+    assert_eq!(rt; listen.given().wrapping_add(listen.faults()), 4, "{line}");
     for (count, byte) in [b'a', b'b', b'c'].iter().enumerate() {
-        if count as u64 >= given {
+        if count as u64 >= listen.given() {
             break;
         }
-        let mut link = links.take(rt);
+        let mut link: ScriptLink = links_taker.take(rt);
         let mut buffer = [0u8; 2];
         assert!(rt;
             link.read(&mut buffer).is_ok() && buffer[0] == *byte,
             "{line}"
         );
     }
-}
-
-fn accept_line<R: Abort + Wait>(rt: &R, alloc: Global, line: &str) {
-    let (failing, expected) = line.split_once('|').expect(rt, "the calls");
-    let mut listen = ScriptListen::new(links_of(rt, alloc, "a b c"), calls_of(rt, alloc, failing));
-    let (mut taker, mut poster) = lane_of(rt, alloc);
-    let notes = accept_four(rt, alloc, &mut listen, &mut poster);
-    assert_eq!(rt; notes.as_str(), expected, "{line}");
-    assert_eq!(rt; listen.given().wrapping_add(listen.faults()), 4, "{line}");
-    hear_links(rt, &mut taker, listen.given(), line);
 }
 
 #[test]

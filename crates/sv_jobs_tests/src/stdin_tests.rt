@@ -48,31 +48,24 @@ fn post_words<R: Abort + Wait>(rt: &R, alloc: Global, poster: &mut Poster<StdinW
     }
 }
 
-/// How the writing of these words to a sink ends, and what is posted.
-fn written<R: Abort + Wait>(
-    rt: &R,
-    alloc: Global,
-    sink: &mut ListSink,
-    words: &str,
-) -> (PumpEnd, String) {
-    let (mut taker, mut poster) = lane_of(rt, alloc);
-    let (mut words_taker, mut words_poster) = lane_of(rt, alloc);
-    post_words(rt, alloc, &mut words_poster, words);
-    let came = write_stdin(rt, sink, Run(7), &mut poster, &mut words_taker);
-    (came, notes_of(rt, alloc, &mut taker, &mut poster))
-}
-
 fn write_line<R: Abort + Wait>(rt: &R, alloc: Global, line: &str) {
     let (words, rest) = line.split_once('|').expect(rt, "the words");
     let (most, rest) = rest.split_once('|').expect(rt, "the most");
     let (failing, rest) = rest.split_once('|').expect(rt, "the calls");
     let (expected, rest) = rest.split_once('|').expect(rt, "the notes");
-    let (taken, end) = rest.split_once('|').expect(rt, "what was written");
+    let (written, end) = rest.split_once('|').expect(rt, "what was written");
     let mut sink = ListSink::new(alloc, most_of(most), calls_of(rt, alloc, failing));
-    let (came, notes) = written(rt, alloc, &mut sink, words);
+    let (mut taker, mut poster) = lane_of(rt, alloc);
+    let (mut words_taker, mut words_poster) = lane_of(rt, alloc);
+    post_words(rt, alloc, &mut words_poster, words);
+    let came = write_stdin(rt, &mut sink, Run(7), &mut poster, &mut words_taker);
     assert_eq!(rt; letter(came), end, "{line}");
-    assert_eq!(rt; notes.as_str(), expected, "{line}");
-    assert!(rt; sink.written() == taken.as_bytes(), "{line}");
+    assert_eq!(rt;
+        notes_of(rt, alloc, &mut taker, &mut poster).as_str(),
+        expected,
+        "{line}"
+    );
+    assert!(rt; sink.written() == written.as_bytes(), "{line}");
     assert!(rt; (sink.faults() == 1) == (came == PumpEnd::Failed), "{line}");
 }
 

@@ -8,7 +8,7 @@ use sv_base::{Bytes, LinkId};
 use sv_gate::{Handed, Ready};
 use sv_job_types::{AnyJob, NoBoard};
 use sv_jobs::{LinkWord, Note};
-use sv_lane::{Seats, Taker, lane};
+use sv_lane::{Seats, lane};
 use sv_link_orders::LiveLinks;
 use sv_link_starts::start_link;
 use sv_out::Link;
@@ -166,18 +166,13 @@ fn the_17th_unwritten_send_fails(rt: HostRuntime) {
 /// The words to the job of the one link that a gate kept, up to its Close: `m` for a More, `s` for a Send, `.` for the
 /// Close.
 fn link_words<R: Abort + Wait>(rt: &R, alloc: Global, gate: TestGate) -> String {
-    let mut jobs = gate.into_gate().into_jobs();
-    match jobs.pop() {
-        Some(AnyJob::Link(mut job)) => taken_words(rt, alloc, &mut job.words),
-        _ => String::new(alloc),
-    }
-}
-
-/// The words of a lane up to a Close, by these letters.
-fn taken_words<R: Abort + Wait>(rt: &R, alloc: Global, words: &mut Taker<LinkWord>) -> String {
     let mut text = String::new(alloc);
+    let mut jobs = gate.into_gate().into_jobs();
+    let Some(AnyJob::Link(mut job)) = jobs.pop() else {
+        return text;
+    };
     for _ in 0..40 {
-        let letter = match words.take(rt) {
+        let letter = match job.words.take(rt) {
             LinkWord::More => 'm',
             LinkWord::Send(_) => 's',
             LinkWord::Close => '.',

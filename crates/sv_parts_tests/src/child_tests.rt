@@ -1,12 +1,12 @@
 //! Lives of a child, worked out by hand.
-use crate::plain::process;
 use std::alloc::Global;
 use std::process::Abort;
 use sv_base::ids::Run;
+use sv_base::items::Items;
 use sv_base::moment::Moment;
-use sv_base::number::{ExitSignal, Pid, Retries, Seconds, Tries};
+use sv_base::number::{Backups, CaptureBytes, ExitSignal, Pid, Retries, Seconds, Tries};
 use sv_base::signal::Signal;
-use sv_base::spec::Spec;
+use sv_base::spec::{LogSpec, Spec};
 use sv_base::state::{Autorestart, How, Mood, State};
 use sv_base::text::Text;
 use sv_child::{Child, ChildDeed, Edge, Step};
@@ -34,6 +34,16 @@ enum Wanted {
     Kills,
 }
 
+fn no_log() -> LogSpec {
+    LogSpec {
+        file: None,
+        maxbytes: 0,
+        backups: Backups::least(),
+        capture: CaptureBytes::least(),
+        events: false,
+    }
+}
+
 /// A program that expects the exit code 0 and is stopped by TERM.
 fn program(
     rt: &impl Abort,
@@ -42,13 +52,30 @@ fn program(
     autorestart: Autorestart,
     stopwaitsecs: u32,
 ) -> Spec {
-    let mut spec = process(alloc, "x", "x");
-    spec.exitcodes.push(0).expect(rt, "memory");
-    spec.startsecs = seconds(rt, start.0);
-    spec.startretries = Retries::new(start.1).expect(rt, "retries");
-    spec.autorestart = autorestart;
-    spec.stopwaitsecs = seconds(rt, stopwaitsecs);
-    spec
+    let mut exitcodes = Items::new(alloc);
+    exitcodes.push(0).expect(rt, "memory");
+    Spec {
+        group: Text::fixed("x"),
+        name: Text::fixed("x"),
+        words: Items::new(alloc),
+        priority: 999,
+        autostart: true,
+        startsecs: seconds(rt, start.0),
+        startretries: Retries::new(start.1).expect(rt, "retries"),
+        autorestart,
+        exitcodes,
+        stopsignal: Signal::Term,
+        stopwaitsecs: seconds(rt, stopwaitsecs),
+        stopasgroup: false,
+        killasgroup: false,
+        redirect_stderr: false,
+        stdout: no_log(),
+        stderr: no_log(),
+        environment: Items::new(alloc),
+        directory: Text::fixed(""),
+        umask: Text::fixed(""),
+        user: Text::fixed(""),
+    }
 }
 
 fn seconds(rt: &impl Abort, number: u32) -> Seconds {
@@ -270,30 +297,32 @@ const KILL_AT_EACH_DEADLINE: [(u64, Line, Wanted); 9] = [
     (5_600, Line::Tick, Wanted::Nothing),
 ];
 
-/// The first life of a child of this program.
-fn first_life(rt: &impl Abort, spec: Spec, life: &[(u64, Line, Wanted)], fault: &str) {
-    check(rt, &spec, Child::new(), life, fault);
-}
-
-/// The first life of a child of the usual program.
-fn usual_life(rt: &impl Abort, alloc: Global, life: &[(u64, Line, Wanted)], fault: &str) {
-    let usual = program(rt, alloc, (1, 3), Autorestart::Unexpected, 10);
-    first_life(rt, usual, life, fault);
-}
-
 #[test]
 fn lives(rt: HostRuntime) {
     let alloc = rt.alloc();
-    usual_life(&rt, alloc, &STARTS_STAYS_UP_AND_EXITS, "");
+    let usual = program(&rt, alloc, (1, 3), Autorestart::Unexpected, 10);
     let without_retries = program(&rt, alloc, (1, 0), Autorestart::Unexpected, 10);
-    first_life(&rt, without_retries, &FATAL_WITHOUT_RETRIES, "no room");
-    usual_life(&rt, alloc, &THREE_RETRIES_THEN_FATAL, TOO_QUICK);
     let up_at_once = program(&rt, alloc, (0, 3), Autorestart::Unexpected, 10);
-    first_life(&rt, up_at_once, &UP_AT_ONCE, "");
-    usual_life(&rt, alloc, &CLOCK_GOES_BACK, TOO_QUICK);
-    usual_life(&rt, alloc, &STOP_IN_BACKOFF, TOO_QUICK);
     let stubborn = program(&rt, alloc, (1, 3), Autorestart::Never, 2);
-    first_life(&rt, stubborn, &KILL_AT_EACH_DEADLINE, "");
+    check(&rt, &usual, Child::new(), &STARTS_STAYS_UP_AND_EXITS, "");
+    check(
+        &rt,
+        &without_retries,
+        Child::new(),
+        &FATAL_WITHOUT_RETRIES,
+        "no room",
+    );
+    check(
+        &rt,
+        &usual,
+        Child::new(),
+        &THREE_RETRIES_THEN_FATAL,
+        TOO_QUICK,
+    );
+    check(&rt, &up_at_once, Child::new(), &UP_AT_ONCE, "");
+    check(&rt, &usual, Child::new(), &CLOCK_GOES_BACK, TOO_QUICK);
+    check(&rt, &usual, Child::new(), &STOP_IN_BACKOFF, TOO_QUICK);
+    check(&rt, &stubborn, Child::new(), &KILL_AT_EACH_DEADLINE, "");
 }
 
 /// The last moment.
@@ -360,14 +389,9 @@ fn limits(rt: HostRuntime) {
         &MILLIONTH_TRY,
         "no room",
     );
-    is_counted_no_further(&rt, &spec);
-}
-
-/// One more failed start behind the last that is counted.
-fn is_counted_no_further(rt: &impl Abort, spec: &Spec) {
-    let mut child = child_in(rt, State::Starting, 1_000_001);
-    play(rt, spec, &mut child, at(rt, LAST), Line::Refused);
+    let mut child = child_in(&rt, State::Starting, 1_000_001);
+    play(&rt, &spec, &mut child, at(&rt, LAST), Line::Refused);
     assert!(rt; child.tries.get() == 1_000_001);
-    let deadline = child.deadline.expect(rt, "a deadline");
+    let deadline = child.deadline.expect(&rt, "a deadline");
     assert!(rt; deadline.milliseconds() == 253_001_000_001_000);
 }

@@ -12,16 +12,8 @@ use sv_events::{Event, Fact, Ticks, body, envelope};
 #[test]
 fn each_event_has_its_text(rt: HostRuntime) {
     let alloc = rt.alloc();
-    lives_have_their_texts(&rt, alloc);
-    ends_have_their_texts(&rt, alloc);
-    outputs_have_their_texts(&rt, alloc);
-    others_have_their_texts(&rt, alloc);
-}
-
-/// The states of a process that has not exited.
-fn lives_have_their_texts(rt: &impl Abort, alloc: Global) {
     check(
-        rt,
+        &rt,
         alloc,
         Kind::ProcessStateStarting,
         trying(State::Stopped, 0),
@@ -29,7 +21,7 @@ fn lives_have_their_texts(rt: &impl Abort, alloc: Global) {
         "ver:3.0 server:supervisor serial:21 pool:ear poolserial:10 eventname:PROCESS_STATE_STARTING len:57\n",
     );
     check(
-        rt,
+        &rt,
         alloc,
         Kind::ProcessStateBackoff,
         trying(State::Starting, 12),
@@ -37,7 +29,7 @@ fn lives_have_their_texts(rt: &impl Abort, alloc: Global) {
         "ver:3.0 server:supervisor serial:21 pool:ear poolserial:10 eventname:PROCESS_STATE_BACKOFF len:59\n",
     );
     check(
-        rt,
+        &rt,
         alloc,
         Kind::ProcessStateRunning,
         living(State::Starting, 2766),
@@ -45,19 +37,15 @@ fn lives_have_their_texts(rt: &impl Abort, alloc: Global) {
         "ver:3.0 server:supervisor serial:21 pool:ear poolserial:10 eventname:PROCESS_STATE_RUNNING len:59\n",
     );
     check(
-        rt,
+        &rt,
         alloc,
         Kind::ProcessStateStopped,
         living(State::Backoff, 0),
         "processname:cat groupname:pets from_state:BACKOFF pid:0",
         "ver:3.0 server:supervisor serial:21 pool:ear poolserial:10 eventname:PROCESS_STATE_STOPPED len:55\n",
     );
-}
-
-/// The states of one that has, or was given up.
-fn ends_have_their_texts(rt: &impl Abort, alloc: Global) {
     check(
-        rt,
+        &rt,
         alloc,
         Kind::ProcessStateExited,
         ended(true, 2766),
@@ -65,7 +53,7 @@ fn ends_have_their_texts(rt: &impl Abort, alloc: Global) {
         "ver:3.0 server:supervisor serial:21 pool:ear poolserial:10 eventname:PROCESS_STATE_EXITED len:69\n",
     );
     check(
-        rt,
+        &rt,
         alloc,
         Kind::ProcessStateExited,
         ended(false, 1),
@@ -73,58 +61,50 @@ fn ends_have_their_texts(rt: &impl Abort, alloc: Global) {
         "ver:3.0 server:supervisor serial:21 pool:ear poolserial:10 eventname:PROCESS_STATE_EXITED len:66\n",
     );
     check(
-        rt,
+        &rt,
         alloc,
         Kind::ProcessStateFatal,
         gave_up(),
         "processname:cat groupname:pets from_state:BACKOFF",
         "ver:3.0 server:supervisor serial:21 pool:ear poolserial:10 eventname:PROCESS_STATE_FATAL len:49\n",
     );
-}
-
-/// What a process wrote.
-fn outputs_have_their_texts(rt: &impl Abort, alloc: Global) {
     check(
-        rt,
+        &rt,
         alloc,
         Kind::ProcessCommunicationStdout,
-        communication(bytes(rt, alloc, "a\nb")),
+        communication(bytes(&rt, alloc, "a\nb")),
         "processname:cat groupname:pets pid:58597\na\nb",
         "ver:3.0 server:supervisor serial:21 pool:ear poolserial:10 eventname:PROCESS_COMMUNICATION_STDOUT len:44\n",
     );
     check(
-        rt,
+        &rt,
         alloc,
         Kind::ProcessLogStderr,
-        log(Stream::Err, bytes(rt, alloc, "oh")),
+        log(Stream::Err, bytes(&rt, alloc, "oh")),
         "processname:cat groupname:pets pid:58597 channel:stderr\noh",
         "ver:3.0 server:supervisor serial:21 pool:ear poolserial:10 eventname:PROCESS_LOG_STDERR len:58\n",
     );
     check(
-        rt,
+        &rt,
         alloc,
         Kind::ProcessLogStdout,
-        log(Stream::Out, bytes(rt, alloc, "")),
+        log(Stream::Out, bytes(&rt, alloc, "")),
         "processname:cat groupname:pets pid:58597 channel:stdout\n",
         "ver:3.0 server:supervisor serial:21 pool:ear poolserial:10 eventname:PROCESS_LOG_STDOUT len:56\n",
     );
-}
-
-/// What is no process's event.
-fn others_have_their_texts(rt: &impl Abort, alloc: Global) {
     check(
-        rt,
+        &rt,
         alloc,
         Kind::RemoteCommunication,
         Fact::Remote {
             sort: Text::fixed("news"),
-            bytes: bytes(rt, alloc, "x=1"),
+            bytes: bytes(&rt, alloc, "x=1"),
         },
         "type:news\nx=1",
         "ver:3.0 server:supervisor serial:21 pool:ear poolserial:10 eventname:REMOTE_COMMUNICATION len:13\n",
     );
     check(
-        rt,
+        &rt,
         alloc,
         Kind::Tick5,
         Fact::Tick { when: 1201063880 },
@@ -132,7 +112,7 @@ fn others_have_their_texts(rt: &impl Abort, alloc: Global) {
         "ver:3.0 server:supervisor serial:21 pool:ear poolserial:10 eventname:TICK_5 len:15\n",
     );
     check(
-        rt,
+        &rt,
         alloc,
         Kind::ProcessGroupAdded,
         Fact::GroupChange {
@@ -142,7 +122,7 @@ fn others_have_their_texts(rt: &impl Abort, alloc: Global) {
         "ver:3.0 server:supervisor serial:21 pool:ear poolserial:10 eventname:PROCESS_GROUP_ADDED len:15\n",
     );
     check(
-        rt,
+        &rt,
         alloc,
         Kind::SupervisorStateChangeRunning,
         Fact::Supervisor,
@@ -219,11 +199,7 @@ fn check(rt: &impl Abort, alloc: Global, kind: Kind, fact: Fact, text: &str, hea
         serial: 21,
         body,
     };
-    check_envelope(rt, alloc, &event, text, head);
-}
-
-fn check_envelope(rt: &impl Abort, alloc: Global, event: &Event, text: &str, head: &str) {
-    let whole = envelope(alloc, "supervisor", "ear", 10, event).expect(rt, "memory");
+    let whole = envelope(alloc, "supervisor", "ear", 10, &event).expect(rt, "memory");
     let wanted = format!(in alloc; "{head}{text}").expect(rt, "memory");
     assert!(rt;
         whole.as_slice() == wanted.as_bytes(),

@@ -1,14 +1,16 @@
 //! The events of a child's life along all edges of the diagram, written out by hand.
-use crate::plain::{alone, process};
 use std::alloc::Global;
 use std::process::Abort;
 use std::rt::HostRuntime;
-use sv_base::bytes::Bytes;
+use sv_base::config::{ClientSpec, Config};
+use sv_base::groups::Groups;
 use sv_base::ids::Run;
+use sv_base::items::Items;
 use sv_base::moment::Moment;
-use sv_base::number::{ExitSignal, Pid, Retries, Seconds};
-use sv_base::spec::Spec;
-use sv_base::state::{How, Mood, State};
+use sv_base::number::{Backups, CaptureBytes, ExitSignal, Pid, Retries, Seconds};
+use sv_base::signal::Signal;
+use sv_base::spec::{GroupSpec, LogSpec, Spec};
+use sv_base::state::{Autorestart, How, Level, Mood, State};
 use sv_base::text::Text;
 use sv_child::step::{Edge, Step};
 use sv_children::{Children, News, Told};
@@ -68,28 +70,16 @@ fn each_edge_has_its_event(rt: HostRuntime) {
     let mut second = 0u64;
     let mut run = 0u32;
     for line in LIFE.lines() {
-        if line.starts_with("pid") {
+        let (word, events) = line.split_once('|').unwrap_or((line, ""));
+        let now = moment(&rt, second);
+        let pid = pid_at(&children, 0);
+        if word.starts_with("pid") {
             run = run.saturating_add(1);
         }
-        let now = moment(&rt, second);
-        play(&rt, alloc, &mut children, line, run, now);
+        if let Some(step) = happen(&rt, &mut children, word, run, now) {
+            tells(&rt, alloc, &children, pid, step, events);
+        }
         second = second.saturating_add(1);
-    }
-}
-
-/// A line of the script happens, and gives its events.
-fn play(
-    rt: &impl Abort,
-    alloc: Global,
-    children: &mut Children,
-    line: &str,
-    run: u32,
-    now: Moment,
-) {
-    let (word, events) = line.split_once('|').unwrap_or((line, ""));
-    let pid = pid_at(children, 0);
-    if let Some(step) = happen(rt, children, word, run, now) {
-        tells(rt, alloc, children, pid, step, events);
     }
 }
 
@@ -126,14 +116,6 @@ fn tells(rt: &impl Abort, alloc: Global, children: &Children, pid: u32, step: St
     );
 }
 
-/// The body of an edge's event.
-fn body_at(rt: &impl Abort, alloc: Global, children: &Children, pid: u32, edge: Edge) -> Bytes {
-    let fact = fact_at(children, 0, pid, edge)
-        .expect(rt, "memory")
-        .expect(rt, "a child");
-    body(alloc, &fact).expect(rt, "memory")
-}
-
 /// Adds the event of an edge as the script writes it.
 fn tell(
     rt: &impl Abort,
@@ -143,7 +125,10 @@ fn tell(
     edge: Edge,
     told: &mut String,
 ) {
-    let bytes = body_at(rt, alloc, children, pid, edge);
+    let fact = fact_at(children, 0, pid, edge)
+        .expect(rt, "memory")
+        .expect(rt, "a child");
+    let bytes = body(alloc, &fact).expect(rt, "memory");
     let text = std::str::from_utf8(bytes.as_slice()).unwrap_or("");
     let kind = kind_of(edge.to).name();
     let kind = kind.strip_prefix("PROCESS_STATE_").unwrap_or("");
@@ -180,12 +165,13 @@ fn happen(
             children.answer(0, run, Told::NotStarted(fault), now)
         }
         "code" => {
-            let how = How::Code(u8::try_from(number).unwrap_or(255));
-            children.bring(0, &News::Exit(run, how), Mood::Running, now)
+            let news = News::Exit(run, How::Code(u8::try_from(number).unwrap_or(255)));
+            children.bring(0, &news, Mood::Running, now)
         }
         _ => {
-            let how = How::Signal(ExitSignal::new(number).expect(rt, "a signal"));
-            children.bring(0, &News::Exit(run, how), Mood::Running, now)
+            let signal = ExitSignal::new(number).expect(rt, "a signal");
+            let news = News::Exit(run, How::Signal(signal));
+            children.bring(0, &news, Mood::Running, now)
         }
     }
 }
@@ -194,19 +180,69 @@ fn moment(rt: &impl Abort, second: u64) -> Moment {
     Moment::new(second.saturating_mul(1000)).expect(rt, "a moment")
 }
 
+fn no_log() -> LogSpec {
+    LogSpec {
+        file: None,
+        maxbytes: 0,
+        backups: Backups::least(),
+        capture: CaptureBytes::least(),
+        events: false,
+    }
+}
+
 /// The process p, which says that it is of another group than its own.
-fn program(rt: &impl Abort, alloc: Global) -> Spec {
-    let mut spec = process(alloc, "other", "p");
-    spec.exitcodes.push(0).expect(rt, "memory");
-    spec.exitcodes.push(3).expect(rt, "memory");
-    spec.startsecs = Seconds::new(2).expect(rt, "seconds");
-    spec.startretries = Retries::new(1).expect(rt, "retries");
-    spec.stopwaitsecs = Seconds::new(10).expect(rt, "seconds");
-    spec
+fn process(rt: &impl Abort, alloc: Global) -> Spec {
+    let mut exitcodes = Items::new(alloc);
+    exitcodes.push(0).expect(rt, "memory");
+    exitcodes.push(3).expect(rt, "memory");
+    Spec {
+        group: Text::fixed("other"),
+        name: Text::fixed("p"),
+        words: Items::new(alloc),
+        priority: 999,
+        autostart: true,
+        startsecs: Seconds::new(2).expect(rt, "seconds"),
+        startretries: Retries::new(1).expect(rt, "retries"),
+        autorestart: Autorestart::Never,
+        exitcodes,
+        stopsignal: Signal::Term,
+        stopwaitsecs: Seconds::new(10).expect(rt, "seconds"),
+        stopasgroup: false,
+        killasgroup: false,
+        redirect_stderr: false,
+        stdout: no_log(),
+        stderr: no_log(),
+        environment: Items::new(alloc),
+        directory: Text::fixed(""),
+        umask: Text::fixed(""),
+        user: Text::fixed(""),
+    }
 }
 
 /// The process p alone in the group g.
 fn one_child(rt: &impl Abort, alloc: Global) -> Children {
-    let config = alone(rt, alloc, program(rt, alloc));
+    let mut members = Items::new(alloc);
+    members.push(process(rt, alloc)).expect(rt, "memory");
+    let mut groups = Vec::new(alloc);
+    let group = GroupSpec {
+        name: Text::fixed("g"),
+        priority: 999,
+        members,
+        pool: None,
+    };
+    groups.push(group).expect(rt, "memory");
+    let config = Config {
+        identifier: Text::fixed("sv"),
+        main: no_log(),
+        level: Level::Info,
+        groups: Groups::new(groups).expect(rt, "a roster"),
+        servers: Items::new(alloc),
+        client: ClientSpec {
+            url: Text::fixed(""),
+            username: Text::fixed(""),
+            password: Text::fixed(""),
+        },
+        rpc: false,
+    };
     Children::new(alloc, &config).expect(rt, "memory")
 }

@@ -1,18 +1,55 @@
 //! A roster's lookups, its orders, and what adding and removing answer, by hand.
 
-use crate::plain::{config, no_log, process};
 use std::alloc::Global;
 use std::process::Abort;
+use sv_base::config::{ClientSpec, Config};
 use sv_base::groups::{Groups, is_membership};
 use sv_base::ids::ChildId;
 use sv_base::items::Items;
-use sv_base::spec::GroupSpec;
-use sv_base::state::State;
+use sv_base::number::{Backups, CaptureBytes, Retries, Seconds};
+use sv_base::signal::Signal;
+use sv_base::spec::{GroupSpec, LogSpec, Spec};
+use sv_base::state::{Autorestart, Level, State};
 use sv_base::text::Text;
 use sv_child::child::Child;
 use sv_groups::{Found, GroupFault, Roster};
 
-/// A group of these processes with this priority.
+fn no_log() -> LogSpec {
+    LogSpec {
+        file: None,
+        maxbytes: 0,
+        backups: Backups::least(),
+        capture: CaptureBytes::least(),
+        events: false,
+    }
+}
+
+fn process(alloc: Global, group: &'static str, name: &'static str, priority: i32) -> Spec {
+    Spec {
+        group: Text::fixed(group),
+        name: Text::fixed(name),
+        words: Items::new(alloc),
+        priority,
+        autostart: true,
+        startsecs: Seconds::least(),
+        startretries: Retries::least(),
+        autorestart: Autorestart::Never,
+        exitcodes: Items::new(alloc),
+        stopsignal: Signal::Term,
+        stopwaitsecs: Seconds::least(),
+        stopasgroup: false,
+        killasgroup: false,
+        redirect_stderr: false,
+        stdout: no_log(),
+        stderr: no_log(),
+        environment: Items::new(alloc),
+        directory: Text::fixed(""),
+        umask: Text::fixed(""),
+        user: Text::fixed(""),
+    }
+}
+
+/// A group of these processes, which all have this priority.
 fn group(
     rt: &impl Abort,
     alloc: Global,
@@ -23,7 +60,7 @@ fn group(
     let mut specs = Items::new(alloc);
     for member in members {
         specs
-            .push(process(alloc, name, *member))
+            .push(process(alloc, name, *member, 999))
             .expect(rt, "memory");
     }
     GroupSpec {
@@ -42,10 +79,25 @@ fn numbered(rt: &impl Abort, alloc: Global, number: u32) -> GroupSpec {
     group
 }
 
+fn config(alloc: Global, groups: Groups) -> Config {
+    Config {
+        identifier: Text::fixed("supervisor"),
+        main: no_log(),
+        level: Level::Info,
+        groups,
+        servers: Items::new(alloc),
+        client: ClientSpec {
+            url: Text::fixed(""),
+            username: Text::fixed(""),
+            password: Text::fixed(""),
+        },
+        rpc: false,
+    }
+}
+
 fn roster(rt: &impl Abort, alloc: Global, groups: Vec<GroupSpec>) -> Roster {
     let groups = Groups::new(groups).expect(rt, "a roster");
-    let config = config(alloc, "supervisor", no_log(), groups);
-    Roster::new(alloc, &config).expect(rt, "memory")
+    Roster::new(alloc, &config(alloc, groups)).expect(rt, "memory")
 }
 
 /// Adds a group that keeps what adding asks for.
@@ -58,25 +110,6 @@ fn add(rt: &impl Abort, roster: &mut Roster, group: GroupSpec) -> Result<(), Gro
     roster.add_group(group)
 }
 
-/// So many children, of which the one of this place is in this state and the others never started.
-fn children(
-    rt: &impl Abort,
-    alloc: Global,
-    processes: usize,
-    place: usize,
-    state: State,
-) -> Vec<Child> {
-    let mut children = Vec::new(alloc);
-    for id in 0..processes {
-        let mut child = Child::new();
-        if id == place {
-            child.state = state;
-        }
-        children.push(child).expect(rt, "memory");
-    }
-    children
-}
-
 /// Removes a group where the child of this place is in this state and the others never started.
 fn remove(
     rt: &impl Abort,
@@ -86,27 +119,17 @@ fn remove(
     place: usize,
     state: State,
 ) -> Result<GroupSpec, GroupFault> {
-    let children = children(rt, alloc, roster.count(), place, state);
+    let mut children = Vec::new(alloc);
+    let processes = roster.count();
+    for id in 0..processes {
+        let mut child = Child::new();
+        if id == place {
+            child.state = state;
+        }
+        children.push(child).expect(rt, "memory");
+    }
     assert!(rt; children.as_slice().len() == roster.count());
     roster.remove_group(name, children.as_slice())
-}
-
-/// Adding the group succeeds.
-fn is_added(rt: &impl Abort, roster: &mut Roster, group: GroupSpec) {
-    let added = add(rt, roster, group);
-    assert!(rt; added.is_ok());
-}
-
-/// The group can't be added where there is one of its name.
-fn is_there_already(rt: &impl Abort, roster: &mut Roster, group: GroupSpec) {
-    let again = add(rt, roster, group);
-    assert!(rt; matches!(again, Err(GroupFault::Already)));
-}
-
-/// Removing the group succeeds where the child of this place runs.
-fn is_removed(rt: &impl Abort, alloc: Global, roster: &mut Roster, name: &str, place: usize) {
-    let removed = remove(rt, alloc, roster, name, place, State::Running);
-    assert!(rt; removed.is_ok());
 }
 
 /// The names of the groups, each with a space behind it.
@@ -183,22 +206,14 @@ fn lookup_and_order(rt: HostRuntime) {
     for (name, wanted) in FINDS {
         assert!(rt; roster.find(name) == wanted, "{name}");
     }
-    check_orders(&rt, alloc, &roster);
-    check_processes(&rt, &roster);
-}
-
-fn check_orders(rt: &impl Abort, alloc: Global, roster: &Roster) {
-    let starts = roster.start_order(alloc).expect(rt, "memory");
-    check_order(rt, starts, &[0, 1, 2, 3, 4]);
+    let starts = roster.start_order(alloc).expect(&rt, "memory");
+    check_order(&rt, starts, &[0, 1, 2, 3, 4]);
     assert!(rt; roster.groups().len() == 4);
-    let stops = roster.stop_order(alloc, 2).expect(rt, "memory");
-    check_order(rt, stops, &[3, 2]);
-}
-
-fn check_processes(rt: &impl Abort, roster: &Roster) {
-    check_process(rt, roster, 0, "mem", "mem");
-    check_process(rt, roster, 3, "front", "web_01");
-    check_process(rt, roster, 4, "tail", "tail");
+    let stops = roster.stop_order(alloc, 2).expect(&rt, "memory");
+    check_order(&rt, stops, &[3, 2]);
+    check_process(&rt, &roster, 0, "mem", "mem");
+    check_process(&rt, &roster, 3, "front", "web_01");
+    check_process(&rt, &roster, 4, "tail", "tail");
     assert!(rt; roster.process(5).is_none());
 }
 
@@ -206,25 +221,19 @@ fn check_processes(rt: &impl Abort, roster: &Roster) {
 fn refused_and_removed(rt: HostRuntime) {
     let alloc = rt.alloc();
     let mut roster = sample(&rt, alloc);
-    is_there_already(&rt, &mut roster, group(&rt, alloc, "cat", 5, &["cat"]));
-    no_group_is_removed(&rt, alloc, &mut roster);
-    no_running_group_is_removed(&rt, alloc, &mut roster);
+    let again = add(&rt, &mut roster, group(&rt, alloc, "cat", 5, &["cat"]));
+    assert!(rt; matches!(again, Err(GroupFault::Already)));
+    let none = remove(&rt, alloc, &mut roster, "none", 9, State::Running);
+    assert!(rt; matches!(none, Err(GroupFault::Unknown)));
+    let runs = remove(&rt, alloc, &mut roster, "front", 3, State::Stopping);
+    assert!(rt; matches!(runs, Err(GroupFault::StillRunning(ChildId(3)))));
     check_names(&rt, alloc, &roster, "mem cat front tail ");
-    is_removed(&rt, alloc, &mut roster, "front", 4);
+    let front = remove(&rt, alloc, &mut roster, "front", 4, State::Running);
+    assert!(rt; front.is_ok());
     check_names(&rt, alloc, &roster, "mem cat tail ");
     assert!(rt; roster.find("tail") == Found::One(ChildId(2)));
     check_process(&rt, &roster, 2, "tail", "tail");
     assert!(rt; roster.process(3).is_none());
-}
-
-fn no_group_is_removed(rt: &impl Abort, alloc: Global, roster: &mut Roster) {
-    let none = remove(rt, alloc, roster, "none", 9, State::Running);
-    assert!(rt; matches!(none, Err(GroupFault::Unknown)));
-}
-
-fn no_running_group_is_removed(rt: &impl Abort, alloc: Global, roster: &mut Roster) {
-    let runs = remove(rt, alloc, roster, "front", 3, State::Stopping);
-    assert!(rt; matches!(runs, Err(GroupFault::StillRunning(ChildId(3)))));
 }
 
 fn check_finds(rt: &impl Abort, roster: &Roster, wanted: &[(&str, Found)]) {
@@ -267,58 +276,47 @@ fn found_before_and_behind(rt: HostRuntime) {
     let alloc = rt.alloc();
     let mut roster = sample(&rt, alloc);
     let dog = group(&rt, alloc, "dog", 15, &["a", "web_00"]);
-    is_added(&rt, &mut roster, dog);
+    let added = add(&rt, &mut roster, dog);
+    assert!(rt; added.is_ok());
     check_finds(&rt, &roster, &FINDS_WITH);
-    refusals_change_nothing(&rt, alloc, &mut roster);
-    is_removed(&rt, alloc, &mut roster, "cat", 9);
-    check_finds(&rt, &roster, &FINDS_WITHOUT);
-    is_added(&rt, &mut roster, group(&rt, alloc, "cat", 10, &["cat"]));
-    check_finds(&rt, &roster, &FINDS_WITH);
-}
-
-/// Neither a group of a name that is there is added, nor one that runs removed.
-fn refusals_change_nothing(rt: &impl Abort, alloc: Global, roster: &mut Roster) {
-    let again = add(rt, roster, group(rt, alloc, "dog", 1, &["b"]));
+    let again = add(&rt, &mut roster, group(&rt, alloc, "dog", 1, &["b"]));
     assert!(rt; again.is_err());
-    let running = remove(rt, alloc, roster, "cat", 1, State::Running);
+    let running = remove(&rt, alloc, &mut roster, "cat", 1, State::Running);
     assert!(rt; running.is_err());
-    check_finds(rt, roster, &FINDS_WITH);
-}
-
-/// The names and priorities of groups that are added one by one.
-const ADDED: [(&str, i32); 6] = [
-    ("b", 7),
-    ("a", 7),
-    ("z", -3),
-    ("m", 999),
-    ("c", 7),
-    ("y", -2147483648),
-];
-
-/// Adds a group of two processes.
-fn add_two(rt: &impl Abort, alloc: Global, roster: &mut Roster, name: &'static str, priority: i32) {
-    let two = group(rt, alloc, name, priority, &["p", "q"]);
-    let answer = add(rt, roster, two);
-    assert!(rt; answer.is_ok(), "{name}");
-}
-
-/// Adds the group of this number.
-fn add_numbered(rt: &impl Abort, alloc: Global, roster: &mut Roster, number: u32) {
-    let answer = add(rt, roster, numbered(rt, alloc, number));
-    assert!(rt; answer.is_ok(), "{number}");
+    check_finds(&rt, &roster, &FINDS_WITH);
+    let cat = remove(&rt, alloc, &mut roster, "cat", 9, State::Running);
+    assert!(rt; cat.is_ok());
+    check_finds(&rt, &roster, &FINDS_WITHOUT);
+    let back = add(&rt, &mut roster, group(&rt, alloc, "cat", 10, &["cat"]));
+    assert!(rt; back.is_ok());
+    check_finds(&rt, &roster, &FINDS_WITH);
 }
 
 #[test]
 fn added_groups(rt: HostRuntime) {
     let alloc = rt.alloc();
     let mut roster = roster(&rt, alloc, Vec::new(alloc));
-    for (name, priority) in ADDED {
-        add_two(&rt, alloc, &mut roster, name, priority);
+    let added = [
+        ("b", 7),
+        ("a", 7),
+        ("z", -3),
+        ("m", 999),
+        ("c", 7),
+        ("y", -2147483648),
+    ];
+    for (name, priority) in added {
+        let answer = add(
+            &rt,
+            &mut roster,
+            group(&rt, alloc, name, priority, &["p", "q"]),
+        );
+        assert!(rt; answer.is_ok(), "{name}");
     }
     check_names(&rt, alloc, &roster, "y z a b c m ");
     assert!(rt; roster.find("b:q") == Found::One(ChildId(7)));
     for number in 6..256 {
-        add_numbered(&rt, alloc, &mut roster, number);
+        let answer = add(&rt, &mut roster, numbered(&rt, alloc, number));
+        assert!(rt; answer.is_ok(), "{number}");
     }
     assert!(rt; roster.groups().len() == 256);
     assert!(rt; roster.find("g255:p") == Found::One(ChildId(259)));

@@ -22,8 +22,6 @@ mod lines_tests;
 #[cfg(test)]
 mod logs_tests;
 #[cfg(test)]
-mod plain;
-#[cfg(test)]
 mod pool_tests;
 #[cfg(test)]
 mod pools_tests;

@@ -1,13 +1,16 @@
 //! The lines of a child's life along all edges of the diagram, and the other rows, written out by hand.
-use crate::plain::{alone, process};
-use std::alloc::Global;
+use std::alloc::{AllocError, Global};
 use std::process::Abort;
 use std::rt::HostRuntime;
+use sv_base::config::{ClientSpec, Config};
+use sv_base::groups::Groups;
 use sv_base::ids::Run;
+use sv_base::items::Items;
 use sv_base::moment::Moment;
-use sv_base::number::{ExitSignal, Pid, Retries, Seconds};
-use sv_base::spec::Spec;
-use sv_base::state::{How, Level, Mood};
+use sv_base::number::{Backups, CaptureBytes, ExitSignal, Pid, Retries, Seconds};
+use sv_base::signal::Signal;
+use sv_base::spec::{GroupSpec, LogSpec, Spec};
+use sv_base::state::{Autorestart, How, Level, Mood};
 use sv_base::text::Text;
 use sv_child::step::{Edge, Step};
 use sv_children::{Children, News, Told};
@@ -94,69 +97,51 @@ fn each_edge_has_its_line(rt: HostRuntime) {
 fn each_signal_is_named(rt: HostRuntime) {
     let alloc = rt.alloc();
     for (number, line) in ENDS {
-        is_named(&rt, alloc, number, line);
+        let mut children = one_child(&rt, alloc);
+        let now = moment(&rt, 0);
+        let how = How::Signal(ExitSignal::new(number).expect(&rt, "a signal"));
+        children.bring(0, &News::Time, Mood::Running, now);
+        children.answer(0, Run(1), Told::Started(pid_of(&rt, 7)), now);
+        children.bring(0, &News::Stop, Mood::Running, now);
+        comes(
+            &rt,
+            alloc,
+            &mut children,
+            &News::Exit(Run(1), how),
+            now,
+            line,
+        );
     }
-}
-
-/// A process that is to stop is ended by the signal of this number, and gives this line.
-fn is_named(rt: &impl Abort, alloc: Global, number: u32, line: &str) {
-    let mut children = one_child(rt, alloc);
-    let now = moment(rt, 0);
-    let how = How::Signal(ExitSignal::new(number).expect(rt, "a signal"));
-    children.bring(0, &News::Time, Mood::Running, now);
-    children.answer(0, Run(1), Told::Started(pid_of(rt, 7)), now);
-    children.bring(0, &News::Stop, Mood::Running, now);
-    comes(
-        rt,
-        alloc,
-        &mut children,
-        &News::Exit(Run(1), how),
-        now,
-        line,
-    );
 }
 
 #[test]
 fn other_rows(rt: HostRuntime) {
     let alloc = rt.alloc();
-    an_overflow_is_written(&rt, alloc);
+    let full = overflowed(alloc, &Text::fixed("G"), 18_446_744_073_709_551_615).expect(
+        &rt, "memory",
+    );
+    let now = moment(&rt, 1);
+    let bytes = written(alloc, Level::Error, now, &full)
+        .expect(&rt, "memory")
+        .expect(&rt, "a line");
+    let text = std::str::from_utf8(bytes.as_slice()).unwrap_or("");
+    assert_eq!(rt;
+        text,
+        "1970-01-01 00:00:01,000 ERRO pool G event buffer overflowed, discarding event 18446744073709551615\n"
+    );
+    assert!(rt;
+        written(alloc, Level::Critical, now, &full)
+            .expect(&rt, "memory")
+            .is_none()
+    );
     assert!(rt; is_written(Level::Blather, Level::Blather));
     assert!(rt; !is_written(Level::Blather, Level::Trace));
     assert!(rt; !is_written(Level::Info, Level::Warn));
     assert!(rt; is_written(Level::Critical, Level::Warn));
-    no_child_has_no_line(&rt, alloc);
-}
-
-/// The line of a full pool, which has the level of an error.
-fn an_overflow_is_written(rt: &impl Abort, alloc: Global) {
-    let pool = Text::fixed("G");
-    let full = overflowed(alloc, &pool, 18_446_744_073_709_551_615).expect(rt, "memory");
-    is_written_as(
-        rt,
-        alloc,
-        &full,
-        "1970-01-01 00:00:01,000 ERRO pool G event buffer overflowed, discarding event 18446744073709551615\n",
-    );
-    assert!(rt;
-        written(alloc, Level::Critical, moment(rt, 1), &full)
-            .expect(rt, "memory")
-            .is_none()
-    );
-}
-
-fn is_written_as(rt: &impl Abort, alloc: Global, line: &Line, wanted: &str) {
-    let bytes = written(alloc, Level::Error, moment(rt, 1), line)
-        .expect(rt, "memory")
-        .expect(rt, "a line");
-    let text = std::str::from_utf8(bytes.as_slice()).unwrap_or("");
-    assert_eq!(rt; text, wanted);
-}
-
-fn no_child_has_no_line(rt: &impl Abort, alloc: Global) {
-    let children = one_child(rt, alloc);
+    let children = one_child(&rt, alloc);
     assert!(rt;
         spawned_at(alloc, &children, 1, 7)
-            .expect(rt, "memory")
+            .expect(&rt, "memory")
             .is_none()
     );
 }
@@ -186,43 +171,22 @@ fn happens(
             let how = How::Signal(ExitSignal::new(number).expect(rt, "a signal"));
             comes(rt, alloc, children, &News::Exit(run, how), now, lines);
         }
-        "pid" => starts(rt, alloc, children, run, number, now, lines),
-        "refused" => is_refused(rt, alloc, children, run, now, lines),
+        "pid" => {
+            let step = children.answer(0, run, Told::Started(pid_of(rt, number)), now);
+            let mut told = String::new(alloc);
+            let line = spawned_at(alloc, children, 0, number).expect(rt, "memory");
+            push(rt, &mut told, line);
+            tell(rt, alloc, children, &None, step, &mut told);
+            assert_eq!(rt; told.as_str(), lines);
+        }
+        "refused" => {
+            let step = children.answer(0, run, Told::NotStarted(Text::fixed("no room")), now);
+            let mut told = String::new(alloc);
+            tell(rt, alloc, children, &None, step, &mut told);
+            assert_eq!(rt; told.as_str(), lines);
+        }
         _ => {}
     }
-}
-
-/// The child is started with a process of this number, and gives these lines.
-fn starts(
-    rt: &impl Abort,
-    alloc: Global,
-    children: &mut Children,
-    run: Run,
-    number: u32,
-    now: Moment,
-    lines: &str,
-) {
-    let step = children.answer(0, run, Told::Started(pid_of(rt, number)), now);
-    let mut told = String::new(alloc);
-    let line = spawned_at(alloc, children, 0, number).expect(rt, "memory");
-    push(rt, &mut told, line);
-    tell(rt, alloc, children, &None, step, &mut told);
-    assert_eq!(rt; told.as_str(), lines);
-}
-
-/// The child's start is refused, and gives these lines.
-fn is_refused(
-    rt: &impl Abort,
-    alloc: Global,
-    children: &mut Children,
-    run: Run,
-    now: Moment,
-    lines: &str,
-) {
-    let step = children.answer(0, run, Told::NotStarted(Text::fixed("no room")), now);
-    let mut told = String::new(alloc);
-    tell(rt, alloc, children, &None, step, &mut told);
-    assert_eq!(rt; told.as_str(), lines);
 }
 
 /// News come to the child, and give these lines.
@@ -266,21 +230,20 @@ fn tell(
 /// Adds a line behind those that are told.
 fn push(rt: &impl Abort, told: &mut String, line: Option<Line>) {
     if let Some(line) = line {
-        push_line(rt, told, &line);
+        push_line(told, &line).expect(rt, "memory");
     }
 }
 
-fn push_line(rt: &impl Abort, told: &mut String, line: &Line) {
+fn push_line(told: &mut String, line: &Line) -> Result<(), AllocError> {
     if !told.is_empty() {
-        told.push('|').expect(rt, "memory");
+        told.push('|')?;
     }
-    let level = match line.level {
+    told.push_str(match line.level {
         Level::Info => "I ",
         Level::Warn => "W ",
         _ => "? ",
-    };
-    told.push_str(level).expect(rt, "memory");
-    told.push_str(line.text.as_str()).expect(rt, "memory");
+    })?;
+    told.push_str(line.text.as_str())
 }
 
 fn pid_of(rt: &impl Abort, number: u32) -> Pid {
@@ -291,18 +254,68 @@ fn moment(rt: &impl Abort, second: u64) -> Moment {
     Moment::new(second.saturating_mul(1000)).expect(rt, "a moment")
 }
 
-fn program(rt: &impl Abort, alloc: Global) -> Spec {
-    let mut spec = process(alloc, "g", "p");
-    spec.exitcodes.push(0).expect(rt, "memory");
-    spec.exitcodes.push(3).expect(rt, "memory");
-    spec.startsecs = Seconds::new(2).expect(rt, "seconds");
-    spec.startretries = Retries::new(1).expect(rt, "retries");
-    spec.stopwaitsecs = Seconds::new(3).expect(rt, "seconds");
-    spec
+fn no_log() -> LogSpec {
+    LogSpec {
+        file: None,
+        maxbytes: 0,
+        backups: Backups::least(),
+        capture: CaptureBytes::least(),
+        events: false,
+    }
+}
+
+fn process(rt: &impl Abort, alloc: Global) -> Spec {
+    let mut exitcodes = Items::new(alloc);
+    exitcodes.push(0).expect(rt, "memory");
+    exitcodes.push(3).expect(rt, "memory");
+    Spec {
+        group: Text::fixed("g"),
+        name: Text::fixed("p"),
+        words: Items::new(alloc),
+        priority: 999,
+        autostart: true,
+        startsecs: Seconds::new(2).expect(rt, "seconds"),
+        startretries: Retries::new(1).expect(rt, "retries"),
+        autorestart: Autorestart::Never,
+        exitcodes,
+        stopsignal: Signal::Term,
+        stopwaitsecs: Seconds::new(3).expect(rt, "seconds"),
+        stopasgroup: false,
+        killasgroup: false,
+        redirect_stderr: false,
+        stdout: no_log(),
+        stderr: no_log(),
+        environment: Items::new(alloc),
+        directory: Text::fixed(""),
+        umask: Text::fixed(""),
+        user: Text::fixed(""),
+    }
 }
 
 /// The process p alone in the group g.
 fn one_child(rt: &impl Abort, alloc: Global) -> Children {
-    let config = alone(rt, alloc, program(rt, alloc));
+    let mut members = Items::new(alloc);
+    members.push(process(rt, alloc)).expect(rt, "memory");
+    let mut groups = Vec::new(alloc);
+    let group = GroupSpec {
+        name: Text::fixed("g"),
+        priority: 999,
+        members,
+        pool: None,
+    };
+    groups.push(group).expect(rt, "memory");
+    let config = Config {
+        identifier: Text::fixed("sv"),
+        main: no_log(),
+        level: Level::Info,
+        groups: Groups::new(groups).expect(rt, "a roster"),
+        servers: Items::new(alloc),
+        client: ClientSpec {
+            url: Text::fixed(""),
+            username: Text::fixed(""),
+            password: Text::fixed(""),
+        },
+        rpc: false,
+    };
     Children::new(alloc, &config).expect(rt, "memory")
 }

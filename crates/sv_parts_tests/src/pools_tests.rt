@@ -1,13 +1,15 @@
 //! Calls of a daemon's pools, and what they order, worked out by hand.
-use crate::plain::{config, no_log, process};
 use std::alloc::Global;
 use std::process::Abort;
+use sv_base::config::{ClientSpec, Config};
 use sv_base::groups::Groups;
 use sv_base::ids::{ChildId, Run};
 use sv_base::items::Items;
 use sv_base::kind::Kind;
-use sv_base::number::BufferSize;
-use sv_base::spec::{GroupSpec, PoolSpec};
+use sv_base::number::{Backups, BufferSize, CaptureBytes, Retries, Seconds};
+use sv_base::signal::Signal;
+use sv_base::spec::{GroupSpec, LogSpec, PoolSpec, Spec};
+use sv_base::state::{Autorestart, Level};
 use sv_base::text::Text;
 use sv_events::Fact;
 use sv_groups::Roster;
@@ -41,79 +43,40 @@ const HEADS: [(&str, &str, &str); 2] = [
 fn plays_scripts(rt: HostRuntime) {
     let alloc = rt.alloc();
     for script in SCRIPTS.lines() {
-        plays(&rt, alloc, script);
+        let roster = Roster::new(alloc, &config(&rt, alloc)).expect(&rt, "memory");
+        let mut pools = Pools::new(alloc, &roster).expect(&rt, "memory");
+        for word in script.split(' ') {
+            play(&rt, alloc, &mut pools, word);
+        }
     }
-}
-
-/// Makes the steps of a script.
-fn plays(rt: &impl Abort, alloc: Global, script: &str) {
-    let mut pools = new_pools(rt, alloc);
-    for word in script.split(' ') {
-        play(rt, alloc, &mut pools, word);
-    }
-}
-
-/// The pools of the groups, without events.
-fn new_pools(rt: &impl Abort, alloc: Global) -> Pools {
-    let config = config(alloc, "sv", no_log(), groups(rt, alloc));
-    let roster = Roster::new(alloc, &config).expect(rt, "memory");
-    Pools::new(alloc, &roster).expect(rt, "memory")
 }
 
 /// Makes one step of a script, and looks at what it orders.
 fn play(rt: &impl Abort, alloc: Global, pools: &mut Pools, word: &str) {
     let mut given = Vec::new(alloc);
-    step(rt, alloc, pools, word, &mut given);
-    check_orders(rt, alloc, given.as_slice(), word);
-}
-
-/// What the word of a script says behind its colon.
-fn wanted_of(word: &str) -> &str {
-    match word.split_once(':') {
-        Some((_, wanted)) => wanted,
-        None => "",
-    }
-}
-
-fn step(rt: &impl Abort, alloc: Global, pools: &mut Pools, word: &str, given: &mut Vec<Order>) {
-    let (step, _) = word.split_once(':').unwrap_or((word, ""));
+    let (step, wanted) = word.split_once(':').unwrap_or((word, ""));
     match step.as_bytes() {
         [b's'] => {
             let kind = Kind::SupervisorStateChangeRunning;
-            let done = pools.offer(alloc, kind, &Fact::Supervisor, given);
+            let done = pools.offer(alloc, kind, &Fact::Supervisor, &mut given);
             done.expect(rt, "memory");
         }
         [b't'] => {
-            let done = pools.offer(alloc, Kind::Tick5, &Fact::Tick { when: 5 }, given);
+            let done = pools.offer(alloc, Kind::Tick5, &Fact::Tick { when: 5 }, &mut given);
             done.expect(rt, "memory");
         }
-        [b'h', place] => hand(rt, alloc, pools, *place, word, given),
+        [b'h', place] => {
+            let run = Run(10 + u32::from(place.saturating_sub(b'0')));
+            let done = pools.hand_to(alloc, "sv", child(*place), run, &mut given);
+            let is_handed = done.expect(rt, "memory");
+            assert!(rt; is_handed != wanted.is_empty(), "handed in {word}");
+            assert!(rt; !is_handed || pools.holds(child(*place)), "held in {word}");
+        }
         [b'k', place] => pools.acknowledge(child(*place)),
-        [b'r', place] => pools.reject(child(*place), given).expect(rt, "memory"),
+        [b'r', place] => pools.reject(child(*place), &mut given).expect(rt, "memory"),
         _ => panic!(rt; "no step is {word}"),
     }
-}
-
-/// Hands to the process of this place, if it is to be handed anything.
-fn hand(
-    rt: &impl Abort,
-    alloc: Global,
-    pools: &mut Pools,
-    place: u8,
-    word: &str,
-    given: &mut Vec<Order>,
-) {
-    let run = Run(10 + u32::from(place.saturating_sub(b'0')));
-    let done = pools.hand_to(alloc, "sv", child(place), run, given);
-    let is_handed = done.expect(rt, "memory");
-    assert!(rt; is_handed != wanted_of(word).is_empty(), "handed in {word}");
-    assert!(rt; !is_handed || pools.holds(child(place)), "held in {word}");
-}
-
-/// Whether the step of this word ordered what it is to order.
-fn check_orders(rt: &impl Abort, alloc: Global, given: &[Order], word: &str) {
-    let wanted = wanted_of(word);
-    match given {
+    match given.as_slice() {
         [] => assert!(rt; wanted.is_empty(), "{word} orders nothing"),
         [order] => assert!(rt;
             told(rt, alloc, order).as_str() == wanted,
@@ -146,11 +109,14 @@ fn told(rt: &impl Abort, alloc: Global, order: &Order) -> String {
 /// The event that this envelope holds, as the scripts write it.
 fn written(rt: &impl Abort, alloc: Global, run: u32, text: &str) -> String {
     let pool = if run == 13 { "t" } else { "e" };
-    for head in HEADS {
+    for (letter, name, body) in HEADS {
         for serial in 0..3u8 {
             for poolserial in 0..3u8 {
-                if is_envelope(rt, alloc, text, pool, head, serial, poolserial) {
-                    let (letter, _, _) = head;
+                let length = body.len();
+                let whole = format!(in alloc;
+                    "ver:3.0 server:sv serial:{serial} pool:{pool} poolserial:{poolserial} eventname:{name} len:{length}\n{body}"
+                );
+                if whole.expect(rt, "memory").as_str() == text {
                     let told = format!(in alloc; "{run}>{letter}{serial}/{poolserial}");
                     return told.expect(rt, "memory");
                 }
@@ -160,22 +126,39 @@ fn written(rt: &impl Abort, alloc: Global, run: u32, text: &str) -> String {
     String::new(alloc)
 }
 
-/// Whether the text is the envelope of an event with these numbers.
-fn is_envelope(
-    rt: &impl Abort,
-    alloc: Global,
-    text: &str,
-    pool: &str,
-    head: (&str, &str, &str),
-    serial: u8,
-    poolserial: u8,
-) -> bool {
-    let (_, name, body) = head;
-    let length = body.len();
-    let whole = format!(in alloc;
-        "ver:3.0 server:sv serial:{serial} pool:{pool} poolserial:{poolserial} eventname:{name} len:{length}\n{body}"
-    );
-    whole.expect(rt, "memory").as_str() == text
+fn no_log() -> LogSpec {
+    LogSpec {
+        file: None,
+        maxbytes: 0,
+        backups: Backups::least(),
+        capture: CaptureBytes::least(),
+        events: false,
+    }
+}
+
+fn process(alloc: Global, group: &'static str, name: &'static str) -> Spec {
+    Spec {
+        group: Text::fixed(group),
+        name: Text::fixed(name),
+        words: Items::new(alloc),
+        priority: 999,
+        autostart: true,
+        startsecs: Seconds::least(),
+        startretries: Retries::least(),
+        autorestart: Autorestart::Never,
+        exitcodes: Items::new(alloc),
+        stopsignal: Signal::Term,
+        stopwaitsecs: Seconds::least(),
+        stopasgroup: false,
+        killasgroup: false,
+        redirect_stderr: false,
+        stdout: no_log(),
+        stderr: no_log(),
+        environment: Items::new(alloc),
+        directory: Text::fixed(""),
+        umask: Text::fixed(""),
+        user: Text::fixed(""),
+    }
 }
 
 /// A group of these processes, with a pool of this size for events of this type, if one is given.
@@ -192,16 +175,7 @@ fn group(
             .push(process(alloc, name, *member))
             .expect(rt, "memory");
     }
-    GroupSpec {
-        name: Text::fixed(name),
-        priority: 999,
-        members: specs,
-        pool: pool_of(rt, alloc, pool),
-    }
-}
-
-fn pool_of(rt: &impl Abort, alloc: Global, pool: Option<(Kind, u32)>) -> Option<PoolSpec> {
-    match pool {
+    let pool = match pool {
         Some((kind, buffer)) => {
             let mut kinds = Items::new(alloc);
             kinds.push(kind).expect(rt, "memory");
@@ -209,10 +183,16 @@ fn pool_of(rt: &impl Abort, alloc: Global, pool: Option<(Kind, u32)>) -> Option<
             Some(PoolSpec { kinds, buffer })
         }
         None => None,
+    };
+    GroupSpec {
+        name: Text::fixed(name),
+        priority: 999,
+        members: specs,
+        pool,
     }
 }
 
-fn groups(rt: &impl Abort, alloc: Global) -> Groups {
+fn config(rt: &impl Abort, alloc: Global) -> Config {
     let mut groups = Vec::new(alloc);
     groups
         .push(group(rt, alloc, "a", &["a"], None))
@@ -225,5 +205,17 @@ fn groups(rt: &impl Abort, alloc: Global) -> Groups {
     groups
         .push(group(rt, alloc, "t", &["t"], ticks))
         .expect(rt, "memory");
-    Groups::new(groups).expect(rt, "a roster")
+    Config {
+        identifier: Text::fixed("sv"),
+        main: no_log(),
+        level: Level::Info,
+        groups: Groups::new(groups).expect(rt, "a roster"),
+        servers: Items::new(alloc),
+        client: ClientSpec {
+            url: Text::fixed(""),
+            username: Text::fixed(""),
+            password: Text::fixed(""),
+        },
+        rpc: false,
+    }
 }

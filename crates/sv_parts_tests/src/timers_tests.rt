@@ -1,8 +1,7 @@
 //! Deadlines that were set and cleared, with who is due, worked out by hand.
 ghost use Rattle.std.specs.Prelude.{◌≡◌};
 
-use std::alloc::Global;
-use std::process::Abort;
+use std::alloc::{AllocError, Global};
 use sv_base::{ChildId, Deadline, Moment};
 use sv_timers::{Agenda, Due, Looked};
 
@@ -12,27 +11,21 @@ fn at(seconds: u8) -> Deadline {
 }
 
 /// Who is due at these seconds, of a table with room for three in its list.
-fn due_at(rt: &impl Abort, alloc: Global, due: &Due, seconds: u8) -> Vec<u32> {
-    let mut looked = Looked::new(alloc, 3).expect(rt, "memory");
+fn due_at(alloc: Global, due: &Due, seconds: u8) -> Result<Vec<u32>, AllocError> {
+    let mut looked = Looked::new(alloc, 3)?;
     let now = Moment::new(1_000 * u64::from(seconds)).unwrap_or(Moment::zero());
     due.settle(now, &mut looked);
     let mut numbers = Vec::new(alloc);
     for child in looked.children() {
-        numbers.push(child.0).expect(rt, "memory");
+        numbers.push(child.0)?;
     }
-    numbers
-}
-
-/// These children are due at these seconds.
-fn are_due(rt: &impl Abort, alloc: Global, due: &Due, seconds: u8, children: &[u32]) {
-    let found = due_at(rt, alloc, due, seconds);
-    assert!(rt; found.as_slice() == children, "after {seconds} seconds");
+    Ok(numbers)
 }
 
 #[test]
-fn the_due_come_in_start_order(rt: HostRuntime) {
+fn the_due_come_in_start_order(rt: HostRuntime) -> Result<(), AllocError> {
     let alloc = rt.alloc();
-    let mut due = Due::new(alloc, 5).expect(&rt, "memory");
+    let mut due = Due::new(alloc, 5)?;
     due.set(ChildId(4), at(250));
     due.set(ChildId(0), at(9));
     due.set(ChildId(2), at(7));
@@ -50,29 +43,35 @@ fn the_due_come_in_start_order(rt: HostRuntime) {
         (250, &[0, 2, 3]),
     ];
     for (seconds, children) in expected {
-        are_due(&rt, alloc, &due, seconds, children);
+        assert!(rt;
+            due_at(alloc, &due, seconds)?.as_slice() == children,
+            "after {seconds} seconds"
+        );
     }
+    Ok(())
 }
 
 #[test]
-fn a_list_counts_looks_past_its_room(rt: HostRuntime) {
+fn a_list_counts_looks_past_its_room(rt: HostRuntime) -> Result<(), AllocError> {
     let alloc = rt.alloc();
-    let mut due = Due::new(alloc, 3).expect(&rt, "memory");
+    let mut due = Due::new(alloc, 3)?;
     due.set(ChildId(0), at(0));
     due.set(ChildId(1), at(0));
     due.set(ChildId(2), at(0));
-    let mut looked = Looked::new(alloc, 2).expect(&rt, "memory");
+    let mut looked = Looked::new(alloc, 2)?;
     due.settle(Moment::zero(), &mut looked);
     assert!(rt; looked.children().len() == 2 && looked.looks() == 3);
     looked.forget();
     assert!(rt; looked.children().is_empty() && looked.looks() == 3);
+    Ok(())
 }
 
 #[test]
-fn no_children_are_never_due(rt: HostRuntime) {
-    let due = Due::new(rt.alloc(), 0).expect(&rt, "memory");
+fn no_children_are_never_due(rt: HostRuntime) -> Result<(), AllocError> {
+    let due = Due::new(rt.alloc(), 0)?;
     assert!(rt; due.earliest().is_none());
-    assert!(rt; due_at(&rt, rt.alloc(), &due, 255).is_empty());
+    assert!(rt; due_at(rt.alloc(), &due, 255)?.is_empty());
+    Ok(())
 }
 
 /// The number of the child that is next, and how many were looked at for it.
@@ -84,8 +83,8 @@ fn told(agenda: &mut Agenda, from: usize, now: Moment) -> (Option<u32>, usize)
 }
 
 #[test]
-fn the_due_are_told_one_by_one(rt: HostRuntime) {
-    let mut agenda = Agenda::new(rt.alloc(), 5).expect(&rt, "memory");
+fn the_due_are_told_one_by_one(rt: HostRuntime) -> Result<(), AllocError> {
+    let mut agenda = Agenda::new(rt.alloc(), 5)?;
     let now = Moment::zero();
     agenda.put(0, Some(at(0)));
     agenda.put(2, Some(at(0)));
@@ -96,4 +95,5 @@ fn the_due_are_told_one_by_one(rt: HostRuntime) {
     agenda.put(4, Some(at(250)));
     assert!(rt; told(&mut agenda, 3, now) == (Some(3), 2));
     assert!(rt; told(&mut agenda, 4, now) == (None, 0));
+    Ok(())
 }

@@ -200,24 +200,19 @@ fn a_kill_that_fails_costs_the_run_too(rt: HostRuntime) {
     assert_eq!(rt; words_of(&rt, alloc, gate).as_str(), "i");
 }
 
-/// The last job that a gate kept writes a standard input, which is closed.
-fn is_closed<R: Abort + Wait>(rt: &R, gate: TestGate) {
-    let mut jobs = gate.into_gate().into_jobs();
-    match jobs.pop() {
-        Some(AnyJob::Stdin(mut job)) => {
-            assert!(rt; matches!(job.words.take(rt), StdinWord::Close));
-        }
-        _ => assert!(rt; false),
-    }
-}
-
 #[test]
 fn where_a_job_comes_back_the_input_is_closed(rt: HostRuntime) {
     let alloc = rt.alloc();
     let mut runs = runs_of(&rt, alloc, &[]);
     let mut gate = gate_of(&rt, alloc, 1);
     assert!(rt; spawned(&rt, alloc, &mut runs, &mut gate, 5) == 'n');
-    is_closed(&rt, gate);
+    let mut jobs = gate.into_gate().into_jobs();
+    match jobs.pop() {
+        Some(AnyJob::Stdin(mut job)) => {
+            assert!(rt; matches!(job.words.take(&rt), StdinWord::Close));
+        }
+        _ => assert!(rt; false),
+    }
 }
 
 #[test]
