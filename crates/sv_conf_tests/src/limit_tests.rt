@@ -111,12 +111,12 @@ fn patterns_of_the_most_bytes_and_of_one_more(rt: HostRuntime) {
     assert!(rt; patterns.is_ok_and(|patterns| patterns.len() == 65_535));
     text.push('a').expect(&rt, "memory");
     match includes(rt.alloc(), text.as_str().as_bytes(), &host) {
-        Err(fault) => is_too_long(&rt, rt.alloc(), &fault),
+        Err(fault) => is_refused(&rt, rt.alloc(), &fault, TOO_LONG),
         Ok(_) => panic!(rt; "one byte too many"),
     }
 }
 
-fn is_too_long(rt: &impl Abort, alloc: Global, fault: &ConfFault) {
+fn is_refused(rt: &impl Abort, alloc: Global, fault: &ConfFault, wanted: &str) {
     let said = fault_said(rt, alloc, fault);
-    assert_eq!(rt; said.as_str(), TOO_LONG);
+    assert_eq!(rt; said.as_str(), wanted);
 }
