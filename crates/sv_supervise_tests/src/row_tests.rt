@@ -1,7 +1,7 @@
 //! Journals as daemons, whose own journals are replayed: the same orders both times.
 
 use crate::rows::{ROWS, Row};
-use std::alloc::Global;
+use std::alloc::{AllocError, Global};
 use std::process::Abort;
 use sv_base::{Bytes, Host, Items, Moment, Text};
 use sv_journal::{read_input, write_order};
@@ -27,97 +27,75 @@ fn host(rt: &impl Abort, alloc: Global, start: u64) -> Host {
     }
 }
 
-fn words(rt: &impl Abort, alloc: Global, words: &[&'static str]) -> Vec<Text> {
+fn words(alloc: Global, words: &[&'static str]) -> Result<Vec<Text>, AllocError> {
     let mut texts = Vec::new(alloc);
     for word in words {
-        texts.push(Text::fixed(word)).expect(rt, "memory");
+        texts.push(Text::fixed(word))?;
     }
-    texts
+    Ok(texts)
 }
 
-fn shelf(rt: &impl Abort, alloc: Global, conf: &str) -> MapShelf {
+fn shelf(alloc: Global, conf: &str) -> Result<MapShelf, AllocError> {
     let mut shelf = MapShelf::new(alloc, Vec::new(alloc));
-    let bytes = Bytes::from_slice(alloc, conf.as_bytes()).expect(rt, "memory");
-    shelf
-        .set(Text::fixed("/s.conf"), bytes)
-        .expect(rt, "memory");
-    shelf
+    let bytes = Bytes::from_slice(alloc, conf.as_bytes())?;
+    shelf.set(Text::fixed("/s.conf"), bytes)?;
+    Ok(shelf)
 }
 
-fn script(rt: &impl Abort, alloc: Global, lines: &str) -> Vec<Input> {
+fn script(rt: &impl Abort, alloc: Global, lines: &str) -> Result<Vec<Input>, AllocError> {
     let mut script = Vec::new(alloc);
     for line in lines.split('\n') {
         if !line.is_empty() {
-            let input = read_input(alloc, line.as_bytes()).expect(rt, "an input's line");
-            script.push(input).expect(rt, "memory");
+            script.push(read_input(alloc, line.as_bytes()).expect(rt, "an input's line"))?;
         }
     }
-    script
+    Ok(script)
 }
 
-fn text_of(rt: &impl Abort, alloc: Global, orders: &[Order]) -> String {
+fn text_of(alloc: Global, orders: &[Order]) -> Result<String, AllocError> {
     let mut text = String::new(alloc);
     for order in orders {
-        let line = write_order(alloc, order).expect(rt, "memory");
-        text.push_str(line.as_str()).expect(rt, "memory");
-        text.push('\n').expect(rt, "memory");
+        text.push_str(write_order(alloc, order)?.as_str())?;
+        text.push('\n')?;
     }
-    text
+    Ok(text)
 }
 
-fn sink(alloc: Global) -> ListSink {
-    ListSink::new(alloc, ROOM, Vec::new(alloc))
-}
-
-/// The status of the row's daemon.
-fn status_of(
-    rt: &impl Abort,
-    alloc: Global,
-    row: &Row,
-    world: &mut ScriptWorld,
-    journal: &mut ListSink,
-) -> u8 {
-    let words = words(rt, alloc, &["-c", "/s.conf", "--journal"]);
-    let mut shelf = shelf(rt, alloc, row.conf);
-    supervise(
+/// A daemon ends where its orders say, and hands over its orders; a replay of its journal writes their lines.
+fn run(rt: &impl Abort, alloc: Global, row: &Row) -> Result<(), AllocError> {
+    let mut world = ScriptWorld::new(alloc, script(rt, alloc, row.inputs)?, Vec::new(alloc));
+    let mut journal = ListSink::new(alloc, ROOM, Vec::new(alloc));
+    let mut out = ListSink::new(alloc, ROOM, Vec::new(alloc));
+    let status = supervise(
         alloc,
-        words.as_slice(),
+        words(alloc, &["-c", "/s.conf", "--journal"])?.as_slice(),
         &host(rt, alloc, row.start),
-        &mut shelf,
-        world,
-        journal,
-        &mut sink(alloc),
-    )
-}
-
-/// The row's daemon ends where its orders say, and hands over its orders: its journal.
-fn run(rt: &impl Abort, alloc: Global, row: &Row) -> ListSink {
-    let script = script(rt, alloc, row.inputs);
-    let mut world = ScriptWorld::new(alloc, script, Vec::new(alloc));
-    let mut journal = sink(alloc);
-    let status = status_of(rt, alloc, row, &mut world, &mut journal);
+        &mut shelf(alloc, row.conf)?,
+        &mut world,
+        &mut journal,
+        &mut out,
+    );
     let ends = row.orders.ends_with("halt\n");
     assert_eq!(rt; status, if ends { 0 } else { 5 }, "{}", row.name);
-    let handed = text_of(rt, alloc, world.handed());
+    let handed = text_of(alloc, world.handed())?;
     assert_eq!(rt; handed.as_str(), row.orders, "{}", row.name);
-    journal
-}
-
-/// A replay of the journal writes the lines of the row's orders.
-fn run_again(rt: &impl Abort, alloc: Global, row: &Row, journal: &ListSink) {
-    let bytes = Vec::from_slice(alloc, journal.written()).expect(rt, "memory");
+    let bytes = Vec::from_slice(alloc, journal.written())?;
     let mut source = ListSource::new(bytes, 4_096, Vec::new(alloc));
-    let mut lines = sink(alloc);
-    let words = words(rt, alloc, &["run"]);
-    let replayed = replay(alloc, words.as_slice(), &mut source, &mut lines);
+    let mut lines = ListSink::new(alloc, ROOM, Vec::new(alloc));
+    let replayed = replay(
+        alloc,
+        words(alloc, &["run"])?.as_slice(),
+        &mut source,
+        &mut lines,
+    );
     assert_eq!(rt; replayed, 0, "{}", row.name);
     assert!(rt; lines.written() == row.orders.as_bytes(), "{}", row.name);
+    Ok(())
 }
 
 #[test]
 fn daemons_do_what_their_journals_say(rt: HostRuntime) {
     for row in &ROWS {
-        let journal = run(&rt, rt.alloc(), row);
-        run_again(&rt, rt.alloc(), row, &journal);
+        run(&rt, rt.alloc(), row).expect(&rt, "ample memory");
     }
 }

@@ -1,7 +1,7 @@
 //! Daemons over worlds, shelves, journals and outputs in memory.
 
 use crate::courses::COURSES;
-use std::alloc::Global;
+use std::alloc::{AllocError, Global};
 use std::process::Abort;
 use sv_base::{Bytes, DaemonSignal, Host, Items, Moment, Signal, Text};
 use sv_out::MapShelf;
@@ -50,74 +50,61 @@ fn host(alloc: Global) -> Host {
     }
 }
 
-fn one_call(rt: &impl Abort, alloc: Global, call: u64) -> Vec<u64> {
+fn one_call(alloc: Global, call: u64) -> Result<Vec<u64>, AllocError> {
     let mut calls = Vec::new(alloc);
-    calls.push(call).expect(rt, "memory");
-    calls
+    calls.push(call)?;
+    Ok(calls)
 }
 
-/// Puts a file on the shelf.
-fn put(rt: &impl Abort, alloc: Global, shelf: &mut MapShelf, name: &str, text: &str) {
-    let bytes = Bytes::from_slice(alloc, text.as_bytes()).expect(rt, "memory");
-    let name = Text::from_str(alloc, name).expect(rt, "memory");
-    shelf.set(name, bytes).expect(rt, "memory");
-}
-
-fn shelf_of(rt: &impl Abort, alloc: Global, failing: u64) -> MapShelf {
-    let mut shelf = MapShelf::new(alloc, one_call(rt, alloc, failing));
+fn shelf_of(alloc: Global, failing: u64) -> Result<MapShelf, AllocError> {
+    let mut shelf = MapShelf::new(alloc, one_call(alloc, failing)?);
     for (name, text) in FILES {
-        put(rt, alloc, &mut shelf, name, text);
+        let bytes = Bytes::from_slice(alloc, text.as_bytes())?;
+        shelf.set(Text::from_str(alloc, name)?, bytes)?;
     }
-    shelf
+    Ok(shelf)
 }
 
-fn words_of(rt: &impl Abort, alloc: Global, text: &str) -> Vec<Text> {
+fn words_of(alloc: Global, text: &str) -> Result<Vec<Text>, AllocError> {
     let mut words = Vec::new(alloc);
     for word in text.split(' ') {
         if !word.is_empty() {
-            let word = Text::from_str(alloc, word).expect(rt, "memory");
-            words.push(word).expect(rt, "memory");
+            words.push(Text::from_str(alloc, word)?)?;
         }
     }
-    words
+    Ok(words)
 }
 
-fn input_of(rt: &impl Abort, letter: u8) -> Input {
-    let at = Moment::zero();
-    match letter {
-        b't' => Input::Tick { at },
-        b's' => Input::Signal {
-            at,
-            signal: DaemonSignal::new(Signal::Term).expect(rt, "a signal that the daemon takes"),
-        },
-        _ => Input::Failed(7),
-    }
-}
-
-fn script_of(rt: &impl Abort, alloc: Global, text: &str) -> Vec<Input> {
+fn script_of(rt: &impl Abort, alloc: Global, text: &str) -> Result<Vec<Input>, AllocError> {
     let mut script = Vec::new(alloc);
     for letter in text.as_bytes() {
-        script.push(input_of(rt, *letter)).expect(rt, "memory");
+        let at = Moment::zero();
+        script.push(match letter {
+            b't' => Input::Tick { at },
+            b's' => Input::Signal {
+                at,
+                signal: DaemonSignal::new(Signal::Term).expect(
+                    rt,
+                    "a signal that the daemon takes",
+                ),
+            },
+            _ => Input::Failed(7),
+        })?;
     }
-    script
+    Ok(script)
 }
 
 /// The text with line feeds for `~` and the header for `^`.
-fn written_out(rt: &impl Abort, alloc: Global, text: &str) -> String {
+fn written_out(alloc: Global, text: &str) -> Result<String, AllocError> {
     let mut out = String::new(alloc);
     for part in text.chars() {
         match part {
-            '~' => out.push('\n').expect(rt, "memory"),
-            '^' => out.push_str(HEADER).expect(rt, "memory"),
-            part => out.push(part).expect(rt, "memory"),
+            '~' => out.push('\n')?,
+            '^' => out.push_str(HEADER)?,
+            part => out.push(part)?,
         }
     }
-    out
-}
-
-/// A sink of which the write of this number fails.
-fn sink_of(rt: &impl Abort, alloc: Global, failing: u64) -> ListSink {
-    ListSink::new(alloc, 1_000, one_call(rt, alloc, failing))
+    Ok(out)
 }
 
 /// What a daemon came to.
@@ -129,66 +116,52 @@ struct Came {
     out: ListSink,
 }
 
-/// The status of a daemon with these words, over a shelf of which the call of this number fails.
-fn status_of(
+fn come(
     rt: &impl Abort,
     alloc: Global,
     words: &str,
-    failing: u64,
-    world: &mut ScriptWorld,
-    journal: &mut ListSink,
-    out: &mut ListSink,
-) -> u8 {
-    let words = words_of(rt, alloc, words);
-    let mut shelf = shelf_of(rt, alloc, failing);
-    supervise(
+    script: &str,
+    failing: [u64; 4],
+) -> Result<Came, AllocError> {
+    let [shelf, next, journal, out] = failing;
+    let words = words_of(alloc, words)?;
+    let mut shelf = shelf_of(alloc, shelf)?;
+    let script = script_of(rt, alloc, script)?;
+    let mut world = ScriptWorld::new(alloc, script, one_call(alloc, next)?);
+    let mut journal = ListSink::new(alloc, 1_000, one_call(alloc, journal)?);
+    let mut out = ListSink::new(alloc, 1_000, one_call(alloc, out)?);
+    let status = supervise(
         alloc,
         words.as_slice(),
         &host(alloc),
         &mut shelf,
-        world,
-        journal,
-        out,
-    )
-}
-
-fn world_of(rt: &impl Abort, alloc: Global, script: &str, failing: u64) -> ScriptWorld {
-    let script = script_of(rt, alloc, script);
-    ScriptWorld::new(alloc, script, one_call(rt, alloc, failing))
-}
-
-fn come(rt: &impl Abort, alloc: Global, words: &str, script: &str, failing: [u64; 4]) -> Came {
-    let [shelf, next, journal, out] = failing;
-    let mut world = world_of(rt, alloc, script, next);
-    let mut journal = sink_of(rt, alloc, journal);
-    let mut out = sink_of(rt, alloc, out);
-    let status = status_of(rt, alloc, words, shelf, &mut world, &mut journal, &mut out);
-    Came {
+        &mut world,
+        &mut journal,
+        &mut out,
+    );
+    Ok(Came {
         status,
         world,
         journal,
         out,
-    }
+    })
 }
 
 fn text_of(rt: &impl Abort, alloc: Global, bytes: &[u8]) -> String {
     String::from_utf8_lossy(alloc, bytes).expect(rt, "ample memory")
 }
 
-/// The sink was given just what this text stands for.
-fn was_given(rt: &impl Abort, alloc: Global, sink: &ListSink, text: &str) {
-    let said = text_of(rt, alloc, sink.written());
-    let text = written_out(rt, alloc, text);
-    assert_eq!(rt; said.as_str(), text.as_str());
-}
-
 #[test]
 fn a_daemon_comes_to_what_its_world_shelf_and_sinks_give(rt: HostRuntime) {
     for (failing, words, script, status, orders, out, journal) in COURSES {
-        let came = come(&rt, rt.alloc(), words, script, failing);
-        was_given(&rt, rt.alloc(), &came.out, out);
+        let out = written_out(rt.alloc(), out).expect(&rt, "ample memory");
+        let journal = written_out(rt.alloc(), journal).expect(&rt, "ample memory");
+        let came = come(&rt, rt.alloc(), words, script, failing).expect(&rt, "ample memory");
+        let said = text_of(&rt, rt.alloc(), came.out.written());
+        assert_eq!(&rt; said.as_str(), out.as_str());
         assert_eq!(&rt; came.status, status);
-        was_given(&rt, rt.alloc(), &came.journal, journal);
+        let wrote = text_of(&rt, rt.alloc(), came.journal.written());
+        assert_eq!(&rt; wrote.as_str(), journal.as_str());
         assert!(&rt; came.world.handed().len() == orders);
     }
 }
@@ -196,7 +169,7 @@ fn a_daemon_comes_to_what_its_world_shelf_and_sinks_give(rt: HostRuntime) {
 #[test]
 fn the_header_tells_of_includes_and_sizes(rt: HostRuntime) {
     let words = "-c /parts.conf --journal";
-    let came = come(&rt, rt.alloc(), words, "", [0, 0, 0, 0]);
+    let came = come(&rt, rt.alloc(), words, "", [0, 0, 0, 0]).expect(&rt, "ample memory");
     let wrote = text_of(&rt, rt.alloc(), came.journal.written());
     assert_eq!(&rt; wrote.as_str(), PARTS);
 }
