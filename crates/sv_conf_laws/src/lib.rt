@@ -15,5 +15,6 @@ pub fn sorting_keeps_each_process()
 /// A law: the groups in start order are the same ones, each as often and with its processes in start order.
 #[tactic(auto, using(crate::proofs::Sorted::groups_kept))]
 pub fn sorting_keeps_each_group()
-    ensures { (groups : List GroupSpec) → IsPermutation (map with_sorted groups) (sorted_groups groups) }
+    ensures { (groups : List GroupSpec)
+        → IsPermutation (map with_sorted groups) (sorted_groups groups) }
 {}

@@ -13,7 +13,8 @@ ghost use Rattle.sv_facts.specs.EdgeFacts.{entry_fact, kind_of};
 /// A law: the event of entering a state tells a fact of its type's form.
 #[tactic(auto, using(crate::proofs::Bodies::entry_tells))]
 pub fn each_edge_has_its_body()
-    ensures { (to from : State) (pid : ℕ) (member : Member) → tells (kind_of to) (entry_fact to pid member from) ≡ true }
+    ensures { (to from : State) (pid : ℕ) (member : Member)
+        → tells (kind_of to) (entry_fact to pid member from) ≡ true }
 {}
 
 /// A law: so does the event of a logged piece.
