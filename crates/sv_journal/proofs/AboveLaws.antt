@@ -59,7 +59,7 @@ pub record AboveTaken (left : List ℕ) (awaits : Awaits) (bs v rest : List ℕ)
   pub good : accepts OfText awaits v ≡ true
   pub above : IsAbove left v
 
--- a byte, and then what was read behind it
+-- a byte, and then what was read after it
 one_more : (left : List ℕ) (least : ℕ) (awaits : Awaits) (bs : List ℕ) (x : ℕ) (after_it w rest v : List ℕ) → OneTaken (text_byte least awaits) bs x after_it
     → after_it ≡ bytes_spelling w ++ rest → accepts OfText (after OfText awaits x) w ≡ true → v ≡ x ∷ w → IsAbove left (x ∷ w) → AboveTaken left awaits bs v rest
 one_more left least awaits bs x after_it w rest v t same good is above =
@@ -93,7 +93,7 @@ above_takes (same ∷ left) awaits bs v rest e =
           one_more (same ∷ left) same awaits bs r.0 r.1 w.w rest v t m.same m.good w.is (ap (λ (o : Ordering). ordering_then o (slice_cmp nat_cmp left w.w)) (less_number same r.0 greater))
     ])
 
--- a byte that is spelled, and what is read behind it
+-- a byte that is spelled, and what is read after it
 byte_then : (least : ℕ) (awaits : Awaits) (f : ℕ × List ℕ → Result (List ℕ × List ℕ) ℕ) (x : ℕ) (v rest : List ℕ) → x < 256 → least ≤ x → allows OfText awaits x ≡ true
     → (byte_of (text_byte least awaits) (bytes_spelling (x ∷ v) ++ rest) >>= f) ≡ f (x, bytes_spelling v ++ rest)
 byte_then least awaits f x v rest small low may =

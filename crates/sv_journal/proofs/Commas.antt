@@ -1,4 +1,4 @@
--- Numbers parted by commas are the first one, and each other one behind a comma.
+-- Numbers parted by commas are the first one, and each other one after a comma.
 use Rattle.std.proofs.Common.{◌≡◌, ℕ, ◌-◌, ◌≤◌, List, [], ◌∷◌, ◌++◌, length, take, drop, get_or, Result, Ok, Err, sym, ap, ◌∙◌, arith, append_assoc, append-nil}
 use Rattle.std.specs.Prelude.{OnOk}
 use Rattle.std.specs.List.{flat_map}

@@ -18,7 +18,8 @@ use Rattle.sv_journal.specs.declared.token.Letters.{Letters}
 use Rattle.sv_journal.specs.declared.token.Letters.TheVariants.{OfText, OfName, OfBytes}
 use Rattle.sv_journal.specs.Limits.{number_limit, run_limit, program_limit}
 use Rattle.sv_journal.specs.Spelling.{token, comma_list}
-use Rattle.sv_journal.specs.JournalLine.{IsName, AreBytes, autorestart_word, header_line, FitsProgram, FitsHeader}
+use Rattle.sv_journal.specs.ProgramNames.{IsName}
+use Rattle.sv_journal.specs.JournalLine.{AreBytes, autorestart_word, header_line, FitsProgram, FitsHeader}
 use Rattle.sv_journal.specs.Reading.{◌>>=◌, end_at, keyword_at, codes_from}
 use Rattle.sv_journal.specs.ReadingLines.{opening_word, openings, signals, autorestarts, word_then, keyword_then, number_then, codes_then, last_token_then, codes_at, restart_at, start_at, program_at, env_at, size_at, include_at, header_of, header_at}
 use Rattle.sv_journal.proofs.CommaLaws.{CodesTaken, codes_take, codes_again}
@@ -40,7 +41,7 @@ record Meant (line : List ℕ) (h : Header) : Type 0 where
   same : line ≡ header_line h
   fits : FitsHeader h
 
--- a program's line from its exit codes on, behind what was read before
+-- a program's line from its exit codes on, after what was read before
 record Front (name : List ℕ) (startsecs startretries : ℕ) : Type 0 where
   is_name : IsName name
   secs : startsecs ≤ program_limit

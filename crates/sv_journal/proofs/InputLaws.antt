@@ -394,7 +394,7 @@ exit_again at run how small fits =
     ap (λ (r : Result (ℕ × List ℕ) ℕ). r >>= (λ r. word_then (codes " ") (keyword_then ending_word endings (how_at at (record { 0 = r.0 }))) r.1)) (number_again 0 run_limit run.0 (codes " " ++ how_words how) run_fits (omega arith) (omega arith) small refl)
     ∙ how_again at run how fits
 
--- a run or a link, and what is read behind it
+-- a run or a link, and what is read after it
 numbered_again : (next : ℕ → List ℕ → Result Input ℕ) (n : ℕ) (rest : List ℕ) → n ≤ run_limit → number_then 0 run_limit (λ n. word_then (codes " ") (next n)) (decimal n ++ (codes " " ++ rest)) ≡ next n rest
 numbered_again next n rest small =
     ap (λ (r : Result (ℕ × List ℕ) ℕ). r >>= (λ r. word_then (codes " ") (next r.0) r.1)) (number_again 0 run_limit n (codes " " ++ rest) run_fits (omega arith) (omega arith) small refl)

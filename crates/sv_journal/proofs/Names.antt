@@ -1,14 +1,16 @@
 -- What tokens of texts, of names and of any bytes spell.
-use Rattle.std.proofs.Common.{◌≡◌, ℕ, true, ltb, List, [], ◌∷◌, inl, inr, refl, sym, ◌∙◌, IsUtf8}
+use Rattle.std.proofs.Common.{◌≡◌, ℕ, true, ltb, List, [], ◌∷◌, Ok, inl, inr, refl, sym, ◌∙◌, IsUtf8}
 use Rattle.std.proofs.lemmas.Bool.{cases_Bool}
 use Rattle.std.specs.Prelude.{chars}
 use Rattle.std.specs.List.{list_all}
-use Rattle.sv_journal.specs.JournalLine.{IsName, is_byte, AreBytes}
+use Rattle.sv_journal.specs.JournalLine.{is_byte, AreBytes}
+use Rattle.sv_journal.specs.ProgramNames.{IsName}
 use Rattle.sv_journal.specs.Tokens.{is_letter}
 use Rattle.sv_journal.specs.declared.token.Letters.TheVariants.{OfText, OfName, OfBytes}
 use Rattle.sv_journal.specs.declared.token.Awaits.TheVariants.{Character}
 use Rattle.sv_journal.proofs.Letters.{accepts, read_accepted, read_utf8, read_letters, accepts_read}
-use Rattle.sv_journal.proofs.TokenLaws.{Good}
+use Rattle.sv_journal.specs.Reading.{token_at}
+use Rattle.sv_journal.proofs.TokenLaws.{Good, token_at_takes}
 
 all_true : (cs : List ℕ) → list_all (is_letter OfText) cs ≡ true
 all_true [] = refl
@@ -25,6 +27,10 @@ good_name v n = (accepts_read OfName refl v n.0 n.1, n.2)
 
 pub name_good : (v : List ℕ) → Good OfName v → IsName v
 name_good v g = let r = read_accepted OfName refl v g.0 in (read_utf8 OfName v r, read_letters OfName v r, g.1)
+
+-- a name that was read is one
+pub name_read : (bs v rest : List ℕ) → token_at OfName bs ≡ Ok (v, rest) → IsName v
+name_read bs v rest e = name_good v (token_at_takes OfName bs v rest e).good
 
 same_bytes : (v : List ℕ) → accepts OfBytes Character v ≡ list_all is_byte v
 same_bytes [] = refl

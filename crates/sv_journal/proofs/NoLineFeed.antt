@@ -106,7 +106,7 @@ side : (side : Side) → Plain (side_word side)
 side side_is.Inet = refl
 side side_is.Unix = refl
 
--- a plain front, a space and a plain part
+-- a plain prefix, a space and a plain part
 spaced : (front part : List ℕ) → Plain front → Plain part → Plain (front ++ codes " " ++ part)
 spaced front part p q = joined (front ++ codes " ") part (joined front (codes " ") p refl) q
 
@@ -114,7 +114,7 @@ spaced front part p q = joined (front ++ codes " ") part (joined front (codes " 
 numbered : (at : ℕ) (word : List ℕ) (n : ℕ) → at < 2 ^ 64 → n < 2 ^ 64 → Plain word → Plain (decimal at ++ word ++ decimal n)
 numbered at word n early small plain = joined (decimal at ++ word) (decimal n) (after_number at word early plain) (number n small)
 
--- a text behind a space
+-- a text after a space
 pub behind : (v : List ℕ) → Plain (then_token v)
 behind v = joined (codes " ") (token v) refl (text v)
 

@@ -31,7 +31,7 @@ record Meant (line : List ℕ) (o : Order) : Type 0 where
   same : line ≡ order_line o
   fits : FitsOrder o
 
--- what is behind a front, part by part
+-- what is after a prefix, part by part
 more : (front a rest bs line : List ℕ) → bs ≡ a ++ rest → (front ++ a) ++ rest ≡ line → front ++ bs ≡ line
 more front a rest bs line is e = ap (λ (l : List ℕ). front ++ l) is ∙ sym (append_assoc front a rest) ∙ e
 

@@ -6,11 +6,9 @@ use Rattle.sv_base.specs.Limits.{piece_limit}
 use Rattle.sv_journal.specs.JournalLine.{is_byte, IsPiece}
 use Rattle.sv_journal.specs.Spelling.{stands_for_itself, hex_digit, byte_spelling, bytes_spelling, token}
 use Rattle.sv_journal.specs.Tokens.{allows, escapes, is_hex, hex_value, may_begin, is_first_digit, is_second_digit}
-use Rattle.sv_journal.specs.Reading.{Stops, ◌>>=◌, second_digit_at, escape_at}
+use Rattle.sv_journal.specs.Reading.{◌>>=◌, second_digit_at, escape_at}
 use Rattle.sv_journal.specs.Pieces.{byte_at, with_bytes, bytes_at, piece_at}
 use Rattle.sv_journal.specs.ReadingLines.{last_piece_then}
-use Rattle.sv_journal.specs.declared.stop.Stop.{Stop}
-use Rattle.sv_journal.specs.declared.stop.Stop.TheVariants.{At, OutOfMemory}
 use Rattle.sv_journal.specs.declared.token.Letters.TheVariants.{OfBytes}
 use Rattle.sv_journal.specs.declared.token.Awaits.TheVariants.{Character}
 use Rattle.sv_journal.proofs.LineParts.{bind_then}
@@ -220,10 +218,9 @@ piece_bad : (room : ℕ) (bs xs : List ℕ) (left : ℕ) → 0 < room → 0 < le
 piece_bad zero bs xs left room_left some e = absurd (omega arith)
 piece_bad (suc room) bs xs left room_left some e = ap (with_bytes xs) (step_err room bs left some e)
 
-pub piece_stops : (stop : Stop) (room : ℕ) (bs xs : List ℕ) (all : Result (List ℕ) ℕ) → 0 < room → 0 < length bs
-    → Stops stop (byte_at bs) → with_bytes xs (bytes_at room bs) ≡ all → Stops stop all
-piece_stops (At left) room bs xs all room_left some e is = sym is ∙ piece_bad room bs xs left room_left some e
-piece_stops OutOfMemory room bs xs all room_left some e is = tt
+pub piece_stops : (left room : ℕ) (bs xs : List ℕ) (all : Result (List ℕ) ℕ) → 0 < room → 0 < length bs
+    → byte_at bs ≡ Err left → with_bytes xs (bytes_at room bs) ≡ all → all ≡ Err left
+piece_stops left room bs xs all room_left some e is = sym is ∙ piece_bad room bs xs left room_left some e
 
 pub piece_some : (bs v : List ℕ) → bytes_at piece_limit bs ≡ Ok v → 1 ≤ length v → piece_at bs ≡ Ok v
 piece_some [] v e some = absurd (let h = ap length (ok_value [] v (sym (nothing_left piece_limit) ∙ e)) in omega arith)

@@ -21,11 +21,11 @@ use Rattle.sv_journal.proofs.Results.{ok_value}
 pub one_order : (one other : Order) → FitsOrder one → FitsOrder other → order_line one ≡ order_line other → one ≡ other
 one_order one other f g e = ok_value one other (sym (order_again one f) ∙ ap order_at e ∙ order_again other g)
 
--- a plain front, and a text behind a space
+-- a plain prefix, and a text after a space
 more : (front v : List ℕ) → Plain front → Plain (front ++ then_token v)
 more front v plain = joined front (then_token v) plain (behind v)
 
--- a plain front, and a number behind a space
+-- a plain prefix, and a number after a space
 counted : (front : List ℕ) (n : ℕ) → n ≤ number_limit → Plain front → Plain (front ++ codes " " ++ decimal n)
 counted front n small plain = joined (front ++ codes " ") (decimal n) (joined front (codes " ") plain refl) (number n (omega arith))
 
@@ -39,7 +39,7 @@ states state_is.Exited = refl
 states state_is.Fatal = refl
 states state_is.Unknown = refl
 
--- a plain front, and a state behind a space
+-- a plain prefix, and a state after a space
 stated : (front : List ℕ) (state : State) → Plain front → Plain (front ++ codes " " ++ state_name state)
 stated front state plain = joined (front ++ codes " ") (state_name state) (joined front (codes " ") plain refl) (states state)
 

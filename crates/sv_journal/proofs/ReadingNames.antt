@@ -11,7 +11,6 @@ use Rattle.sv_journal.specs.Reading.{Stops, ◌>>=◌, with_first, with_front, w
 use Rattle.sv_journal.specs.Names.{text_byte, any_from, above_from, spaced_name_at, names_at}
 use Rattle.sv_journal.specs.OrderReading.{with_items}
 use Rattle.sv_journal.specs.declared.stop.Stop.{Stop}
-use Rattle.sv_journal.specs.declared.stop.Stop.TheVariants.{At, OutOfMemory}
 use Rattle.sv_journal.specs.declared.token.Letters.TheVariants.{OfText}
 use Rattle.sv_journal.specs.declared.token.Awaits.{Awaits}
 use Rattle.sv_journal.specs.declared.token.Awaits.TheVariants.{Character}
@@ -59,23 +58,21 @@ pub last_at : (left : List ℕ) (awaits : Awaits) (bs xs new : List ℕ) (x : �
 last_at [] awaits bs xs new x rest all none read longer e = sym (byte_front 0 awaits bs xs new x rest (any_from awaits) read longer) ∙ e
 last_at (same ∷ left) awaits bs xs new x rest all none read longer e = absurd (omega arith)
 
-byte_stops : {A : Type 0} (stop : Stop) (xs : List ℕ) (r : Result A ℕ) (next : A → Result (List ℕ × List ℕ) ℕ) (all : Result (List ℕ × List ℕ) ℕ)
-    → Stops stop r → with_front xs (r >>= next) ≡ all → Stops stop all
-byte_stops (At left) xs (Ok x) next all stopped e = cc stopped
-byte_stops (At left) xs (Err other) next all stopped e = sym e ∙ ap (λ (r : Result _ ℕ). with_front xs (r >>= next)) stopped
-byte_stops OutOfMemory xs r next all stopped e = tt
+byte_stops : {A : Type 0} (left : ℕ) (xs : List ℕ) (r : Result A ℕ) (next : A → Result (List ℕ × List ℕ) ℕ) (all : Result (List ℕ × List ℕ) ℕ)
+    → r ≡ Err left → with_front xs (r >>= next) ≡ all → all ≡ Err left
+byte_stops left xs r next all stopped e = sym e ∙ ap (λ (r : Result _ ℕ). with_front xs (r >>= next)) stopped
 
 -- no byte of the text is here
-pub stops_at : (stop : Stop) (left : List ℕ) (awaits : Awaits) (bs xs : List ℕ) (all : Result (List ℕ × List ℕ) ℕ) → 1 ≤ length left
-    → Stops stop (byte_of (text_byte (get_or left 0 0) awaits) bs) → with_front xs (above_from left awaits bs) ≡ all → Stops stop all
-stops_at stop [] awaits bs xs all some stopped e = absurd (omega arith)
-stops_at stop (same ∷ left) awaits bs xs all some stopped e =
-    byte_stops stop xs (byte_of (text_byte same awaits) bs) (λ r. with_first r.0 (behind left awaits same r.0 r.1)) all stopped e
+pub stops_at : (bad : ℕ) (left : List ℕ) (awaits : Awaits) (bs xs : List ℕ) (all : Result (List ℕ × List ℕ) ℕ) → 1 ≤ length left
+    → byte_of (text_byte (get_or left 0 0) awaits) bs ≡ Err bad → with_front xs (above_from left awaits bs) ≡ all → all ≡ Err bad
+stops_at bad [] awaits bs xs all some stopped e = absurd (omega arith)
+stops_at bad (same ∷ left) awaits bs xs all some stopped e =
+    byte_stops bad xs (byte_of (text_byte same awaits) bs) (λ r. with_first r.0 (behind left awaits same r.0 r.1)) all stopped e
 
-pub stops_last : (stop : Stop) (left : List ℕ) (awaits : Awaits) (bs xs : List ℕ) (all : Result (List ℕ × List ℕ) ℕ) → length left < 1
-    → Stops stop (byte_of (text_byte 0 awaits) bs) → with_front xs (above_from left awaits bs) ≡ all → Stops stop all
-stops_last stop [] awaits bs xs all none stopped e = byte_stops stop xs (byte_of (text_byte 0 awaits) bs) (λ r. with_first r.0 (any_from awaits r.0 r.1)) all stopped e
-stops_last stop (same ∷ left) awaits bs xs all none stopped e = absurd (omega arith)
+pub stops_last : (bad : ℕ) (left : List ℕ) (awaits : Awaits) (bs xs : List ℕ) (all : Result (List ℕ × List ℕ) ℕ) → length left < 1
+    → byte_of (text_byte 0 awaits) bs ≡ Err bad → with_front xs (above_from left awaits bs) ≡ all → all ≡ Err bad
+stops_last bad [] awaits bs xs all none stopped e = byte_stops bad xs (byte_of (text_byte 0 awaits) bs) (λ r. with_first r.0 (any_from awaits r.0 r.1)) all stopped e
+stops_last bad (same ∷ left) awaits bs xs all none stopped e = absurd (omega arith)
 
 pub above_utf8 : (below bs v rest : List ℕ) → above_from below Character bs ≡ Ok (v, rest) → IsUtf8 v
 above_utf8 below bs v rest e = text_good v (above_takes below Character bs v rest e).good

@@ -19,7 +19,7 @@ never left x e = cc e
 pub stopped : {Y : Type 0} (stop : Stop) (left : ℕ) (read : Result Y ℕ) → stop ≡ At left → Stops stop read → read ≡ Err left
 stopped stop left read e h = subst (λ (s : Stop). Stops s read) e h
 
--- an item, and what was read behind it
+-- an item, and what was read after it
 pub record ItemSplit {A : Type 0} (x : A) (r : Result (List A × List ℕ) ℕ) (xs : List A) (rest : List ℕ) : Type 0 where
   pub others : List A
   pub is : xs ≡ x ∷ others

@@ -10,7 +10,7 @@ use Rattle.sv_journal.proofs.TokenLaws.{chosen, ends}
 use Rattle.sv_journal.proofs.NumberLaws.{IsLimit, number_takes, number_runs, number_again}
 use Rattle.sv_journal.proofs.LineParts.{keyword_takes}
 
--- where h stops: what was read before is the front of a text that h reads, and no such text goes on with the next byte
+-- where h stops: what was read before is the prefix of a text that h reads, and no such text goes on with the next byte
 pub record Failure {X : Type 0} (h : List ℕ → Result X ℕ) (Q : List ℕ → Bool) (bs : List ℕ) (left : ℕ) : Type 0 where
   pub front : List ℕ
   pub bad : List ℕ
@@ -86,7 +86,7 @@ at_nothing h Q left e tail value completed has = record {
   has = has;
 }
 
--- what h' reads behind this front, h reads
+-- what h' reads after this prefix, h reads
 pub behind : {X : Type 0} (h next : List ℕ → Result X ℕ) (Q P : List ℕ → Bool) (begin bs rest : List ℕ) (left : ℕ) → bs ≡ begin ++ rest → (f : Failure next P rest left)
     → ((x : ℕ) (more other : List ℕ) → f.bad ≡ x ∷ more → h (begin ++ (f.front ++ x ∷ other)) ≡ next (f.front ++ x ∷ other))
     → h (begin ++ (f.front ++ f.tail)) ≡ next (f.front ++ f.tail) → Q (begin ++ (f.front ++ f.tail)) ≡ true → Failure h Q bs left

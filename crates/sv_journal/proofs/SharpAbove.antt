@@ -75,7 +75,7 @@ closes_head : (letters : Letters) (front : List ℕ) (b : ℕ) (more other : Lis
 closes_head letters [] b more other e = e
 closes_head letters (c ∷ front) b more other e = e
 
--- what reads the rest of the line is sharp behind each text that may stand here
+-- what reads the rest of the line is sharp after each text that may stand here
 abbrev SharpBehind : {X : Type 0} → Awaits → (List ℕ → List ℕ → Result X ℕ) → Type 0
 SharpBehind awaits next = (v : List ℕ) → accepts OfText awaits v ≡ true → Sharp (next v) plain
 

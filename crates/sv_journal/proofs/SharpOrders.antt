@@ -102,7 +102,7 @@ last_text = sharp_word 32 [] (last_token_at OfText) any plain (λ x. refl) (last
 last_bytes : {X : Type 0} (f : List ℕ → X) → Sharp (word_then (codes " ") (λ bs. last_token_at OfBytes bs >>= (λ bytes. Ok (f bytes)))) plain
 last_bytes f = sharp_word 32 [] (λ bs. last_token_at OfBytes bs >>= (λ bytes. Ok (f bytes))) any plain (λ x. refl) (sharp_map (last_token_at OfBytes) f any (last_token OfBytes))
 
--- a number that is behind a space, and what reads the rest
+-- a number that is after a space, and what reads the rest
 spaced_number : {X : Type 0} (limit : ℕ) (next : ℕ → List ℕ → Result X ℕ) → IsLimit limit → ((n : ℕ) → Sharp (next n) plain) → Sharp (word_then (codes " ") (number_then 0 limit next)) plain
 spaced_number limit next fits sharp =
     sharp_word 32 [] (number_then 0 limit next) any plain (λ x. refl) (sharp_number 0 limit next plain any fits (omega arith) plain_no_digit (λ n x h. refl) sharp)

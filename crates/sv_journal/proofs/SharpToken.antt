@@ -413,7 +413,7 @@ token_fails letters h P end sharp (b ∷ bs) left e = elim (chosen (eqb b 37 && 
     refused true l a x y z other e f = cc e
     refused false l true x y z other e f = cc f
 
--- what reads the rest is sharp behind each token that there is
+-- what reads the rest is sharp after each token that there is
 pub sharp_good : {X : Type 0} (letters : Letters) (h : List ℕ → List ℕ → Result X ℕ) (P : List ℕ → Bool) → ((x : List ℕ) → P x ≡ true → ends x ≡ true) → ((v : List ℕ) → Good letters v → Sharp (h v) P) → Sharp (token_then letters h) any
 sharp_good {X} letters h P end sharp = record {
   sample = token (65 ∷ []) ++ (sharp (65 ∷ []) (sample_good letters)).sample;

@@ -3,10 +3,8 @@ use Rattle.std.proofs.Common.{◌≡◌, ℕ, ◌&&◌, eqb, List, [], ◌∷◌
 use Rattle.std.proofs.lemmas.Bool.{cases_Bool}
 use Rattle.sv_journal.specs.Spelling.{stands_for_itself}
 use Rattle.sv_journal.specs.Tokens.{allows, after, is_first_digit, is_second_digit, hex_value}
-use Rattle.sv_journal.specs.Reading.{Stops, ◌>>=◌, closed, token_from, with_first, with_front, second_digit_at, escape_at, some_byte, token_end, spelled_byte_at}
+use Rattle.sv_journal.specs.Reading.{◌>>=◌, closed, token_from, with_first, with_front, second_digit_at, escape_at, some_byte, token_end, spelled_byte_at}
 use Rattle.sv_journal.specs.Reading.Stage.{Between, Percent, Digit}
-use Rattle.sv_journal.specs.declared.stop.Stop.{Stop}
-use Rattle.sv_journal.specs.declared.stop.Stop.TheVariants.{At, OutOfMemory}
 use Rattle.sv_journal.specs.declared.token.Letters.{Letters}
 use Rattle.sv_journal.specs.declared.token.Awaits.{Awaits}
 use Rattle.sv_journal.specs.declared.token.Awaits.TheVariants.{Character, Continuation}
@@ -67,7 +65,6 @@ step_bad : (letters : Letters) (awaits : Awaits) (bs xs : List ℕ) (left : ℕ)
     → with_front xs (token_from letters (Between awaits) bs) ≡ Err left
 step_bad letters awaits bs xs left e = ap (with_front xs) (step letters awaits bs ∙ ap (go_on letters awaits bs) e)
 
-pub step_err : (stop : Stop) (letters : Letters) (awaits : Awaits) (bs xs : List ℕ) (all : Result (List ℕ × List ℕ) ℕ)
-    → Stops stop (spelled_byte_at letters awaits bs) → with_front xs (token_from letters (Between awaits) bs) ≡ all → Stops stop all
-step_err (At left) letters awaits bs xs all e is = sym is ∙ step_bad letters awaits bs xs left e
-step_err OutOfMemory letters awaits bs xs all e is = tt
+pub step_err : (left : ℕ) (letters : Letters) (awaits : Awaits) (bs xs : List ℕ) (all : Result (List ℕ × List ℕ) ℕ)
+    → spelled_byte_at letters awaits bs ≡ Err left → with_front xs (token_from letters (Between awaits) bs) ≡ all → all ≡ Err left
+step_err left letters awaits bs xs all e is = sym is ∙ step_bad letters awaits bs xs left e

@@ -33,7 +33,7 @@ second_digit_of comes high [] = Err 0
 second_digit_of comes high (d ∷ bs) =
     if is_second_of comes high d then Ok (16 * high + hex_value d, bs) else Err (suc (length bs))
 
--- the byte whose escape goes on here, behind its percent sign
+-- the byte whose escape goes on here, after its percent sign
 abbrev pub escape_of : (ℕ → Bool) → List ℕ → Result (ℕ × List ℕ) ℕ
 escape_of comes bs = first_digit_of comes bs >>= (λ first. second_digit_of comes first.0 first.1)
 

@@ -1,5 +1,5 @@
 -- The one line of each input, order and header, without its line feed, and which of them a journal may hold.
-use Rattle.std.specs.Prelude.{ℕ, ◌<◌, ◌≤◌, ◌≡◌, ◌≢◌, List, [], ◌∷◌, ◌++◌, length, Bool, true, false, codes, IsUtf8, chars, nat_lt, nat_le}
+use Rattle.std.specs.Prelude.{ℕ, ◌<◌, ◌≤◌, ◌≡◌, ◌≢◌, List, [], ◌∷◌, ◌++◌, length, Bool, true, false, codes, IsUtf8, nat_lt, nat_le}
 use Rattle.std.specs.List.{flat_map, list_all}
 use Rattle.std.specs.Fmt.{decimal}
 use Rattle.sv_base.specs.Limits.{moment_limit, piece_limit}
@@ -24,11 +24,7 @@ use Rattle.sv_journal.specs.declared.header.Header.TheVariants as header_is
 use Rattle.sv_journal.specs.declared.header.Program.{Program}
 use Rattle.sv_journal.specs.Limits.{number_limit, run_limit, program_limit}
 use Rattle.sv_journal.specs.Spelling.{token, comma_list}
-use Rattle.sv_journal.specs.Tokens.{is_name_letter}
-
--- a name of a program: characters of which none is a space, a control character, a colon, a slash or an asterisk
-abbrev pub IsName : List ℕ → Type 0
-IsName name = IsUtf8 name × (list_all is_name_letter (chars name) ≡ true) × (0 < length name)
+use Rattle.sv_journal.specs.ProgramNames.{IsName}
 
 -- a byte, as one of eight bits
 abbrev pub is_byte : ℕ → Bool

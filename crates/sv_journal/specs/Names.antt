@@ -16,7 +16,7 @@ text_byte least awaits b = nat_le least b && allows OfText awaits b
 abbrev pub any_from : Awaits → ℕ → List ℕ → Result (List ℕ × List ℕ) ℕ
 any_from awaits b = token_from OfText (Between (after OfText awaits b))
 
--- the rest of a text that stands above another one, behind what the two have in common: what is left of the other one stands
+-- the rest of a text that stands above another one, after what the two have in common: what is left of the other one stands
 -- first here. A byte that is greater lifts the text above it, and so does any byte where nothing of it is left
 abbrev pub above_from : List ℕ → Awaits → List ℕ → Result (List ℕ × List ℕ) ℕ
 above_from [] awaits bs = byte_of (text_byte 0 awaits) bs >>= (λ r. with_first r.0 (any_from awaits r.0 r.1))
@@ -29,11 +29,11 @@ abbrev pub name_at : Option (List ℕ) → List ℕ → Result (List ℕ × List
 name_at None = token_at OfText
 name_at (Some below) = above_from below Character
 
--- and behind a space
+-- and after a space
 abbrev pub spaced_name_at : Option (List ℕ) → List ℕ → Result (List ℕ × List ℕ) ℕ
 spaced_name_at below bs = word_at (codes " ") bs >>= name_at below
 
--- so many names, each behind a space and above the one before it
+-- so many names, each after a space and above the one before it
 abbrev pub names_at : Option (List ℕ) → ℕ → List ℕ → Result (List (List ℕ) × List ℕ) ℕ
 names_at below zero bs = Ok ([], bs)
 names_at below (suc n) bs =

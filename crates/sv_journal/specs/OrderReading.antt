@@ -81,20 +81,20 @@ receiver_word one = receiver (is_group one)
 abbrev pub receivers : List Receiver
 receivers = receiver_is.Child ∷ receiver_is.Group ∷ []
 
--- a text behind a space, and what follows it
+-- a text after a space, and what follows it
 abbrev pub text_at : List ℕ → Result (List ℕ × List ℕ) ℕ
 text_at bs = word_at (codes " ") bs >>= token_at OfText
 
--- a text behind a space, and then what reads the rest
+-- a text after a space, and then what reads the rest
 abbrev pub text_then : {X : Type 0} → (List ℕ → List ℕ → Result X ℕ) → List ℕ → Result X ℕ
 text_then next bs = text_at bs >>= (λ r. next r.0 r.1)
 
--- these items, and then what was read behind them
+-- these items, and then what was read after them
 abbrev pub with_items : {A : Type 0} → List A → Result (List A × List ℕ) ℕ → Result (List A × List ℕ) ℕ
 with_items items (Ok r) = Ok (items ++ r.0, r.1)
 with_items items (Err left) = Err left
 
--- a name and a value, each behind a space
+-- a name and a value, each after a space
 abbrev pub pair_at : List ℕ → Result ((List ℕ × List ℕ) × List ℕ) ℕ
 pair_at = text_then (λ name. text_then (λ value rest. Ok ((name, value), rest)))
 
@@ -103,7 +103,7 @@ abbrev pub items_at : {A : Type 0} → (List ℕ → Result (A × List ℕ) ℕ)
 items_at item_at zero bs = Ok ([], bs)
 items_at item_at (suc n) bs = item_at bs >>= (λ r. with_item r.0 (items_at item_at n r.1))
 
--- how many items there are, behind a space, and each of them
+-- how many items there are, after a space, and each of them
 abbrev pub counted_at : {A : Type 0} → (List ℕ → Result (A × List ℕ) ℕ) → List ℕ → Result (List A × List ℕ) ℕ
 counted_at item_at = word_then (codes " ") (number_then 0 number_limit (items_at item_at))
 
@@ -118,16 +118,16 @@ text_numbers_at =
     word_then (codes " ") (number_then 0 number_limit (λ first.
     word_then (codes " ") (number_then 0 number_limit (λ second. end_at (text, first, second))))))
 
--- a run or a link, and bytes behind a space, which end the line
+-- a run or a link, and bytes after a space, which end the line
 unfoldable pub number_bytes_at : List ℕ → Result (ℕ × List ℕ) ℕ
 number_bytes_at =
     number_then 0 run_limit (λ number. word_then (codes " ") (λ bs. last_token_at OfBytes bs >>= (λ bytes. Ok (number, bytes))))
 
--- a text behind a space, which ends the line
+-- a text after a space, which ends the line
 unfoldable pub last_text_at : List ℕ → Result (List ℕ) ℕ
 last_text_at = word_then (codes " ") (last_token_at OfText)
 
--- a text, and bytes behind a space, which end the line
+-- a text, and bytes after a space, which end the line
 unfoldable pub text_bytes_at : List ℕ → Result (List ℕ × List ℕ) ℕ
 text_bytes_at = text_then (λ text. word_then (codes " ") (λ bs. last_token_at OfBytes bs >>= (λ bytes. Ok (text, bytes))))
 

@@ -1,5 +1,5 @@
 -- What the reader of a piece of a pipe or a link gives: the bytes that a token spells, up to the line's end, or the number of
--- bytes that are left at the first bad one. No piece is empty, so a lone percent sign is the front of one.
+-- bytes that are left at the first bad one. No piece is empty, so a lone percent sign is the prefix of one.
 use Rattle.std.specs.Prelude.{ℕ, zero, suc, List, [], ◌∷◌, ◌++◌, length, ◌==◌, if◌then◌else◌, Result, Ok, Err}
 use Rattle.sv_base.specs.Limits.{piece_limit}
 use Rattle.sv_journal.specs.Spelling.{stands_for_itself}
@@ -15,7 +15,7 @@ byte_at (b ∷ bs) =
     else if stands_for_itself b then Ok (b, bs)
     else Err (suc (length bs))
 
--- these bytes, and then what was read behind them
+-- these bytes, and then what was read after them
 abbrev pub with_bytes : List ℕ → Result (List ℕ) ℕ → Result (List ℕ) ℕ
 with_bytes xs (Ok v) = Ok (xs ++ v)
 with_bytes xs (Err left) = Err left

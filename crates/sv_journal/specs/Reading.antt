@@ -3,6 +3,7 @@ use Rattle.std.specs.Prelude.{ℕ, suc, ◌+◌, ◌-◌, ◌*◌, ◌≡◌, Li
 use Rattle.std.specs.Char.{is_ascii_digit}
 use Rattle.sv_journal.specs.Spelling.{stands_for_itself}
 use Rattle.sv_journal.specs.Tokens.{allows, after, is_first_digit, is_second_digit, hex_value}
+use Rattle.sv_journal.specs.declared.stop.BadByte.{BadByte}
 use Rattle.sv_journal.specs.declared.stop.Stop.{Stop}
 use Rattle.sv_journal.specs.declared.stop.Stop.TheVariants.{At, OutOfMemory}
 use Rattle.sv_journal.specs.declared.token.Letters.{Letters}
@@ -25,6 +26,11 @@ Stops OutOfMemory read = Unit {0}
 abbrev pub Gives : {X Y : Type 0} → (X → Y) → Result X Stop → Result Y ℕ → Type 0
 Gives view (Ok x) read = read ≡ Ok (view x)
 Gives view (Err stop) read = Stops stop read
+
+-- the code that takes no memory gives what is read
+abbrev pub GivesAlways : {X Y : Type 0} → (X → Y) → Result X BadByte → Result Y ℕ → Type 0
+GivesAlways view (Ok x) read = read ≡ Ok (view x)
+GivesAlways view (Err bad) read = read ≡ Err bad.0
 
 -- the line ends here
 abbrev pub end_at : {X : Type 0} → X → List ℕ → Result X ℕ
@@ -67,17 +73,17 @@ number_at least limit [] = Err 0
 number_at least limit (b ∷ bs) =
     if is_ascii_digit b && nat_le least (b - 48) then Ok (digits_at limit (b - 48) bs) else Err (suc (length bs))
 
--- this byte, and then what was read behind it
+-- this byte, and then what was read after it
 abbrev pub with_first : ℕ → Result (List ℕ × List ℕ) ℕ → Result (List ℕ × List ℕ) ℕ
 with_first x (Ok r) = Ok (x ∷ r.0, r.1)
 with_first x (Err left) = Err left
 
--- these bytes, and then what was read behind them
+-- these bytes, and then what was read after them
 abbrev pub with_front : List ℕ → Result (List ℕ × List ℕ) ℕ → Result (List ℕ × List ℕ) ℕ
 with_front xs (Ok r) = Ok (xs ++ r.0, r.1)
 with_front xs (Err left) = Err left
 
--- this item, and then what was read behind it
+-- this item, and then what was read after it
 abbrev pub with_item : {A : Type 0} → A → Result (List A × List ℕ) ℕ → Result (List A × List ℕ) ℕ
 with_item item (Ok r) = Ok (item ∷ r.0, r.1)
 with_item item (Err left) = Err left
@@ -152,7 +158,7 @@ second_digit_at letters awaits high [] = Err 0
 second_digit_at letters awaits high (d ∷ bs) =
     if is_second_digit letters awaits high d then Ok (16 * high + hex_value d, bs) else Err (suc (length bs))
 
--- the byte whose escape goes on here, behind its percent sign
+-- the byte whose escape goes on here, after its percent sign
 abbrev pub escape_at : Letters → Awaits → List ℕ → Result (ℕ × List ℕ) ℕ
 escape_at letters awaits bs = first_digit_at letters awaits bs >>= (λ first. second_digit_at letters awaits first.0 first.1)
 

@@ -36,7 +36,7 @@ second_of_two OfText lead = 128
 second_of_two OfName lead = if lead == 194 then 160 else 128
 second_of_two OfBytes lead = 128
 
--- what a character goes on with behind its first byte
+-- what a character goes on with after its first byte
 abbrev pub after_lead : Letters → ℕ → Awaits
 after_lead letters b =
     if nat_lt b (whole_below letters) then Character
@@ -44,12 +44,12 @@ after_lead letters b =
     else if nat_lt b 240 then Continuation (if b == 224 then 160 else 128) (if b == 237 then 159 else 191) 1
     else Continuation (if b == 240 then 144 else 128) (if b == 244 then 143 else 191) 2
 
--- what a character goes on with behind a byte within it, before so many more
+-- what a character goes on with after a byte within it, before so many more
 abbrev pub after_continuation : ℕ → Awaits
 after_continuation zero = Character
 after_continuation (suc more) = Continuation 128 191 more
 
--- what the token goes on with behind this byte
+-- what the token goes on with after this byte
 abbrev pub after : Letters → Awaits → ℕ → Awaits
 after letters Character b = after_lead letters b
 after letters (Continuation low high more) b = after_continuation more

@@ -2,6 +2,7 @@
 ghost use Rattle.std.specs.Prelude.{None};
 ghost use Rattle.sv_journal.specs.Reading.{Gives, codes_from};
 
+use crate::code_list::ExitCodes;
 use crate::number::number;
 use crate::stop::Stop;
 use std::alloc::Global;
@@ -9,7 +10,7 @@ use sv_base::items::Items;
 
 /// Reads exit codes, at least one, with commas between them.
 #[tactic(auto, using(crate::proofs::Codes::codes_number_ok, crate::proofs::Codes::codes_number_bad, crate::proofs::Codes::codes_more))]
-pub fn exit_codes(alloc: Global, bytes: &[u8]) -> Result<(Items<u8>, &[u8]), Stop>
+pub fn exit_codes(alloc: Global, bytes: &[u8]) -> Result<(ExitCodes, &[u8]), Stop>
     ensures { Gives (λ x. (x.0, x.1.now)) result (codes_from None bytes.now) }
 {
     let mut codes = Items::new(alloc);
@@ -22,5 +23,5 @@ pub fn exit_codes(alloc: Global, bytes: &[u8]) -> Result<(Items<u8>, &[u8]), Sto
         (code, rest) = number(0, 255, after)?;
     }
     codes.push(code as u8)?;
-    Ok((codes, rest))
+    Ok((ExitCodes::new(codes).unwrap(), rest))
 }

@@ -4,7 +4,7 @@ use thiserror::Error;
 /// Why a line is refused.
 #[derive(Clone, Copy, Debug, PartialEq, Eq, Error)]
 pub enum LineFault {
-    /// The line is outside the grammar of its place: the length of its longest front with which a good line begins,
+    /// The line is outside the grammar of its place: the length of its longest prefix with which a good line begins,
     /// but at most 4,194,304.
     #[error("bad line at column {0}")]
     BadLine(usize),

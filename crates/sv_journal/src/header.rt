@@ -1,17 +1,21 @@
 //! The lines of a header.
+use crate::code_list::ExitCodes;
+use crate::program_name::ProgramName;
 use sv_base::bytes::Bytes;
-use sv_base::items::Items;
 use sv_base::moment::Moment;
-use sv_base::number::{Retries, Seconds};
+use sv_base::number::{Retries, Seconds, Within};
 use sv_base::signal::Signal;
 use sv_base::state::Autorestart;
 use sv_base::text::Text;
 
+/// The version of a journal: 0 of the short header, 1 of the long one.
+pub type Version = Within<0, 1>;
+
 /// One line of a journal's header.
 #[derive(Debug, Drop)]
 pub enum Header {
-    /// The first line, with the version of the journal: 0 of the short header, 1 of the long one.
-    Journal(u8),
+    /// The first line, with the version of the journal.
+    Journal(Version),
     /// A program, by the keys that a short header gives it.
     Program(Program),
     /// The name of the host.
@@ -35,16 +39,15 @@ pub enum Header {
 /// A program of a short header, whose command is its name; every other key has its default.
 #[derive(Debug, Drop)]
 pub struct Program {
-    /// Not empty, and without space, control character, colon, slash and asterisk.
-    pub name: Text,
+    pub name: ProgramName,
     /// How long a start has to stay up to count.
     pub startsecs: Seconds,
     /// How many failed starts in a row are tried again.
     pub startretries: Retries,
     /// When an exited process is started again.
     pub autorestart: Autorestart,
-    /// The expected exit codes, at least one.
-    pub exitcodes: Items<u8>,
+    /// The expected exit codes.
+    pub exitcodes: ExitCodes,
     /// The signal that asks it to stop.
     pub stopsignal: Signal,
     /// How long it may take to stop before it is sent KILL.

@@ -1,12 +1,14 @@
 //! Reading a header line, part by part.
 ghost use Rattle.std.specs.Prelude.{◌≡◌, ◌≤◌};
-ghost use Rattle.sv_journal.specs.Reading.{Gives};
+ghost use Rattle.sv_journal.specs.Reading.{Gives, token_at};
+ghost use Rattle.sv_journal.specs.declared.token.Letters.{Letters};
 ghost use Rattle.sv_journal.specs.ReadingLines.{codes_at, restart_at, start_at, program_at, env_at, size_at, include_at, header_of, header_at};
 
 use crate::exit_codes::exit_codes;
-use crate::header::{Header, Program};
+use crate::header::{Header, Program, Version};
 use crate::input_line::moment;
 use crate::number::number;
+use crate::program_name::ProgramName;
 use crate::stop::Stop;
 use crate::token::{Letters, bytes_of_line, rest_of_line, token};
 use crate::word::{end, keyword, word};
@@ -15,7 +17,6 @@ use std::alloc::Global;
 use sv_base::moment::MOMENT_LIMIT;
 use sv_base::number::{Retries, Seconds};
 use sv_base::state::Autorestart;
-use sv_base::text::Text;
 
 /// The most seconds or retries of a program.
 const PROGRAM_LIMIT: u64 = 1_000_000;
@@ -34,8 +35,8 @@ fn header_of(alloc: Global, opening: Opening, bytes: &[u8]) -> Result<Header, St
     ensures { Gives (λ x. x) result (header_of opening bytes.now) }
 {
     match opening {
-        Opening::Short => end(Header::Journal(0), bytes),
-        Opening::Long => end(Header::Journal(1), bytes),
+        Opening::Short => Ok(end(Header::Journal(Version::new(0).unwrap()), bytes)?),
+        Opening::Long => Ok(end(Header::Journal(Version::new(1).unwrap()), bytes)?),
         Opening::Program => program(alloc, bytes),
         Opening::Host => {
             let name = rest_of_line(alloc, bytes)?;
@@ -47,7 +48,7 @@ fn header_of(alloc: Global, opening: Opening, bytes: &[u8]) -> Result<Header, St
         }
         Opening::Pid => {
             let (pid, rest) = number(0, u64::from(u32::MAX), bytes)?;
-            end(Header::Pid(pid as u32), rest)
+            Ok(end(Header::Pid(pid as u32), rest)?)
         }
         Opening::Env => environment(alloc, bytes),
         Opening::Size => size(alloc, bytes),
@@ -58,7 +59,7 @@ fn header_of(alloc: Global, opening: Opening, bytes: &[u8]) -> Result<Header, St
         Opening::Include => include(alloc, bytes),
         Opening::Go => {
             let (milliseconds, rest) = number(0, MOMENT_LIMIT, bytes)?;
-            end(Header::Go(moment(milliseconds)), rest)
+            Ok(end(Header::Go(moment(milliseconds)), rest)?)
         }
     }
 }
@@ -87,7 +88,7 @@ fn size(alloc: Global, bytes: &[u8]) -> Result<Header, Stop>
         Ok((file, rest)) => {
             let rest = word(b" ", rest)?;
             let (size, rest) = number(0, u64::MAX, rest)?;
-            end(Header::Size(file, size), rest)
+            Ok(end(Header::Size(file, size), rest)?)
         }
         Err(stop) => Err(stop),
     }
@@ -108,11 +109,21 @@ fn include(alloc: Global, bytes: &[u8]) -> Result<Header, Stop>
     }
 }
 
-fn setting(number: u64) -> Seconds
+fn seconds(number: u64) -> Seconds
     requires { number ≤ 1000000 }
     ensures { result ≡ number }
 {
     Seconds::new(number as u32).unwrap()
+}
+
+/// Reads the name of a program.
+fn program_name(alloc: Global, bytes: &[u8]) -> Result<(ProgramName, &[u8]), Stop>
+    ensures { Gives (λ x. (x.0, x.1.now)) result (token_at Letters.OfName bytes.now) }
+{
+    match token(alloc, Letters::OfName, bytes) {
+        Ok((name, rest)) => Ok((ProgramName::new(name).unwrap(), rest)),
+        Err(stop) => Err(stop),
+    }
 }
 
 /// Reads a program's name and keys.
@@ -120,10 +131,10 @@ fn setting(number: u64) -> Seconds
 fn program(alloc: Global, bytes: &[u8]) -> Result<Header, Stop>
     ensures { Gives (λ x. x) result (program_at bytes.now) }
 {
-    match token(alloc, Letters::OfName, bytes) {
+    match program_name(alloc, bytes) {
         Ok((name, rest)) => {
             let rest = word(b" ", rest)?;
-            start(alloc, name, rest)
+            program_from_startsecs(alloc, name, rest)
         }
         Err(stop) => Err(stop),
     }
@@ -131,21 +142,21 @@ fn program(alloc: Global, bytes: &[u8]) -> Result<Header, Stop>
 
 /// Reads a program's keys from `startsecs` on.
 #[tactic(auto, unfolding(crate::specs::ReadingLines::start_at))]
-fn start(alloc: Global, name: Text, bytes: &[u8]) -> Result<Header, Stop>
+fn program_from_startsecs(alloc: Global, name: ProgramName, bytes: &[u8]) -> Result<Header, Stop>
     ensures { Gives (λ x. x) result (start_at name bytes.now) }
 {
     let (startsecs, rest) = number(0, PROGRAM_LIMIT, bytes)?;
     let rest = word(b" ", rest)?;
     let (startretries, rest) = number(0, PROGRAM_LIMIT, rest)?;
     let rest = word(b" ", rest)?;
-    restart(alloc, name, setting(startsecs), setting(startretries), rest)
+    program_from_autorestart(alloc, name, seconds(startsecs), seconds(startretries), rest)
 }
 
 /// Reads a program's keys from `autorestart` on.
 #[tactic(auto, unfolding(crate::specs::ReadingLines::restart_at))]
-fn restart(
+fn program_from_autorestart(
     alloc: Global,
-    name: Text,
+    name: ProgramName,
     startsecs: Seconds,
     startretries: Retries,
     bytes: &[u8],
@@ -154,14 +165,14 @@ fn restart(
 {
     let (autorestart, rest) = keyword(&AUTORESTARTS, bytes)?;
     let rest = word(b" ", rest)?;
-    codes(alloc, name, startsecs, startretries, autorestart, rest)
+    program_from_exitcodes(alloc, name, startsecs, startretries, autorestart, rest)
 }
 
 /// Reads a program's keys from `exitcodes` on.
 #[tactic(auto, unfolding(crate::specs::ReadingLines::codes_at))]
-fn codes(
+fn program_from_exitcodes(
     alloc: Global,
-    name: Text,
+    name: ProgramName,
     startsecs: Seconds,
     startretries: Retries,
     autorestart: Autorestart,
@@ -175,7 +186,7 @@ fn codes(
             let (stopsignal, rest) = keyword(&SIGNALS, rest)?;
             let rest = word(b" ", rest)?;
             let (stopwaitsecs, rest) = number(0, PROGRAM_LIMIT, rest)?;
-            end(
+            Ok(end(
                 Header::Program(Program {
                     name,
                     startsecs,
@@ -183,10 +194,10 @@ fn codes(
                     autorestart,
                     exitcodes,
                     stopsignal,
-                    stopwaitsecs: setting(stopwaitsecs),
+                    stopwaitsecs: seconds(stopwaitsecs),
                 }),
                 rest,
-            )
+            )?)
         }
         Err(stop) => Err(stop),
     }

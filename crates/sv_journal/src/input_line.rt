@@ -1,13 +1,13 @@
 //! Reading an input line, part by part.
 ghost use Rattle.std.specs.Prelude.{◌≡◌, ◌≤◌};
 ghost use Rattle.sv_base.specs.Limits.{moment_limit};
-ghost use Rattle.sv_journal.specs.Reading.{Gives};
+ghost use Rattle.sv_journal.specs.Reading.{Gives, GivesAlways};
 ghost use Rattle.sv_journal.specs.ReadingLines.{how_at, exit_at, out_at, out_end_at, open_at, link_piece_at, link_end_at, event_of, event_at, answer_of, answer_at, input_at};
 
 use crate::names_line::names;
 use crate::number::number;
 use crate::piece::piece_of_line;
-use crate::stop::Stop;
+use crate::stop::{BadByte, Stop};
 use crate::token::{bytes_of_line, rest_of_line};
 use crate::word::{end, keyword, word};
 use crate::words::{ANSWERS, Answer, ENDINGS, Ending, SIDES, TOLD_SIGNALS, VERBS, Verb};
@@ -52,15 +52,15 @@ fn event_of(alloc: Global, at: Moment, verb: Verb, bytes: &[u8]) -> Result<Input
     ensures { Gives (λ x. x) result (event_of at verb bytes.now) }
 {
     match verb {
-        Verb::Tick => end(Input::Tick { at }, bytes),
-        Verb::Exit => exit(at, bytes),
+        Verb::Tick => Ok(end(Input::Tick { at }, bytes)?),
+        Verb::Exit => Ok(exit_of(at, bytes)?),
         Verb::Out => out(alloc, at, Stream::Out, bytes),
         Verb::Err => out(alloc, at, Stream::Err, bytes),
-        Verb::OutEnd => out_end(at, Stream::Out, bytes),
-        Verb::ErrEnd => out_end(at, Stream::Err, bytes),
-        Verb::Open => open(at, bytes),
+        Verb::OutEnd => Ok(out_end(at, Stream::Out, bytes)?),
+        Verb::ErrEnd => Ok(out_end(at, Stream::Err, bytes)?),
+        Verb::Open => Ok(open(at, bytes)?),
         Verb::Piece => link_piece(alloc, at, bytes),
-        Verb::End => link_end(at, bytes),
+        Verb::End => Ok(link_end(at, bytes)?),
         Verb::Start => {
             let name = rest_of_line(alloc, bytes)?;
             Ok(Input::Start { at, name })
@@ -72,15 +72,15 @@ fn event_of(alloc: Global, at: Moment, verb: Verb, bytes: &[u8]) -> Result<Input
         Verb::Signal => {
             let (told, rest) = keyword(&TOLD_SIGNALS, bytes)?;
             let signal = told.daemon_signal();
-            end(Input::Signal { at, signal }, rest)
+            Ok(end(Input::Signal { at, signal }, rest)?)
         }
     }
 }
 
 /// Reads how a child ended.
 #[tactic(auto, unfolding(crate::specs::ReadingLines::exit_at))]
-fn exit(at: Moment, bytes: &[u8]) -> Result<Input, Stop>
-    ensures { Gives (λ x. x) result (exit_at at bytes.now) }
+fn exit_of(at: Moment, bytes: &[u8]) -> Result<Input, BadByte>
+    ensures { GivesAlways (λ x. x) result (exit_at at bytes.now) }
 {
     let (run, rest) = number(0, u64::from(u32::MAX), bytes)?;
     let rest = word(b" ", rest)?;
@@ -89,8 +89,8 @@ fn exit(at: Moment, bytes: &[u8]) -> Result<Input, Stop>
 }
 
 #[tactic(auto, unfolding(crate::specs::ReadingLines::how_at))]
-fn how(at: Moment, run: Run, ending: Ending, bytes: &[u8]) -> Result<Input, Stop>
-    ensures { Gives (λ x. x) result (how_at at run ending bytes.now) }
+fn how(at: Moment, run: Run, ending: Ending, bytes: &[u8]) -> Result<Input, BadByte>
+    ensures { GivesAlways (λ x. x) result (how_at at run ending bytes.now) }
 {
     match ending {
         Ending::Code => {
@@ -136,8 +136,8 @@ fn out(alloc: Global, at: Moment, stream: Stream, bytes: &[u8]) -> Result<Input,
 
 /// Reads whose stream ended.
 #[tactic(auto, unfolding(crate::specs::ReadingLines::out_end_at))]
-fn out_end(at: Moment, stream: Stream, bytes: &[u8]) -> Result<Input, Stop>
-    ensures { Gives (λ x. x) result (out_end_at at stream bytes.now) }
+fn out_end(at: Moment, stream: Stream, bytes: &[u8]) -> Result<Input, BadByte>
+    ensures { GivesAlways (λ x. x) result (out_end_at at stream bytes.now) }
 {
     let (run, rest) = number(0, u64::from(u32::MAX), bytes)?;
     let run = Run(run as u32);
@@ -146,8 +146,8 @@ fn out_end(at: Moment, stream: Stream, bytes: &[u8]) -> Result<Input, Stop>
 
 /// Reads by which side a client connected.
 #[tactic(auto, unfolding(crate::specs::ReadingLines::open_at))]
-fn open(at: Moment, bytes: &[u8]) -> Result<Input, Stop>
-    ensures { Gives (λ x. x) result (open_at at bytes.now) }
+fn open(at: Moment, bytes: &[u8]) -> Result<Input, BadByte>
+    ensures { GivesAlways (λ x. x) result (open_at at bytes.now) }
 {
     let (link, rest) = number(0, u64::from(u32::MAX), bytes)?;
     let link = LinkId(link as u32);
@@ -170,8 +170,8 @@ fn link_piece(alloc: Global, at: Moment, bytes: &[u8]) -> Result<Input, Stop>
 
 /// Reads which link ended.
 #[tactic(auto, unfolding(crate::specs::ReadingLines::link_end_at))]
-fn link_end(at: Moment, bytes: &[u8]) -> Result<Input, Stop>
-    ensures { Gives (λ x. x) result (link_end_at at bytes.now) }
+fn link_end(at: Moment, bytes: &[u8]) -> Result<Input, BadByte>
+    ensures { GivesAlways (λ x. x) result (link_end_at at bytes.now) }
 {
     let (link, rest) = number(0, u64::from(u32::MAX), bytes)?;
     let link = LinkId(link as u32);
@@ -193,10 +193,10 @@ fn answer_of(alloc: Global, answer: Answer, bytes: &[u8]) -> Result<Input, Stop>
     match answer {
         Answer::Pid => {
             let (pid, rest) = number(1, u64::from(u32::MAX), bytes)?;
-            end(Input::Pid(Pid::new(pid as u32).unwrap()), rest)
+            Ok(end(Input::Pid(Pid::new(pid as u32).unwrap()), rest)?)
         }
-        Answer::NoFile => end(Input::NoFile, bytes),
-        Answer::NotExecutable => end(Input::NotExecutable, bytes),
+        Answer::NoFile => Ok(end(Input::NoFile, bytes)?),
+        Answer::NotExecutable => Ok(end(Input::NotExecutable, bytes)?),
         Answer::Refused => {
             let reason = rest_of_line(alloc, bytes)?;
             Ok(Input::Refused(reason))
@@ -205,16 +205,16 @@ fn answer_of(alloc: Global, answer: Answer, bytes: &[u8]) -> Result<Input, Stop>
             let bytes = bytes_of_line(alloc, bytes)?;
             Ok(Input::Read(bytes))
         }
-        Answer::Done => end(Input::Done, bytes),
-        Answer::Missing => end(Input::Missing, bytes),
+        Answer::Done => Ok(end(Input::Done, bytes)?),
+        Answer::Missing => Ok(end(Input::Missing, bytes)?),
         Answer::Names => names(alloc, bytes),
         Answer::Size => {
             let (size, rest) = number(0, u64::MAX, bytes)?;
-            end(Input::Size(size), rest)
+            Ok(end(Input::Size(size), rest)?)
         }
         Answer::Failed => {
             let (order, rest) = number(0, u64::MAX, bytes)?;
-            end(Input::Failed(order), rest)
+            Ok(end(Input::Failed(order), rest)?)
         }
     }
 }

@@ -65,7 +65,7 @@ fn text_above<'a>(alloc: Global, below: &Text, bytes: &'a [u8]) -> Result<(Text,
     }
 }
 
-/// Reads a name behind a space that stands above the last of these, if there is one.
+/// Reads a name after a space that stands above the last of these, if there is one.
 fn name<'a>(alloc: Global, names: &[Text], bytes: &'a [u8]) -> Result<(Text, &'a [u8]), Stop>
     ensures { Gives (λ x. (x.0, x.1.now)) result
         (spaced_name_at (slice_get names.now (length names.now - 1)) bytes.now) }
@@ -77,7 +77,7 @@ fn name<'a>(alloc: Global, names: &[Text], bytes: &'a [u8]) -> Result<(Text, &'a
     }
 }
 
-/// Reads so many names that rise, each behind a space.
+/// Reads so many names that rise, each after a space.
 #[tactic(auto, using(crate::proofs::ReadingNames::names_none, crate::proofs::ReadingNames::names_stop))]
 fn names_of(alloc: Global, count: u64, bytes: &[u8]) -> Result<(Vec<Text>, &[u8]), Stop>
     ensures { Gives (λ x. (x.0.items, x.1.now)) result (names_at None count bytes.now) }
@@ -105,7 +105,7 @@ pub fn names(alloc: Global, bytes: &[u8]) -> Result<Input, Stop>
 {
     let (count, rest) = number(0, u64::MAX, bytes)?;
     match names_of(alloc, count, rest) {
-        Ok((names, rest)) => end(Input::Names(RisingNames::new(names).unwrap()), rest),
+        Ok((names, rest)) => Ok(end(Input::Names(RisingNames::new(names).unwrap()), rest)?),
         Err(stop) => Err(stop),
     }
 }

@@ -1,23 +1,23 @@
 //! Decimal numbers without leading zeros.
 ghost use Rattle.std.specs.Prelude.{◌<◌, ◌≤◌, ◌^◌, IfOk, length};
-ghost use Rattle.sv_journal.specs.Reading.{Gives, number_at};
+ghost use Rattle.sv_journal.specs.Reading.{GivesAlways, number_at};
 
-use crate::stop::Stop;
+use crate::stop::BadByte;
 
 /// Reads a number of at least `least`, which is 0 or 1, and at most `limit`, in decimal without leading zeros.
-pub fn number(least: u64, limit: u64, bytes: &[u8]) -> Result<(u64, &[u8]), Stop>
+pub fn number(least: u64, limit: u64, bytes: &[u8]) -> Result<(u64, &[u8]), BadByte>
     requires low { 9 ≤ limit }
     requires high { limit < 2 ^ 64 }
-    ensures value { Gives (λ x. (x.0, x.1.now)) result (number_at least limit bytes.now) }
+    ensures value { GivesAlways (λ x. (x.0, x.1.now)) result (number_at least limit bytes.now) }
     ensures bound { IfOk result (λ x. x.0 ≤ limit) }
     ensures shorter { IfOk result (λ x. length x.1.now < length bytes.now) }
     ensures begin { IfOk result (λ x. least ≤ 1 → least ≤ x.0) }
 {
     let [first, after @ ..] = bytes else {
-        return Err(Stop::At(0));
+        return Err(BadByte(0));
     };
     if !first.is_ascii_digit() || u64::from(*first - b'0') < least {
-        return Err(Stop::At(bytes.len()));
+        return Err(BadByte(bytes.len()));
     }
     let mut value = u64::from(*first - b'0');
     let mut rest = after;

@@ -1,11 +1,11 @@
 //! Reading an order line, part by part.
 ghost use Rattle.std.specs.Prelude.{◌≡◌, ◌≤◌};
-ghost use Rattle.sv_journal.specs.Reading.{Gives};
+ghost use Rattle.sv_journal.specs.Reading.{Gives, GivesAlways};
 ghost use Rattle.sv_journal.specs.OrderReading.{text_at, pair_at, items_at, counted_at, text_numbers_at, number_bytes_at, last_text_at, text_bytes_at, two_texts_at, last_number_at, edge_at, state_at, kill_at, command_at, place_at, spawn_at, order_of, order_at};
 
 use crate::number::number;
 use crate::order_words::{ORDER_WORDS, OrderWord, RECEIVERS, STATES};
-use crate::stop::Stop;
+use crate::stop::{BadByte, Stop};
 use crate::token::{Letters, bytes_of_line, rest_of_line, token};
 use crate::word::{end, keyword, word};
 use crate::words::SIGNALS;
@@ -49,7 +49,7 @@ fn order_of(alloc: Global, word: OrderWord, bytes: &[u8]) -> Result<Order, Stop>
             })
         }
         OrderWord::Spawn => spawn(alloc, bytes),
-        OrderWord::Kill => kill(bytes),
+        OrderWord::Kill => Ok(kill(bytes)?),
         OrderWord::Stdin => {
             let (run, bytes) = number_and_bytes(alloc, bytes)?;
             Ok(Order::Stdin {
@@ -104,11 +104,11 @@ fn order_of(alloc: Global, word: OrderWord, bytes: &[u8]) -> Result<Order, Stop>
             let link = last_number(bytes)?;
             Ok(Order::Close { link: LinkId(link) })
         }
-        OrderWord::Halt => end(Order::Halt, bytes),
+        OrderWord::Halt => Ok(end(Order::Halt, bytes)?),
     }
 }
 
-/// Reads a text behind a space.
+/// Reads a text after a space.
 fn text(alloc: Global, bytes: &[u8]) -> Result<(Text, &[u8]), Stop>
     ensures { Gives (λ x. (x.0, x.1.now)) result (text_at bytes.now) }
 {
@@ -116,7 +116,7 @@ fn text(alloc: Global, bytes: &[u8]) -> Result<(Text, &[u8]), Stop>
     token(alloc, Letters::OfText, rest)
 }
 
-/// Reads a text behind a space, which ends the line.
+/// Reads a text after a space, which ends the line.
 #[tactic(auto, unfolding(crate::specs::OrderReading::last_text_at))]
 fn last_text(alloc: Global, bytes: &[u8]) -> Result<Text, Stop>
     ensures { Gives (λ x. x) result (last_text_at bytes.now) }
@@ -139,7 +139,7 @@ fn two_texts(alloc: Global, bytes: &[u8]) -> Result<(Text, Text), Stop>
     }
 }
 
-/// Reads a text, and bytes behind a space, which end the line.
+/// Reads a text, and bytes after a space, which end the line.
 #[tactic(auto, unfolding(crate::specs::OrderReading::text_bytes_at))]
 fn text_and_bytes(alloc: Global, bytes: &[u8]) -> Result<(Text, Bytes), Stop>
     ensures { Gives (λ x. x) result (text_bytes_at bytes.now) }
@@ -154,7 +154,7 @@ fn text_and_bytes(alloc: Global, bytes: &[u8]) -> Result<(Text, Bytes), Stop>
     }
 }
 
-/// Reads a run or a link, and bytes behind a space, which end the line.
+/// Reads a run or a link, and bytes after a space, which end the line.
 #[tactic(auto, unfolding(crate::specs::OrderReading::number_bytes_at))]
 fn number_and_bytes(alloc: Global, bytes: &[u8]) -> Result<(u32, Bytes), Stop>
     ensures { Gives (λ x. x) result (number_bytes_at bytes.now) }
@@ -167,8 +167,8 @@ fn number_and_bytes(alloc: Global, bytes: &[u8]) -> Result<(u32, Bytes), Stop>
 
 /// Reads a run or a link, which ends the line.
 #[tactic(auto, unfolding(crate::specs::OrderReading::last_number_at))]
-fn last_number(bytes: &[u8]) -> Result<u32, Stop>
-    ensures { Gives (λ x. x) result (last_number_at bytes.now) }
+fn last_number(bytes: &[u8]) -> Result<u32, BadByte>
+    ensures { GivesAlways (λ x. x) result (last_number_at bytes.now) }
 {
     let (number, rest) = number(0, u64::from(u32::MAX), bytes)?;
     end(number as u32, rest)
@@ -185,7 +185,7 @@ fn text_and_numbers(alloc: Global, bytes: &[u8]) -> Result<(Text, u64, u64), Sto
             let (first, rest) = number(0, u64::MAX, rest)?;
             let rest = word(b" ", rest)?;
             let (second, rest) = number(0, u64::MAX, rest)?;
-            end((text, first, second), rest)
+            Ok(end((text, first, second), rest)?)
         }
         Err(stop) => Err(stop),
     }
@@ -198,7 +198,7 @@ fn state(alloc: Global, bytes: &[u8]) -> Result<Order, Stop>
 {
     match text(alloc, bytes) {
         Ok((group, rest)) => match text(alloc, rest) {
-            Ok((name, rest)) => edge(group, name, rest),
+            Ok((name, rest)) => Ok(edge(group, name, rest)?),
             Err(stop) => Err(stop),
         },
         Err(stop) => Err(stop),
@@ -207,8 +207,8 @@ fn state(alloc: Global, bytes: &[u8]) -> Result<Order, Stop>
 
 /// Reads the two states of an edge.
 #[tactic(auto, unfolding(crate::specs::OrderReading::edge_at))]
-fn edge(group: Text, name: Text, bytes: &[u8]) -> Result<Order, Stop>
-    ensures { Gives (λ x. x) result (edge_at group name bytes.now) }
+fn edge(group: Text, name: Text, bytes: &[u8]) -> Result<Order, BadByte>
+    ensures { GivesAlways (λ x. x) result (edge_at group name bytes.now) }
 {
     let rest = word(b" ", bytes)?;
     let (from, rest) = keyword(&STATES, rest)?;
@@ -227,8 +227,8 @@ fn edge(group: Text, name: Text, bytes: &[u8]) -> Result<Order, Stop>
 
 /// Reads a signal, and who is sent it.
 #[tactic(auto, unfolding(crate::specs::OrderReading::kill_at))]
-fn kill(bytes: &[u8]) -> Result<Order, Stop>
-    ensures { Gives (λ x. x) result (kill_at bytes.now) }
+fn kill(bytes: &[u8]) -> Result<Order, BadByte>
+    ensures { GivesAlways (λ x. x) result (kill_at bytes.now) }
 {
     let (run, rest) = number(0, u64::from(u32::MAX), bytes)?;
     let rest = word(b" ", rest)?;
@@ -244,7 +244,7 @@ fn kill(bytes: &[u8]) -> Result<Order, Stop>
     )
 }
 
-/// Reads all of a spawn behind its word.
+/// Reads all of a spawn after its word.
 #[tactic(auto, unfolding(crate::specs::OrderReading::spawn_at))]
 fn spawn(alloc: Global, bytes: &[u8]) -> Result<Order, Stop>
     ensures { Gives (λ x. x) result (spawn_at bytes.now) }
@@ -301,7 +301,7 @@ fn command(alloc: Global, run: Run, names: Names, bytes: &[u8]) -> Result<Order,
     } = names;
     match texts(alloc, bytes) {
         Ok((words, rest)) => match pairs(alloc, rest) {
-            Ok((environment, rest)) => end(
+            Ok((environment, rest)) => Ok(end(
                 Order::Spawn(SpawnOrder {
                     run,
                     group,
@@ -313,14 +313,14 @@ fn command(alloc: Global, run: Run, names: Names, bytes: &[u8]) -> Result<Order,
                     environment,
                 }),
                 rest,
-            ),
+            )?),
             Err(stop) => Err(stop),
         },
         Err(stop) => Err(stop),
     }
 }
 
-/// Reads how many texts there are, and each of them behind a space.
+/// Reads how many texts there are, and each of them after a space.
 #[tactic(auto, using(crate::proofs::Counted::items_more, crate::proofs::Counted::items_none, crate::proofs::Counted::items_stop))]
 fn texts(alloc: Global, bytes: &[u8]) -> Result<(Items<Text>, &[u8]), Stop>
     ensures { Gives (λ x. (x.0, x.1.now)) result (counted_at text_at bytes.now) }
@@ -342,7 +342,7 @@ fn texts(alloc: Global, bytes: &[u8]) -> Result<(Items<Text>, &[u8]), Stop>
     Ok((texts, rest))
 }
 
-/// Reads a name and a value, each behind a space.
+/// Reads a name and a value, each after a space.
 fn pair(alloc: Global, bytes: &[u8]) -> Result<((Text, Text), &[u8]), Stop>
     ensures { Gives (λ x. (x.0, x.1.now)) result (pair_at bytes.now) }
 {
@@ -355,7 +355,7 @@ fn pair(alloc: Global, bytes: &[u8]) -> Result<((Text, Text), &[u8]), Stop>
     }
 }
 
-/// Reads how many pairs there are, and each name and value behind a space.
+/// Reads how many pairs there are, and each name and value after a space.
 #[tactic(auto, using(crate::proofs::Counted::items_more, crate::proofs::Counted::items_none, crate::proofs::Counted::items_stop))]
 fn pairs(alloc: Global, bytes: &[u8]) -> Result<(Items<(Text, Text)>, &[u8]), Stop>
     ensures { Gives (λ x. (x.0, x.1.now)) result (counted_at pair_at bytes.now) }

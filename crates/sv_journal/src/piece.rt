@@ -1,23 +1,23 @@
 //! Pieces of pipes and links.
 ghost use Rattle.std.specs.Prelude.{◌≡◌, ◌<◌, ◌≤◌, IfOk, length};
 ghost use Rattle.sv_base.specs.Limits.{piece_limit};
-ghost use Rattle.sv_journal.specs.Reading.{Gives};
+ghost use Rattle.sv_journal.specs.Reading.{Gives, GivesAlways};
 ghost use Rattle.sv_journal.specs.Pieces.{byte_at, bytes_at, piece_at};
 
-use crate::stop::Stop;
+use crate::stop::{BadByte, Stop};
 use crate::token::{Awaits, Letters, escape, stands_for_itself};
 use std::alloc::Global;
 use sv_base::bytes::{PIECE_LIMIT, Piece};
 
 /// Reads one byte of a piece.
-fn byte(bytes: &[u8]) -> Result<(u8, &[u8]), Stop>
-    ensures value { Gives (λ x. (x.0, x.1.now)) result (byte_at bytes.now) }
+fn byte(bytes: &[u8]) -> Result<(u8, &[u8]), BadByte>
+    ensures value { GivesAlways (λ x. (x.0, x.1.now)) result (byte_at bytes.now) }
     ensures shorter { IfOk result (λ x. length x.1.now < length bytes.now) }
 {
     match bytes {
         [b'%', rest @ ..] => escape(Letters::OfBytes, Awaits::Character, rest),
         [byte, rest @ ..] if stands_for_itself(*byte) => Ok((*byte, rest)),
-        _ => Err(Stop::At(bytes.len())),
+        _ => Err(BadByte(bytes.len())),
     }
 }
 
@@ -40,7 +40,7 @@ fn spelled(alloc: Global, bytes: &[u8]) -> Result<Vec<u8>, Stop>
                 rest = after;
                 room -= 1;
             }
-            Err(stop) => return Err(stop),
+            Err(bad) => return Err(Stop::At(bad.0)),
         }
     }
     Ok(value)

@@ -1,8 +1,14 @@
 //! Why reading stopped.
 ghost use Rattle.std.specs.Prelude.{◌≡◌};
 ghost use Rattle.sv_journal.specs.declared.stop.Stop.{Stop};
+ghost use Rattle.sv_journal.specs.declared.stop.BadByte.{BadByte};
 
 use std::alloc::{AllocError, AllocFailed};
+
+/// Why reading without memory stopped within a line: at the first byte that no line of a journal has there, with so many
+/// bytes from it to the line's end.
+#[derive(Clone, Copy, Debug, PartialEq, Eq)]
+pub struct BadByte(pub usize);
 
 /// Why reading stopped within a line.
 #[derive(Clone, Copy, Debug, PartialEq, Eq)]
@@ -11,6 +17,14 @@ pub enum Stop {
     At(usize),
     /// Out of memory.
     OutOfMemory,
+}
+
+impl From<BadByte> for Stop {
+    ghost from_gives = { λ bad stop. stop ≡ Stop.At bad.0 };
+
+    fn from(bad: BadByte) -> Stop {
+        Stop::At(bad.0)
+    }
 }
 
 impl From<AllocError> for Stop {

@@ -2,9 +2,9 @@
 ghost use Rattle.std.specs.Prelude.{◌≡◌, ◌<◌, IfOk};
 ghost use Rattle.sv_journal.specs.Escapes.{is_escape, begins_escape, first_digit_of, second_digit_of, escape_of, byte_of};
 ghost use Rattle.sv_journal.specs.Names.{text_byte};
-ghost use Rattle.sv_journal.specs.Reading.{Gives};
+ghost use Rattle.sv_journal.specs.Reading.{GivesAlways};
 
-use crate::stop::Stop;
+use crate::stop::BadByte;
 use crate::token::{Awaits, Letters, hex_value, stands_for_itself};
 
 /// Which byte of a text may come: one that fits at this place and isn't below `least`.
@@ -39,38 +39,38 @@ impl TextByte {
     }
 
     /// Reads the first digit of an escape.
-    fn first_digit(self, bytes: &[u8]) -> Result<(u8, &[u8]), Stop>
-        ensures value { Gives (λ x. (x.0, x.1.now)) result
+    fn first_digit(self, bytes: &[u8]) -> Result<(u8, &[u8]), BadByte>
+        ensures value { GivesAlways (λ x. (x.0, x.1.now)) result
             (first_digit_of (text_byte self.least self.awaits) bytes.now) }
         ensures bound { IfOk result (λ x. x.0 < 16) }
     {
         let [digit, rest @ ..] = bytes else {
-            return Err(Stop::At(0));
+            return Err(BadByte(0));
         };
         match hex_value(*digit) {
             Some(high) if self.may_begin(high) => Ok((high, rest)),
-            _ => Err(Stop::At(bytes.len())),
+            _ => Err(BadByte(bytes.len())),
         }
     }
 
     /// Reads the second digit of an escape, and gives the byte.
-    fn second_digit(self, high: u8, bytes: &[u8]) -> Result<(u8, &[u8]), Stop>
+    fn second_digit(self, high: u8, bytes: &[u8]) -> Result<(u8, &[u8]), BadByte>
         requires { high < 16 }
-        ensures { Gives (λ x. (x.0, x.1.now)) result
+        ensures { GivesAlways (λ x. (x.0, x.1.now)) result
             (second_digit_of (text_byte self.least self.awaits) high bytes.now) }
     {
         let [digit, rest @ ..] = bytes else {
-            return Err(Stop::At(0));
+            return Err(BadByte(0));
         };
         match hex_value(*digit) {
             Some(low) if self.escapes(16 * high + low) => Ok((16 * high + low, rest)),
-            _ => Err(Stop::At(bytes.len())),
+            _ => Err(BadByte(bytes.len())),
         }
     }
 
     /// Reads what follows the percent sign of an escape, and gives the byte.
-    fn escape(self, bytes: &[u8]) -> Result<(u8, &[u8]), Stop>
-        ensures { Gives (λ x. (x.0, x.1.now)) result
+    fn escape(self, bytes: &[u8]) -> Result<(u8, &[u8]), BadByte>
+        ensures { GivesAlways (λ x. (x.0, x.1.now)) result
             (escape_of (text_byte self.least self.awaits) bytes.now) }
     {
         let (high, rest) = self.first_digit(bytes)?;
@@ -78,8 +78,8 @@ impl TextByte {
     }
 
     /// Reads the byte, as it is or as its escape.
-    pub fn read(self, bytes: &[u8]) -> Result<(u8, &[u8]), Stop>
-        ensures { Gives (λ x. (x.0, x.1.now)) result
+    pub fn read(self, bytes: &[u8]) -> Result<(u8, &[u8]), BadByte>
+        ensures { GivesAlways (λ x. (x.0, x.1.now)) result
             (byte_of (text_byte self.least self.awaits) bytes.now) }
     {
         match bytes {
@@ -87,7 +87,7 @@ impl TextByte {
             [byte, rest @ ..] if stands_for_itself(*byte) && self.allows(*byte) => {
                 Ok((*byte, rest))
             }
-            _ => Err(Stop::At(bytes.len())),
+            _ => Err(BadByte(bytes.len())),
         }
     }
 }

@@ -5,9 +5,9 @@ ghost use Rattle.sv_journal.specs.declared.token.Letters.{Letters};
 ghost use Rattle.sv_journal.specs.declared.token.Awaits.{Awaits};
 ghost use Rattle.sv_journal.specs.Spelling.{stands_for_itself};
 ghost use Rattle.sv_journal.specs.Tokens.{is_name_letter, whole_below, allows, after, after_lead, escapes, is_hex, hex_value, may_begin, is_first_digit, is_second_digit};
-ghost use Rattle.sv_journal.specs.Reading.{Gives, Stage, first_digit_at, second_digit_at, escape_at, spelled_byte_at, token_from, with_front, is_lone, token_at, last_token_at};
+ghost use Rattle.sv_journal.specs.Reading.{Gives, GivesAlways, Stage, first_digit_at, second_digit_at, escape_at, spelled_byte_at, token_from, with_front, is_lone, token_at, last_token_at};
 
-use crate::stop::Stop;
+use crate::stop::{BadByte, Stop};
 use crate::word::end;
 use std::alloc::Global;
 use sv_base::bytes::Bytes;
@@ -71,7 +71,7 @@ impl Awaits {
         }
     }
 
-    /// What the token goes on with behind this byte.
+    /// What the token goes on with after this byte.
     pub fn after(self, letters: Letters, byte: u8) -> Awaits
         ensures { result ≡ after letters self byte }
     {
@@ -154,17 +154,17 @@ fn is_first_digit(letters: Letters, awaits: Awaits, digit: u8) -> bool
 }
 
 /// Reads the first digit of an escape.
-fn first_digit(letters: Letters, awaits: Awaits, bytes: &[u8]) -> Result<(u8, &[u8]), Stop>
-    ensures value { Gives (λ x. (x.0, x.1.now)) result (first_digit_at letters awaits bytes.now) }
+fn first_digit(letters: Letters, awaits: Awaits, bytes: &[u8]) -> Result<(u8, &[u8]), BadByte>
+    ensures value { GivesAlways (λ x. (x.0, x.1.now)) result (first_digit_at letters awaits bytes.now) }
     ensures shorter { IfOk result (λ x. length x.1.now < length bytes.now) }
     ensures bound { IfOk result (λ x. x.0 < 16) }
 {
     let [digit, rest @ ..] = bytes else {
-        return Err(Stop::At(0));
+        return Err(BadByte(0));
     };
     match hex_value(*digit) {
         Some(high) if may_begin(letters, awaits, high) => Ok((high, rest)),
-        _ => Err(Stop::At(bytes.len())),
+        _ => Err(BadByte(bytes.len())),
     }
 }
 
@@ -174,24 +174,24 @@ fn second_digit(
     awaits: Awaits,
     high: u8,
     bytes: &[u8],
-) -> Result<(u8, &[u8]), Stop>
+) -> Result<(u8, &[u8]), BadByte>
     requires { high < 16 }
-    ensures value { Gives (λ x. (x.0, x.1.now)) result
+    ensures value { GivesAlways (λ x. (x.0, x.1.now)) result
         (second_digit_at letters awaits high bytes.now) }
     ensures shorter { IfOk result (λ x. length x.1.now < length bytes.now) }
 {
     let [digit, rest @ ..] = bytes else {
-        return Err(Stop::At(0));
+        return Err(BadByte(0));
     };
     match hex_value(*digit) {
         Some(low) if awaits.escapes(letters, 16 * high + low) => Ok((16 * high + low, rest)),
-        _ => Err(Stop::At(bytes.len())),
+        _ => Err(BadByte(bytes.len())),
     }
 }
 
 /// Reads what follows the percent sign of an escape, and gives the byte.
-pub fn escape(letters: Letters, awaits: Awaits, bytes: &[u8]) -> Result<(u8, &[u8]), Stop>
-    ensures value { Gives (λ x. (x.0, x.1.now)) result (escape_at letters awaits bytes.now) }
+pub fn escape(letters: Letters, awaits: Awaits, bytes: &[u8]) -> Result<(u8, &[u8]), BadByte>
+    ensures value { GivesAlways (λ x. (x.0, x.1.now)) result (escape_at letters awaits bytes.now) }
     ensures shorter { IfOk result (λ x. length x.1.now < length bytes.now) }
 {
     let (high, rest) = first_digit(letters, awaits, bytes)?;
@@ -199,8 +199,12 @@ pub fn escape(letters: Letters, awaits: Awaits, bytes: &[u8]) -> Result<(u8, &[u
 }
 
 /// Reads one byte of a token, or gives none where the token ends.
-fn spelled_byte(letters: Letters, awaits: Awaits, bytes: &[u8]) -> Result<Option<(u8, &[u8])>, Stop>
-    ensures value { Gives (option_map (λ x. (x.0, x.1.now))) result
+fn spelled_byte(
+    letters: Letters,
+    awaits: Awaits,
+    bytes: &[u8],
+) -> Result<Option<(u8, &[u8])>, BadByte>
+    ensures value { GivesAlways (option_map (λ x. (x.0, x.1.now))) result
         (spelled_byte_at letters awaits bytes.now) }
     ensures shorter { IfOk result (λ o. IfSome o (λ x. length x.1.now < length bytes.now)) }
 {
@@ -211,12 +215,12 @@ fn spelled_byte(letters: Letters, awaits: Awaits, bytes: &[u8]) -> Result<Option
         ))),
         _ => match awaits {
             Awaits::Character => Ok(None),
-            Awaits::Continuation { .. } => Err(Stop::At(bytes.len())),
+            Awaits::Continuation { .. } => Err(BadByte(bytes.len())),
         },
     }
 }
 
-/// Reads the bytes of a token behind those that were read, at this place of it.
+/// Reads the bytes of a token after those that were read, at this place of it.
 #[tactic(auto, using(crate::proofs::Stages::step_more, crate::proofs::Stages::step_end, crate::proofs::Stages::step_err))]
 pub fn spelled_behind(
     mut value: Vec<u8>,
@@ -236,7 +240,7 @@ pub fn spelled_behind(
                 rest = after;
             }
             Ok(None) => return Ok((value, rest)),
-            Err(stop) => return Err(stop),
+            Err(bad) => return Err(Stop::At(bad.0)),
         }
     }
 }
@@ -302,7 +306,7 @@ pub fn bytes_of_line(alloc: Global, bytes: &[u8]) -> Result<Bytes, Stop>
     ensures { Gives (λ x. x) result (last_token_at Letters.OfBytes bytes.now) }
 {
     match spelling(alloc, Letters::OfBytes, bytes) {
-        Ok((value, rest)) => end(Bytes::from_vec(value), rest),
+        Ok((value, rest)) => Ok(end(Bytes::from_vec(value), rest)?),
         Err(stop) => Err(stop),
     }
 }
@@ -312,7 +316,7 @@ pub fn rest_of_line(alloc: Global, bytes: &[u8]) -> Result<Text, Stop>
     ensures { Gives (λ x. x) result (last_token_at Letters.OfText bytes.now) }
 {
     match token(alloc, Letters::OfText, bytes) {
-        Ok((text, rest)) => end(text, rest),
+        Ok((text, rest)) => Ok(end(text, rest)?),
         Err(stop) => Err(stop),
     }
 }

@@ -1,19 +1,19 @@
 //! The words of a line and its end.
 ghost use Rattle.std.specs.Prelude.{◌≡◌, List, ℕ};
-ghost use Rattle.sv_journal.specs.Reading.{Gives, word_at, keyword_at, end_at};
+ghost use Rattle.sv_journal.specs.Reading.{GivesAlways, word_at, keyword_at, end_at};
 
-use crate::stop::Stop;
+use crate::stop::BadByte;
 
 /// Reads this word, and gives what follows it.
-pub fn word<'a>(wanted: &[u8], bytes: &'a [u8]) -> Result<&'a [u8], Stop>
-    ensures { Gives (λ rest. rest.now) result (word_at wanted.now bytes.now) }
+pub fn word<'a>(wanted: &[u8], bytes: &'a [u8]) -> Result<&'a [u8], BadByte>
+    ensures { GivesAlways (λ rest. rest.now) result (word_at wanted.now bytes.now) }
 {
     let mut left = wanted;
     let mut rest = bytes;
     while let [next, more @ ..] = left {
         match rest {
             [byte, after @ ..] if *byte == *next => rest = after,
-            _ => return Err(Stop::At(rest.len())),
+            _ => return Err(BadByte(rest.len())),
         }
         left = more;
     }
@@ -21,13 +21,13 @@ pub fn word<'a>(wanted: &[u8], bytes: &'a [u8]) -> Result<&'a [u8], Stop>
 }
 
 /// The line ends here, with this value.
-pub fn end<T: Drop>(value: T, bytes: &[u8]) -> Result<T, Stop>
-    ensures { Gives (λ x. x) result (end_at value bytes.now) }
+pub fn end<T: Drop>(value: T, bytes: &[u8]) -> Result<T, BadByte>
+    ensures { GivesAlways (λ x. x) result (end_at value bytes.now) }
 {
     if bytes.is_empty() {
         Ok(value)
     } else {
-        Err(Stop::At(bytes.len()))
+        Err(BadByte(bytes.len()))
     }
 }
 
@@ -41,18 +41,17 @@ pub trait Spelled: Copy {
 }
 
 /// Reads one of these words. Where none stands here, the bad byte is the first that goes on with none of them.
-pub fn keyword<'a, W: Spelled>(words: &[W], bytes: &'a [u8]) -> Result<(W, &'a [u8]), Stop>
-    ensures { Gives (λ x. (x.0, x.1.now)) result (keyword_at W.spelling_of words.now bytes.now) }
+pub fn keyword<'a, W: Spelled>(words: &[W], bytes: &'a [u8]) -> Result<(W, &'a [u8]), BadByte>
+    ensures { GivesAlways (λ x. (x.0, x.1.now)) result (keyword_at W.spelling_of words.now bytes.now) }
 {
     let mut least = bytes.len();
     let mut left = words;
     while let [next, more @ ..] = left {
         match word(next.spelling().as_bytes(), bytes) {
             Ok(rest) => return Ok((*next, rest)),
-            Err(Stop::At(bad)) => least = least.min(bad),
-            Err(Stop::OutOfMemory) => return Err(Stop::OutOfMemory),
+            Err(BadByte(bad)) => least = least.min(bad),
         }
         left = more;
     }
-    Err(Stop::At(least))
+    Err(BadByte(least))
 }

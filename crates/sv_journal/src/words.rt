@@ -8,7 +8,7 @@ use crate::word::Spelled;
 use sv_base::signal::{DaemonSignal, Signal};
 use sv_base::state::{Autorestart, Side};
 
-/// What happened, behind the moment of an input line.
+/// What happened, after the moment of an input line.
 #[derive(Clone, Copy, Debug)]
 pub enum Verb {
     Tick,

@@ -4,8 +4,10 @@ ghost use Rattle.std.specs.List.{flat_map};
 ghost use Rattle.std.specs.Fmt.{decimal};
 ghost use Rattle.sv_base.specs.Names.{signal_name};
 ghost use Rattle.sv_journal.specs.Spelling.{hex_digit, byte_spelling, bytes_spelling, token};
-ghost use Rattle.sv_journal.specs.JournalLine.{how_words, stream_word, stream_end_word, side_word, input_line, then_token, then_pair, spawn_line, order_line, receiver, counted_words, counted_pairs};
+ghost use Rattle.sv_journal.specs.Orders.{FitsOrder};
+ghost use Rattle.sv_journal.specs.JournalLine.{FitsInput, how_words, stream_word, stream_end_word, side_word, input_line, then_token, then_pair, spawn_line, order_line, receiver, counted_words, counted_pairs};
 
+use crate::fits::{input_fits, order_fits};
 use crate::token::stands_for_itself;
 use crate::word::Spelled;
 use std::alloc::{AllocError, Global};
@@ -19,8 +21,10 @@ use sv_out::order::{Order, SpawnOrder};
 
 /// The line of this input, without its line feed.
 pub fn write_input(alloc: Global, input: &Input) -> Result<Text, AllocError>
-    ensures { IfOk result (λ line. line ≡ input_line input.now) }
+    ensures line { IfOk result (λ line. line ≡ input_line input.now) }
+    ensures fits { FitsInput input.now }
 {
+    input_fits(input);
     let mut line = String::new(alloc);
     put_input(&mut line, input)?;
     Ok(Text::from_string(line))
@@ -28,8 +32,10 @@ pub fn write_input(alloc: Global, input: &Input) -> Result<Text, AllocError>
 
 /// The line of this order, without its line feed.
 pub fn write_order(alloc: Global, order: &Order) -> Result<Text, AllocError>
-    ensures { IfOk result (λ line. line ≡ order_line order.now) }
+    ensures line { IfOk result (λ line. line ≡ order_line order.now) }
+    ensures fits { FitsOrder order.now }
 {
+    order_fits(order);
     let mut line = String::new(alloc);
     put_order(&mut line, order)?;
     Ok(Text::from_string(line))

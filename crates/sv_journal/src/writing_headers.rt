@@ -4,9 +4,11 @@ ghost use Rattle.std.specs.List.{flat_map};
 ghost use Rattle.std.specs.Fmt.{decimal};
 ghost use Rattle.sv_journal.specs.Commas.{then_number};
 ghost use Rattle.sv_journal.specs.Spelling.{comma_list, token};
-ghost use Rattle.sv_journal.specs.JournalLine.{header_line, program_line};
+ghost use Rattle.sv_journal.specs.JournalLine.{FitsHeader, header_line, program_line};
 
+use crate::fits::header_fits;
 use crate::header::{Header, Program};
+use crate::program_name::ProgramName;
 use crate::word::Spelled;
 use crate::write::{put_counted, put_number, put_spelled, put_token};
 use std::alloc::{AllocError, Global};
@@ -14,8 +16,10 @@ use sv_base::text::Text;
 
 /// The line of this header, without its line feed.
 pub fn write_header(alloc: Global, header: &Header) -> Result<Text, AllocError>
-    ensures { IfOk result (λ line. line ≡ header_line header.now) }
+    ensures line { IfOk result (λ line. line ≡ header_line header.now) }
+    ensures fits { FitsHeader header.now }
 {
+    header_fits(header);
     let mut line = String::new(alloc);
     put_header(&mut line, header)?;
     Ok(Text::from_string(line))
@@ -26,7 +30,11 @@ fn put_header(line: &mut String, header: &Header) -> Result<(), AllocError>
         ≡ string_bytes line.old ++ header_line header.now) }
 {
     match header {
-        Header::Journal(version) => put_counted(line, "supervisor-journal ", u64::from(*version)),
+        Header::Journal(version) => put_counted(
+            line,
+            "supervisor-journal ",
+            u64::from(version.get()),
+        ),
         Header::Program(program) => put_program(line, program),
         Header::Host(name) => put_spelled(line, "host ", name.as_str().as_bytes()),
         Header::Here(directory) => put_spelled(line, "here ", directory.as_str().as_bytes()),
@@ -39,7 +47,7 @@ fn put_header(line: &mut String, header: &Header) -> Result<(), AllocError>
     }
 }
 
-/// Adds a word, a text, and bytes behind a space.
+/// Adds a word, a text, and bytes after a space.
 #[tactic(auto, using(crate::proofs::Lists::joined))]
 fn put_two(line: &mut String, word: &str, text: &Text, bytes: &[u8]) -> Result<(), AllocError>
     ensures { OnOk result (string_bytes line.new
@@ -64,7 +72,7 @@ fn put_program(line: &mut String, program: &Program) -> Result<(), AllocError>
     ensures { OnOk result (string_bytes line.new
         ≡ string_bytes line.old ++ program_line program.now) }
 {
-    put_spelled(line, "program ", program.name.as_str().as_bytes())?;
+    put_name(line, &program.name)?;
     put_counted(line, " ", u64::from(program.startsecs.get()))?;
     put_counted(line, " ", u64::from(program.startretries.get()))?;
     line.push_str(" ")?;
@@ -74,6 +82,14 @@ fn put_program(line: &mut String, program: &Program) -> Result<(), AllocError>
     line.push_str(" ")?;
     line.push_str(program.stopsignal.name())?;
     put_counted(line, " ", u64::from(program.stopwaitsecs.get()))
+}
+
+/// Adds the name of a program after its word.
+fn put_name(line: &mut String, name: &ProgramName) -> Result<(), AllocError>
+    ensures { OnOk result (string_bytes line.new
+        ≡ string_bytes line.old ++ (codes "program " ++ token name.now)) }
+{
+    put_spelled(line, "program ", name.as_text().as_str().as_bytes())
 }
 
 /// Adds numbers with commas between them.
@@ -87,7 +103,7 @@ fn put_codes(line: &mut String, codes: &[u8]) -> Result<(), AllocError>
     put_others(line, others)
 }
 
-/// Adds each of these numbers behind a comma.
+/// Adds each of these numbers after a comma.
 #[tactic(auto, using(crate::proofs::Lists::joined))]
 fn put_others(line: &mut String, others: &[u8]) -> Result<(), AllocError>
     ensures { OnOk result (string_bytes line.new

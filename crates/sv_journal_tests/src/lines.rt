@@ -259,7 +259,7 @@ pub const SIZES: [(&str, Option<usize>); 10] = [
     ("sized", Some(4)),
 ];
 
-/// Pieces of so many bytes, each spelled so, behind the front of a line and before an end of it.
+/// Pieces of so many bytes, each spelled so, after the prefix of a line and before an end of it.
 pub const LONG_PIECES: [(&str, &str, usize, &str, Option<usize>); 11] = [
     ("0 out 1 ", "a", 65_536, "", None),
     ("0 out 1 ", "a", 65_537, "", Some(65_544)),

@@ -22,7 +22,7 @@ use sv_out::rising::RisingNames;
 /// A line of a long header, as it is to be read.
 #[derive(Clone, Copy)]
 enum Wanted {
-    Journal(u8),
+    Journal(u32),
     Host(&'static str),
     Here(&'static str),
     Pid(u32),
@@ -194,7 +194,7 @@ fn a_piece_has_at_most_65536_bytes(rt: HostRuntime) {
 
 fn is_wanted(header: &Header, wanted: Wanted) -> bool {
     match (header, wanted) {
-        (Header::Journal(version), Wanted::Journal(wanted)) => *version == wanted,
+        (Header::Journal(version), Wanted::Journal(wanted)) => version.get() == wanted,
         (Header::Host(name), Wanted::Host(wanted)) => name.as_str() == wanted,
         (Header::Here(directory), Wanted::Here(wanted)) => directory.as_str() == wanted,
         (Header::Pid(pid), Wanted::Pid(wanted)) => *pid == wanted,
