@@ -203,7 +203,7 @@ prolog_front limits document question awaits (b ∷ bs) left P s q fail more e =
   ]
 ]
 
--- a front of what stands before the outermost element, or of its opening tag
+-- a prefix of what stands before the outermost element, or of its opening tag
 abbrev pub HeadFronts : Document → (List ℕ → Type 0) → Type 0
 HeadFronts document P = (head : HeadText) → IsHead head → (g : List ℕ) → IsFront g (printed_head head ++ spelling (begin_of document)) → P g
 
@@ -305,7 +305,7 @@ head_front limits document bs left P fail more e =
 white_on : (b : ℕ) (gap : List ℕ) → is_white b ≡ true → IsWhite gap → IsWhite (b ∷ gap)
 white_on b gap w g = rw (w, g) refl
 
--- behind the whole text
+-- after the whole text
 pub done_front : (limits : Limits) (count : ℕ) (spelled : Spelled) (bs : List ℕ) (left : ℕ) (P : List ℕ → Type 0) → ((after : List ℕ) → IsWhite after → P after)
     → run limits (at (At (AtDone spelled)) [] count) bs ≡ NotRead left → Good P bs left
 done_front limits count spelled [] left P fail e = elim (cases_Bool (ltb limits.values count)) [
@@ -321,7 +321,7 @@ done_front limits count spelled (b ∷ bs) left P fail e = elim (cases_Bool (is_
 abbrev pub param_of : List ℕ → List ℕ → ValueText → Ending → ParamText
 param_of gap g2 value ending = record { before = gap; before_value = g2; value = value; ending = ending }
 
--- each right text of a call gives its fronts
+-- each right text of a call gives its prefixes
 pub call_begins : (call : CallText) → IsCall call → (g : List ℕ) → IsFront g (printed_call call) → BeginsCall g
 call_begins call c g f = record { rest = f.0; call = call_of call; spells = record { text = call; right = c; printed = sym f.1; means = refl } }
 

@@ -22,7 +22,7 @@ use Rattle.sv_xmlcall.proofs.ValueFronts.{plain_end}
 use Rattle.sv_xmlcall.proofs.NestedFronts.{on_two, on_three, on_five, on_seven, value_front}
 use Rattle.sv_xmlcall.proofs.CallFronts.{head_front, done_front, param_of, call_begins, Start, IsStart, started, call_with, is_call}
 
--- the end of a call behind its params
+-- the end of a call after its params
 abbrev EndFails : Start → ParamsText → Type 0
 EndFails s params = (ending : Ending) → IsEnding ending → (g : List ℕ) → IsFront g (printed_end tag.EndMethodCall ending) → BeginsCall (started s ++ printed_params params ++ g)
 
@@ -40,7 +40,7 @@ end_goes limits s params count spelled left i p ending x rest e =
     (λ after w. call_begins (call_with s params ending after) (is_call s params ending after i p x w) (c ++ printed_end tag.EndMethodCall ending ++ after) ([], append-nil (c ++ printed_end tag.EndMethodCall ending ++ after)))
     e)
 
--- behind the params of a call, where they are whole
+-- after the params of a call, where they are whole
 behind_params : (limits : Limits) (s : Start) (params : ParamsText) (method : List ℕ) (values : Trees) (count : ℕ) (rest : List ℕ) (left : ℕ) → IsStart s → ArePossible params
     → run limits (at (At (AtParamsEnd method values)) [] count) rest ≡ NotRead left → Good (λ g. BeginsCall (started s ++ printed_params params ++ g)) rest left
 behind_params limits s params method values count rest left i p e =
@@ -183,7 +183,7 @@ params_go limits s i method bs left gap w t rest (inr (inr (inl is))) p h =
     (subst (λ (x : Tag). CalledHalts limits method x rest left) is h))
 params_go limits s i method bs left gap w t rest (inr (inr (inr o))) p h = absurd o
 
--- behind the name of a method
+-- after the name of a method
 pub params_front : (limits : Limits) (s : Start) → IsStart s → (method : List ℕ) (bs : List ℕ) (left : ℕ) → run limits (at (At (AtCalled method)) [] 0) bs ≡ NotRead left → Good (λ g. BeginsCall (started s ++ g)) bs left
 params_front limits s i method bs left e =
     ahead_front limits (AtCalled method) [] 0 bs left (λ g. BeginsCall (started s ++ g)) tt (tag.Params, inl refl)
@@ -204,7 +204,7 @@ not_none e = no_list e
 is_short : (head : HeadText) (before_name : List ℕ) → IsHead head → IsWhite before_name → IsStart (short head before_name)
 is_short head before_name h w = record { head = h; before_name = w; letters = an_a; named = not_none; inside = refl }
 
--- behind the opening tag of a call
+-- after the opening tag of a call
 pub method_front : (limits : Limits) (head : HeadText) (rest : List ℕ) (left : ℕ) → IsHead head → run limits (at (At AtMethod) [] 0) rest ≡ NotRead left
     → Good (λ g. BeginsCall (printed_head head ++ spelling tag.MethodCall ++ g)) rest left
 method_front limits head rest left h e =
@@ -235,7 +235,7 @@ method_front limits head rest left h e =
     (subst (λ (x : Tag). Halts limits (enter limits AtMethod x [] 0) 0 rest1 left) is j))))
     e
 
--- a front of what stands before a call's first tag, or of that tag
+-- a prefix of what stands before a call's first tag, or of that tag
 head_begins : (head : HeadText) → IsHead head → (g : List ℕ) → IsFront g (printed_head head ++ spelling tag.MethodCall) → BeginsCall g
 head_begins head h g f =
     let s = short head [] in

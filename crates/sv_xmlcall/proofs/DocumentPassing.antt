@@ -117,7 +117,7 @@ pub named : (name : List Letter) → name ≢ [] → is_empty (text_of name) ≡
 named [] n = absurd (n refl)
 named (letter ∷ letters) n = not_empty_front (encode_utf8 (character_of letter)) (text_of letters) (encode_not_empty (character_of letter))
 
--- a param behind its opening tag, in whatever frame
+-- a param after its opening tag, in whatever frame
 pub param_pass : (limits : Limits) (method : List ℕ) (before : Trees) (count : ℕ) (param : ParamText) → IsParam param → nested (value_of param.value) ≤ limits.nesting
     → Passes limits (at (At (AtParams method before)) [] count) (printed_param param)
     (at (At (AtParams method (kept limits (count_behind limits (value_of param.value) count) before (held limits (value_of param.value) count)))) [] (count_behind limits (value_of param.value) count))

@@ -20,7 +20,7 @@ use Rattle.sv_xmlcall.proofs.TagsBack.{Continues, not_read, IsOneOf, ahead, clos
 use Rattle.sv_xmlcall.proofs.ValuesBack.{value_shorter}
 use Rattle.sv_xmlcall.proofs.NestedBack.{value_back, ahead_shorter, behind_shorter}
 
--- the bytes of a character behind its first one are no ASCII
+-- the bytes of a character after its first one are no ASCII
 abbrev pub IsSane : Awaits → Type 0
 IsSane Character = Unit {0}
 IsSane Private = Unit {0}
@@ -70,7 +70,7 @@ no_end_more x bs n f = λ front back e. go x bs n f front back e
     go x bs n f [] back e = f back (head_is x 63 bs (62 ∷ back) e) (tail_is x 63 bs (62 ∷ back) e)
     go x bs n f (y ∷ front) back e = n front back (tail_is x y bs (front ++ 63 ∷ 62 ∷ back) e)
 
--- the declaration was read behind its `<?xml`
+-- the declaration was read after its `<?xml`
 pub record PrologBack (limits : Limits) (document : Document) (question : Bool) (awaits : Awaits) (count : ℕ) (bs : List ℕ) (spelled : Spelled) : Type 0 where
   pub declared : List ℕ
   pub letters : are_letters Any awaits declared ≡ true

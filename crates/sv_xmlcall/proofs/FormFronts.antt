@@ -1,4 +1,4 @@
--- Fronts of texts: where reading is refused within a form, the bytes before begin one.
+-- Prefixes of texts: where reading is refused within a form, the bytes before begin one.
 use Rattle.std.proofs.Common.{◌≡◌, ℕ, suc, ◌<◌, Bool, true, false, eqb, List, [], ◌∷◌, ◌++◌, length, inl, inr, refl, sym, ap, ◌∙◌, subst, append_assoc, codes, le_refl}
 use Rattle.std.specs.Str.Parse.{digits_value}
 use Rattle.std.proofs.lemmas.Bool.{cases_Bool, eqb-true}
@@ -19,7 +19,7 @@ use Rattle.sv_xmlcall.proofs.NumberFronts.{text_front, integer_front}
 pub front_trans : (g a b : List ℕ) → IsFront g a → IsFront a b → IsFront g b
 front_trans g a b f h = (f.0 ++ h.0, sym (append_assoc g f.0 h.0) ∙ ap (λ (x : List ℕ). x ++ h.0) f.1 ∙ h.1)
 
--- a front of two parts behind others
+-- a prefix of two parts after others
 pub front_two : (a g b c : List ℕ) → IsFront g (b ++ c) → IsFront (a ++ g) (a ++ b ++ c)
 front_two a g b c f = front_to (a ++ g) (a ++ (b ++ c)) (a ++ b ++ c) (front_behind a g (b ++ c) f) (sym (append_assoc a b c))
 

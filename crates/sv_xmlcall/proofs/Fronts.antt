@@ -1,4 +1,4 @@
--- Fronts of texts: where reading is refused within a tag, the bytes before begin the tag.
+-- Prefixes of texts: where reading is refused within a tag, the bytes before begin the tag.
 use Rattle.std.proofs.Common.{◌≡◌, ℕ, suc, true, eqb, List, [], ◌∷◌, ◌++◌, length, Result, Ok, Err, min, inl, inr, refl, sym, ap, ◌∙◌, arith, append_assoc, codes, ◌⊎◌}
 use Rattle.std.proofs.lemmas.Bool.{cases_Bool, cases_lt, eqb-true}
 use Rattle.sv_xmlcall.specs.Tags.{spelling, word_at, or_later, tag_from, tag_at}
@@ -45,7 +45,7 @@ good_behind P a rest bs left e g =
 pub good_to : (P Q : List ℕ → Type 0) (bs : List ℕ) (left : ℕ) → ((g : List ℕ) → P g → Q g) → Good P bs left → Good Q bs left
 good_to P Q bs left f g = record { front = g.front; bad = g.bad; parts = g.parts; size = g.size; good = f g.front g.good }
 
--- reading is refused behind this step, where so many bytes are left
+-- reading is refused after this step, where so many bytes are left
 abbrev pub Halts : Limits → Step → ℕ → List ℕ → ℕ → Type 0
 Halts limits step count rest left = on_step step (λ s. run limits s rest) (unless_many limits count (NotRead (suc (length rest)))) ≡ NotRead left
 
@@ -133,7 +133,7 @@ tag_broken (t ∷ tags) least bs left e = later_broken t tags least bs left (wor
 abbrev pub SomeTag : Place → Type 0
 SomeTag place = (t : Tag) × IsOneOf t (tags_of place)
 
--- what holds of each front of a tag of a place
+-- what holds of each prefix of a tag of a place
 abbrev pub FrontsOf : Place → (List ℕ → Type 0) → Type 0
 FrontsOf place P = (t : Tag) → IsOneOf t (tags_of place) → (g : List ℕ) → IsFront g (spelling t) → P g
 

@@ -1,4 +1,4 @@
--- What a reader answers is what the good front of the bytes tells.
+-- What a reader answers is what the good prefix of the bytes tells.
 use Rattle.std.proofs.Common.{◌≡◌, ◌≢◌, ℕ, suc, ◌+◌, ◌<◌, ◌≤◌, List, [], ◌∷◌, ◌++◌, length, Result, Ok, Err, inl, inr, refl, sym, ap, ◌∙◌, subst, arith, append_assoc, append-nil, length-append, Option, Some, None}
 use Rattle.std.proofs.lemmas.Bool.{cases_lt, lt-ltb, le-ltb}
 use Rattle.sv_xmlcall.specs.Tags.{spelling}
@@ -75,7 +75,7 @@ fault_whole limits text m r e =
           none_left limits (whole_fault limits (count_behind limits (value_of text.value) 0) (held limits (value_of text.value) 0)) (count_behind limits (value_of text.value) 0) m (sym (all.goes []) ∙ f)
     ]
 
--- two fronts of the same bytes: the longer one goes on with the next byte
+-- two prefixes of the same bytes: the longer one goes on with the next byte
 record Further (front other more bad : List ℕ) : Type 0 where
   pub byte : ℕ
   pub between : List ℕ
@@ -148,14 +148,14 @@ reply_goes limits n v k front byte between (inr b) r =
 same_length : (one two : List ℕ) (rest rest2 : List ℕ) → one ++ rest ≡ two ++ rest2 → length one ≡ length two → one ≡ two
 same_length one two rest rest2 e l = let f = ap length e in same_front one rest two rest2 e (omega (arith, length-append one rest, length-append two rest2))
 
--- there is one longest front
+-- there is one longest prefix
 pub one_longest : (Begins : List ℕ → Type 0) (bytes one two : List ℕ) → IsLongest Begins bytes one → IsLongest Begins bytes two → one ≡ two
 one_longest Begins bytes one two f g =
     let a = f.longest two g.rest g.parts g.begins in
     let b = g.longest one f.rest f.parts f.begins in
     same_length one two f.rest g.rest (sym f.parts ∙ g.parts) (omega arith)
 
--- the good front of the bytes
+-- the good prefix of the bytes
 record Fronted (document : Document) (Begins : List ℕ → Type 0) (bytes : List ℕ) (n : ℕ) : Type 0 where
   pub front : List ℕ
   pub bad : List ℕ

@@ -1,3 +1,4 @@
+-- laws of one definition each: of words, texts, forms, values and documents
 mod Words
 mod Runs
 mod LetterLaws
@@ -10,13 +11,15 @@ mod StageLaws
 mod DocumentLaws
 mod ReplyEnds
 mod LogLaws
+mod HeldLaws
+-- from a layout to what is read of it
 mod Passing
 mod ValuePassing
-mod HeldLaws
 mod DocumentPassing
 mod DeepLaws
 mod SpelledLaws
 mod WrittenLaws
+-- from what is read back to a layout
 mod TagsBack
 mod TextsBack
 mod ValuesBack
@@ -24,6 +27,7 @@ mod NestedBack
 mod DocumentsBack
 mod CallsBack
 mod RefusedLaws
+-- the longest valid prefix
 mod Fronts
 mod TextFronts
 mod NumberFronts
@@ -32,13 +36,15 @@ mod ValueFronts
 mod NestedFronts
 mod CallFronts
 mod CallGood
+mod ReplyFronts
+mod ReplyGood
+-- the values that a prefix opens
 mod OpeningLaws
 mod Measures
 mod MeasuredTags
 mod MeasuredPlaces
 mod MeasuredSteps
-mod ReplyFronts
-mod ReplyGood
 mod MeasuredDocuments
+-- what is answered
 mod JudgedLaws
 mod CalledLaws

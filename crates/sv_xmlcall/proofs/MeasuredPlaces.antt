@@ -1,4 +1,4 @@
--- What is read within the limits, beside what is read without: behind each tag of each place.
+-- What is read within the limits, beside what is read without: after each tag of each place.
 use Rattle.std.proofs.Common.{ℕ, suc, ◌≤◌, Bool, true, false, List, [], ◌∷◌, ◌++◌, length, ℤ, inl, inr, refl, sym, ap, ◌∙◌, arith}
 use Rattle.sv_xmlcall.specs.Trees.{Tree, Trees, Members, text, structure, no_tree, no_member, Reply}
 use Rattle.sv_xmlcall.specs.Machine.{OfCall, OfReply, Frame, InParam, InReply, InFault, Content, InMethod, InName, InString, InDouble, InDate, InBase, InBare, Place, AtStart, AtDeclared, AtMethod, AtCalled, AtParams, AtParamEnd, AtParamsEnd, AtResponse, AtReplyParam, AtReplyParamEnd, AtReplyParamsEnd, AtFaultEnd, AtResponseEnd, AtDone, AtValue, AtForm, AtFormEnd, AtData, AtItems, AtArrayEnd, AtMembers, AtName, AtMemberEnd, AtTextEnd, AtIntegerEnd, AtTruthEnd, AtEntity, Fresh, At, Close, Chars, Hash, Digits, TruthDigit, tags_of}

@@ -1,4 +1,4 @@
--- What is read within the limits, beside what is read without, from whatever place behind the declaration.
+-- What is read within the limits, beside what is read without, from whatever place after the declaration.
 use Rattle.std.proofs.Common.{◌≡◌, ℕ, zero, suc, ◌+◌, ◌<◌, ◌≤◌, ◌*◌, ◌-◌, Bool, true, false, ◌&&◌, eqb, leb, List, [], ◌∷◌, ◌++◌, length, Result, Ok, Err, inl, inr, refl, sym, ap, ◌∙◌, subst, arith, ℤ, encode_utf8, ◌⊎◌}
 use Rattle.std.specs.Char.{is_ascii_digit}
 use Rattle.std.proofs.lemmas.Bool.{cases_Bool, and_parts}
@@ -148,7 +148,7 @@ hash_measured n content kept frames count around b bs room s again = elim (cases
       (numeral_measured n content kept false false 0 frames count around b bs room s again)
 ]
 
--- behind `<value>`
+-- after `<value>`
 opened_measured : (n : ℕ) (white : List ℕ) (frames : List Frame) (count around b : ℕ) (bs : List ℕ) → Room n frames count (b ∷ bs) → Inside frames around → Shorter n frames count (b ∷ bs)
     → Judged n (Opened white) frames count around (b ∷ bs)
 opened_measured n white frames count around b bs room s again = elim (cases_Bool (is_white b)) [

@@ -1,4 +1,4 @@
--- What is read within the limits, beside what is read without: behind a whole tag, and behind the end of a closing tag.
+-- What is read within the limits, beside what is read without: after a whole tag, and after the end of a closing tag.
 use Rattle.std.proofs.Common.{◌≡◌, ℕ, suc, ◌-◌, ◌≤◌, min, Bool, true, false, leb, List, [], ◌∷◌, ◌++◌, length, Option, Some, None, inl, inr, refl, sym, ap, ◌∙◌, subst, arith, codes, if◌then◌else◌}
 use Rattle.std.proofs.lemmas.Bool.{cases_lt, le-leb, lt-leb}
 use Rattle.sv_xmlcall.specs.Tags.{spelling}
@@ -22,7 +22,7 @@ IsStack (InFault ∷ below) = below ≡ []
 IsStack (InArray before ∷ below) = IsStack below
 IsStack (InMember before name ∷ below) = IsStack below
 
--- outside of values, before or behind one, and in one, where so many are open
+-- outside of values, before or after one, and in one, where so many are open
 abbrev pub Outside : List Frame → ℕ → Type 0
 Outside frames around = (frames ≡ []) × (around ≡ 0)
 
@@ -35,11 +35,7 @@ Inside frames around = IsStack frames × (around ≡ length frames)
 abbrev pub in_content : Content → List Frame → ℕ → Type 0
 in_content InMethod frames around = Outside frames around
 in_content (InName before) frames around = Inside frames around
-in_content InString frames around = Inside frames around
-in_content InDouble frames around = Inside frames around
-in_content InDate frames around = Inside frames around
-in_content InBase frames around = Inside frames around
-in_content InBare frames around = Inside frames around
+in_content any frames around = Inside frames around
 
 abbrev pub in_place : Place → List Frame → ℕ → Type 0
 in_place (AtStart document) frames around = ⊥
@@ -156,7 +152,7 @@ fault_stands None frames around s = tt
 below_none : (frame : Frame) (below : List Frame) (around : ℕ) → below ≡ [] → suc around ≡ length (frame ∷ below) → Outside below around
 below_none frame below around b e = let l = ap length b in (b, omega arith)
 
--- behind a whole value
+-- after a whole value
 pub beyond_value : (n : ℕ) (value : Tree) (frames : List Frame) (count around : ℕ) → Beside frames around
     → Beyond n (after_value (far n) value frames count) (after_value the_limits value frames (capped count)) frames count around
 beyond_value n value [] count around s = absurd s.0
@@ -225,7 +221,7 @@ text_left n InDate bytes frames count around s = beyond_to n (At (AtFormEnd (oth
 text_left n InBase bytes frames count around s = beyond_to n (At (AtFormEnd (other (codes "base64") bytes))) frames count around s
 text_left n InBare bytes frames count around s = beyond_value n (text bytes) frames count around s
 
--- behind the end of a closing tag
+-- after the end of a closing tag
 pub left_behind : (n : ℕ) (place : Place) (frames : List Frame) (count around : ℕ) → closing place frames around → Left n place frames count around
 left_behind n (AtStart document) frames count around s = absurd s
 left_behind n AtValue frames count around s = absurd s
@@ -273,11 +269,11 @@ step_far s t = enter (far s.size) s.place t s.frames s.count
 abbrev pub step_near : Spot → Tag → Step
 step_near s t = enter the_limits s.place t s.frames (capped s.count)
 
--- what is come to behind a whole tag
+-- what is come to after a whole tag
 abbrev pub Entered : Spot → Tag → Type 0
 Entered s t = Measured (behind (far s.size) (step_far s t) s.count s.rest) (behind the_limits (step_near s t) (capped s.count) s.rest) s.around s.count (spelling t ++ s.rest)
 
--- what holds of the bytes behind a tag, in whatever state
+-- what holds of the bytes after a tag, in whatever state
 abbrev pub Again : Spot → Type 0
 Again s = (control : Control) (frames2 : List Frame) (count2 around : ℕ) → length frames2 ≤ suc (length s.frames) → count2 ≤ suc s.count → Stands control frames2 around → Judged s.size control frames2 count2 around s.rest
 

@@ -33,7 +33,7 @@ pub record Measured (far_off near : Verdict) (around count : ℕ) (bs : List ℕ
 abbrev pub Judged : ℕ → Control → List Frame → ℕ → ℕ → List ℕ → Type 0
 Judged n control frames count around bs = Measured (run (far n) (at control frames count) bs) (run the_limits (at control frames (capped count)) bs) around count bs
 
--- what is come to behind a step
+-- what is come to after a step
 abbrev pub behind : Limits → Step → ℕ → List ℕ → Verdict
 behind limits step count rest = on_step step (λ s. run limits s rest) (unless_many limits count (NotRead (suc (length rest))))
 
@@ -59,7 +59,7 @@ near_many deep many count verdict d m = elim (cases_lt 65536 count) [
   | inr h ↦ rw (d, m, le-ltb 65536 (min count 65537) (omega arith), le-ltb 65536 (count + 0) (omega arith)) refl
 ]
 
--- reading ends behind bytes that open nothing
+-- reading ends after bytes that open nothing
 pub measured_calm : (n around count : ℕ) (verdict : Verdict) (bs front bad : List ℕ) → count ≤ n → bs ≡ front ++ bad → calm front ≡ true → Ends verdict bad
     → Measured (unless_many (far n) count verdict) (unless_many the_limits (capped count) verdict) around count bs
 measured_calm n around count verdict bs front bad l p c e =
@@ -85,7 +85,7 @@ measured_byte far_off near around count b bs e m = record {
   nearer = m.nearer ∙ ap (λ (x : ℕ). judged x (count + opened m.front) far_off) (sym (byte_deepest around b m.front e)) ∙ ap (λ (x : ℕ). judged (deepest around (b ∷ m.front)) (count + x) far_off) (sym (byte_opened b m.front e));
 }
 
--- behind a word that opens no value
+-- after a word that opens no value
 pub measured_word : (far_off near : Verdict) (around around2 count : ℕ) (word rest : List ℕ) → ((g : List ℕ) → deepest around (word ++ g) ≡ deepest around2 g) → ((g : List ℕ) → opened (word ++ g) ≡ opened g)
     → Measured far_off near around2 count rest → Measured far_off near around count (word ++ rest)
 measured_word far_off near around around2 count word rest d o m = record {
@@ -109,7 +109,7 @@ opening around deep many many2 far_off near near2 e m f = elim (cases_lt 32 (suc
       | inr d ↦ rw (le-ltb 32 deep d, le-ltb 32 (max (suc around) deep) (omega arith)) refl
     ]
 
--- behind a word that opens a value
+-- after a word that opens a value
 pub measured_opening : (far_off near near2 : Verdict) (around around2 count : ℕ) (word rest : List ℕ) → ((g : List ℕ) → deepest around (word ++ g) ≡ max (suc around) (deepest around2 g)) → ((g : List ℕ) → opened (word ++ g) ≡ suc (opened g))
     → near2 ≡ (if leb (suc around) 32 then near else TooDeep) → Measured far_off near around2 (suc count) rest → Measured far_off near2 around count (word ++ rest)
 measured_opening far_off near near2 around around2 count word rest d o f m = record {
@@ -129,7 +129,7 @@ finished_ends (At (AtStart document)) = inl refl
 finished_ends (At place) = inl refl
 finished_ends control = inl refl
 
--- behind the last byte
+-- after the last byte
 pub judged_end : (n : ℕ) (control : Control) (frames : List Frame) (count around : ℕ) → count ≤ n → Judged n control frames count around []
 judged_end n control frames count around l = measured_here n around count (finished control) [] l (finished_ends control)
 

@@ -15,55 +15,7 @@ use Rattle.sv_xmlcall.proofs.ValuesBack.{FormBack, ValueBack, ItemsBack, Members
 
 pub spelling_some : (t : Tag) → 1 ≤ length (spelling t)
 spelling_some tag.Declaration = omega arith
-spelling_some tag.MethodCall = omega arith
-spelling_some tag.MethodName = omega arith
-spelling_some tag.MethodResponse = omega arith
-spelling_some tag.Params = omega arith
-spelling_some tag.NoParams = omega arith
-spelling_some tag.Param = omega arith
-spelling_some tag.Fault = omega arith
-spelling_some tag.Value = omega arith
-spelling_some tag.NoValue = omega arith
-spelling_some tag.I4 = omega arith
-spelling_some tag.Int = omega arith
-spelling_some tag.Boolean = omega arith
-spelling_some tag.String = omega arith
-spelling_some tag.NoString = omega arith
-spelling_some tag.Double = omega arith
-spelling_some tag.DateTime = omega arith
-spelling_some tag.Base64 = omega arith
-spelling_some tag.Struct = omega arith
-spelling_some tag.NoMembers = omega arith
-spelling_some tag.Member = omega arith
-spelling_some tag.Name = omega arith
-spelling_some tag.Array = omega arith
-spelling_some tag.Data = omega arith
-spelling_some tag.NoData = omega arith
-spelling_some tag.EndMethodCall = omega arith
-spelling_some tag.EndMethodName = omega arith
-spelling_some tag.EndMethodResponse = omega arith
-spelling_some tag.EndParams = omega arith
-spelling_some tag.EndParam = omega arith
-spelling_some tag.EndFault = omega arith
-spelling_some tag.EndValue = omega arith
-spelling_some tag.EndI4 = omega arith
-spelling_some tag.EndInt = omega arith
-spelling_some tag.EndBoolean = omega arith
-spelling_some tag.EndString = omega arith
-spelling_some tag.EndDouble = omega arith
-spelling_some tag.EndDateTime = omega arith
-spelling_some tag.EndBase64 = omega arith
-spelling_some tag.EndStruct = omega arith
-spelling_some tag.EndMember = omega arith
-spelling_some tag.EndName = omega arith
-spelling_some tag.EndArray = omega arith
-spelling_some tag.EndData = omega arith
-spelling_some tag.Ampersand = omega arith
-spelling_some tag.Less = omega arith
-spelling_some tag.Greater = omega arith
-spelling_some tag.Quote = omega arith
-spelling_some tag.Apostrophe = omega arith
-spelling_some tag.Numbered = omega arith
+spelling_some any = omega arith
 
 pub tag_shorter : (t : Tag) (rest bs : List ℕ) → bs ≡ spelling t ++ rest → length rest < length bs
 tag_shorter t rest bs e = let s = spelling_some t in omega (arith, ap length e, length-append (spelling t) rest)
@@ -71,7 +23,7 @@ tag_shorter t rest bs e = let s = spelling_some t in omega (arith, ap length e, 
 pub ahead_shorter : (gap : List ℕ) (t : Tag) (rest bs : List ℕ) → bs ≡ gap ++ spelling t ++ rest → length rest < length bs
 ahead_shorter gap t rest bs e = let s = spelling_some t in omega (arith, ap length e, length-append (gap ++ spelling t) rest, length-append gap (spelling t))
 
--- how a text goes on behind a tag in a value: with a form, or at the value's end
+-- how a text goes on after a tag in a value: with a form, or at the value's end
 abbrev FormWay : Limits → List ℕ → List Frame → ℕ → Tag → List ℕ → Spelled → Type 0
 FormWay limits white frames count t rest spelled =
     FormBack limits frames count (spelling t ++ rest) spelled
@@ -338,7 +290,7 @@ pub opened_shorter : (gap rest bs : List ℕ) (t : Tag) (behind : List ℕ) → 
 opened_shorter gap rest bs t behind p q = let a = behind_shorter gap rest bs p in let b = tag_shorter t behind rest q in omega arith
 
 mutual
-  -- behind `<value>`
+  -- after `<value>`
   pub full_back : (fuel : ℕ) (limits : Limits) (frames : List Frame) (count : ℕ) (rest : List ℕ) (spelled : Spelled) → 3 * length rest + 3 ≤ fuel
       → run limits (at (Opened []) frames (counted limits count)) rest ≡ Read spelled → ValueBack limits frames count (spelling tag.Value ++ rest) spelled
   full_back zero limits frames count rest spelled l e = absurd (omega arith)

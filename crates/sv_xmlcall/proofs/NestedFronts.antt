@@ -1,4 +1,4 @@
--- Fronts of texts: where reading is refused within a value, the recursion through arrays and structs.
+-- Prefixes of texts: where reading is refused within a value, the recursion through arrays and structs.
 use Rattle.std.proofs.Common.{◌≡◌, ℕ, zero, suc, ◌+◌, ◌*◌, ◌<◌, ◌≤◌, leb, List, [], ◌∷◌, ◌++◌, length, inl, inr, refl, sym, ap, ◌∙◌, subst, arith, append_assoc, append-nil, length-append, codes, le_refl}
 use Rattle.std.proofs.lemmas.Bool.{cases_Bool}
 use Rattle.sv_xmlcall.specs.Tags.{spelling}
@@ -21,7 +21,7 @@ use Rattle.sv_xmlcall.proofs.ValueFronts.{plain_end, ValueFronts, ValueBehind, w
 good_back : (P : List ℕ → Type 0) (a b rest : List ℕ) (left : ℕ) → Good (λ g. P (a ++ (b ++ g))) rest left → Good (λ g. P (a ++ b ++ g)) rest left
 good_back P a b rest left x = good_to (λ g. P (a ++ (b ++ g))) (λ g. P (a ++ b ++ g)) rest left (λ g y. subst P (sym (append_assoc a b g)) y) x
 
--- what is read behind a tag of a value
+-- what is read after a tag of a value
 opened_halts : (limits : Limits) (frames : List Frame) (count : ℕ) (rest : List ℕ) (left : ℕ) → Halts limits (open_value limits frames count) count rest left
     → run limits (at (Opened []) frames (counted limits count)) rest ≡ NotRead left
 opened_halts limits frames count rest left h = elim (cases_Bool (leb (length frames) limits.nesting)) [
@@ -180,7 +180,7 @@ value_parts a v e m x r behind last p q = ap (λ (y : List ℕ). a ++ (v ++ y)) 
     regroup : (a v e m x r : List ℕ) → a ++ (v ++ (e ++ (m ++ x ++ r))) ≡ a ++ v ++ e ++ m ++ x ++ r
     regroup a v e m x r = simp append_assoc refl
 
--- behind the value of a member
+-- after the value of a member
 member_goes : (limits : Limits) (before : Members) (frames : List Frame) (count : ℕ) (bs : List ℕ) (left : ℕ) (P : List ℕ → Type 0) → MembersFronts P → MembersBehind limits before frames count bs left P
     → (n : Naming) → IsNaming n → (tail : List ℕ) → bs ≡ named n ++ tail → AgainMember limits frames bs left
     → ValueBehind limits (InMember before (text_of n.name) ∷ frames) count tail left (λ g. P (named n ++ g))
@@ -231,7 +231,7 @@ value_goes limits frames count rest left P t fail more full (inr (inl is)) h =
     (emptied_halts limits frames count rest left (subst (λ (x : Tag). ValueHalts limits frames count x rest left) is h)))
 value_goes limits frames count rest left P t fail more full (inr (inr o)) h = absurd o
 
--- a member behind its opening tag
+-- a member after its opening tag
 name_front : (limits : Limits) (before : Members) (frames : List Frame) (count : ℕ) (bs rest : List ℕ) (left : ℕ) (P : List ℕ → Type 0) → MembersFronts P → MembersBehind limits before frames count bs left P
     → (gap : List ℕ) → IsWhite gap → bs ≡ gap ++ spelling tag.Member ++ rest → AgainFull limits bs left → AgainMember limits frames bs left
     → run limits (at (At (AtName before)) frames count) rest ≡ NotRead left → Good (λ g. P (gap ++ spelling tag.Member ++ g)) rest left

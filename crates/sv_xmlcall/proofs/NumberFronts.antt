@@ -1,4 +1,4 @@
--- Fronts of texts: where reading is refused within a text or a number.
+-- Prefixes of texts: where reading is refused within a text or a number.
 use Rattle.std.proofs.Common.{◌≡◌, ℕ, zero, suc, ◌+◌, ◌-◌, ◌*◌, ◌<◌, ◌≤◌, Bool, true, false, eqb, leb, List, [], ◌∷◌, ◌++◌, length, inl, inr, refl, sym, ap, ◌∙◌, subst, arith, append_assoc, append-nil, length-append, codes, encode_utf8, ◌⊎◌, le_refl}
 use Rattle.std.specs.Str.Parse.{digits_value, digits_value_after, IsNumeral, AllDigits}
 use Rattle.std.specs.Char.{digit_value, is_ascii_digit}
@@ -148,7 +148,7 @@ numeral_begins a digits g f = front_to (a ++ g) (a ++ (digits ++ codes ";")) (a 
 a_letter : IsLetter (Numbered false (codes "65"))
 a_letter = ((omega arith, (omega arith, (omega arith, tt))), refl)
 
--- behind `&#`
+-- after `&#`
 hash_front : (limits : Limits) (content : Content) (kept : List ℕ) (frames : List Frame) (count : ℕ) (bs : List ℕ) (left : ℕ) (P : List ℕ → Type 0)
     → LetterFronts P → LetterBehind limits content kept frames count (codes "&#" ++ bs) left P
     → run limits (at (Hash content kept) frames count) bs ≡ NotRead left → Good (λ g. P (codes "&#" ++ g)) bs left
@@ -284,11 +284,7 @@ some_front (x ∷ a) b c = refl
 may_end_some : (content : Content) (a : List ℕ) (b : ℕ) (c : List ℕ) → may_end content (a ++ b ∷ c) ≡ true
 may_end_some InMethod a b c = rw (some_front a b c) refl
 may_end_some (InName before) a b c = refl
-may_end_some InString a b c = refl
-may_end_some InDouble a b c = refl
-may_end_some InDate a b c = refl
-may_end_some InBase a b c = refl
-may_end_some InBare a b c = refl
+may_end_some any a b c = refl
 
 -- a further letter may always come
 may_go_on : (content : Content) (kept : List ℕ) (letters : List Letter) → may_end content (kept ++ text_of (letters ++ Plain 97 ∷ [])) ≡ true
@@ -418,7 +414,7 @@ zero_fits false = omega arith
 pub zero_numeral : IsNumeral 10 (codes "0")
 zero_numeral = (omega arith, (omega arith, tt))
 
--- the first digit behind this mark
+-- the first digit after this mark
 first_front : (limits : Limits) (short : Bool) (mark : Mark) (sign : Sign) (frames : List Frame) (count b : ℕ) (bs : List ℕ) (left : ℕ) (P : List ℕ → Type 0) → is_ascii_digit b ≡ true
     → IntegerFronts P → IntegerBehind limits short frames count (printed_mark mark ++ b ∷ bs) left P
     → DigitsHalt limits short (is_minus mark) sign frames count 0 (b ∷ bs) left → Good (λ g. P (printed_mark mark ++ g)) (b ∷ bs) left

@@ -109,7 +109,7 @@ still_deepest around (b ∷ bs) g s =
     (begins_not (spelling tag.Value) (b ∷ bs) g q.0) (begins_not (spelling tag.NoValue) (b ∷ bs) g r.0) (begins_not (spelling tag.EndValue) (b ∷ bs) g r.1)
     ∙ free_deepest around bs g p.1
 
--- something holds of each part of a word, behind these bytes
+-- something holds of each part of a word, after these bytes
 abbrev pub of_parts : (List ℕ → Bool) → List ℕ → List ℕ → Bool
 of_parts f read [] = true
 of_parts f read (w ∷ ws) = f read && of_parts f (read ++ w ∷ []) ws
@@ -129,55 +129,7 @@ of_tag f t front h p = of_part f [] (spelling t) front h p
 
 tag_calm : (t : Tag) → of_parts calm [] (spelling t) ≡ true
 tag_calm tag.Declaration = refl
-tag_calm tag.MethodCall = refl
-tag_calm tag.MethodName = refl
-tag_calm tag.MethodResponse = refl
-tag_calm tag.Params = refl
-tag_calm tag.NoParams = refl
-tag_calm tag.Param = refl
-tag_calm tag.Fault = refl
-tag_calm tag.Value = refl
-tag_calm tag.NoValue = refl
-tag_calm tag.I4 = refl
-tag_calm tag.Int = refl
-tag_calm tag.Boolean = refl
-tag_calm tag.String = refl
-tag_calm tag.NoString = refl
-tag_calm tag.Double = refl
-tag_calm tag.DateTime = refl
-tag_calm tag.Base64 = refl
-tag_calm tag.Struct = refl
-tag_calm tag.NoMembers = refl
-tag_calm tag.Member = refl
-tag_calm tag.Name = refl
-tag_calm tag.Array = refl
-tag_calm tag.Data = refl
-tag_calm tag.NoData = refl
-tag_calm tag.EndMethodCall = refl
-tag_calm tag.EndMethodName = refl
-tag_calm tag.EndMethodResponse = refl
-tag_calm tag.EndParams = refl
-tag_calm tag.EndParam = refl
-tag_calm tag.EndFault = refl
-tag_calm tag.EndValue = refl
-tag_calm tag.EndI4 = refl
-tag_calm tag.EndInt = refl
-tag_calm tag.EndBoolean = refl
-tag_calm tag.EndString = refl
-tag_calm tag.EndDouble = refl
-tag_calm tag.EndDateTime = refl
-tag_calm tag.EndBase64 = refl
-tag_calm tag.EndStruct = refl
-tag_calm tag.EndMember = refl
-tag_calm tag.EndName = refl
-tag_calm tag.EndArray = refl
-tag_calm tag.EndData = refl
-tag_calm tag.Ampersand = refl
-tag_calm tag.Less = refl
-tag_calm tag.Greater = refl
-tag_calm tag.Quote = refl
-tag_calm tag.Apostrophe = refl
-tag_calm tag.Numbered = refl
+tag_calm any = refl
 
 -- a tag that breaks off opens nothing
 pub part_calm : (t : Tag) (front : List ℕ) → IsPart front (spelling t) → calm front ≡ true

@@ -54,7 +54,7 @@ white limits place frames count (b ∷ bs) w =
     let p = and_parts (is_white b) (list_all is_white bs) w in
     record { goes = λ rest. rw p.0 ((white limits place frames count bs p.1).goes rest) }
 
--- white space behind `<value>`
+-- white space after `<value>`
 pub white_opened : (limits : Limits) (kept : List ℕ) (frames : List Frame) (count : ℕ) (gap : List ℕ) → IsWhite gap
     → Passes limits (at (Opened kept) frames count) gap (at (Opened (kept ++ gap)) frames count)
 white_opened limits kept frames count [] w = to_state nothing (ap (λ (k : List ℕ). at (Opened k) frames count) (sym (append-nil kept)))
@@ -71,7 +71,7 @@ shut limits place frames count (b ∷ bs) w =
     let p = and_parts (is_white b) (list_all is_white bs) w in
     record { goes = λ rest. rw p.0 ((shut limits place frames count bs p.1).goes rest) }
 
--- a closing tag behind a text
+-- a closing tag after a text
 pub shuts : (limits : Limits) (before : State) (t : Tag) (place : Place) (frames : List Frame) (count : ℕ) (inside : List ℕ)
     → Passes limits before (spelling t) (at (Close place) frames count) → IsWhite inside
     → Passes limits before (printed_shut t inside) (leave limits place frames count)
@@ -81,7 +81,7 @@ shuts limits before t place frames count inside p w = record {
       ∙ (p ▷ shut limits place frames count inside w).goes rest;
 }
 
--- a closing tag behind white space
+-- a closing tag after white space
 pub ends : (limits : Limits) (t : Tag) (place : Place) (frames : List Frame) (count : ℕ) (ending : Ending)
     → Passes limits (at (At place) frames count) (spelling t) (at (Close place) frames count) → IsEnding ending
     → Passes limits (at (At place) frames count) (printed_end t ending) (leave limits place frames count)
@@ -148,10 +148,7 @@ named_pass : (limits : Limits) (content : Content) (kept : List ℕ) (frames : L
     → Passes limits (in_text content kept frames count) (printed_entity entity) (in_text content (kept ++ encode (entity_character entity)) frames count)
 unfolding encode
 named_pass limits content kept frames count Ampersand = record { goes = λ rest. refl }
-named_pass limits content kept frames count Less = record { goes = λ rest. refl }
-named_pass limits content kept frames count Greater = record { goes = λ rest. refl }
-named_pass limits content kept frames count Quote = record { goes = λ rest. refl }
-named_pass limits content kept frames count Apostrophe = record { goes = λ rest. refl }
+named_pass limits content kept frames count any = record { goes = λ rest. refl }
 
 -- a digit of std's is one of the reader's, with the same value
 pub record SameDigit (hex : Bool) (b : ℕ) : Type 0 where
@@ -251,7 +248,7 @@ text_pass limits content kept frames count (letter ∷ letters) l =
     (letter_pass limits content kept frames count letter l.0 ▷ text_pass limits content (kept ++ encode_utf8 (character_of letter)) frames count letters l.1)
     (ap (λ (k : List ℕ). in_text content k frames count) (append_assoc kept (encode_utf8 (character_of letter)) (text_of letters)))
 
--- how a text begins behind `<value>`, where it is not with white space
+-- how a text begins after `<value>`, where it is not with white space
 pub record Begins (letter : Letter) : Type 0 where
   pub b : ℕ
   pub bs : List ℕ
@@ -277,16 +274,13 @@ begins_char c w n = elim (cases_lt c 128) [
 
 begins_named : (entity : Entity) → Begins (Named entity)
 begins_named Ampersand = record { b = 38; bs = _; is = refl; dark = refl; free = refl }
-begins_named Less = record { b = 38; bs = _; is = refl; dark = refl; free = refl }
-begins_named Greater = record { b = 38; bs = _; is = refl; dark = refl; free = refl }
-begins_named Quote = record { b = 38; bs = _; is = refl; dark = refl; free = refl }
-begins_named Apostrophe = record { b = 38; bs = _; is = refl; dark = refl; free = refl }
+begins_named any = record { b = 38; bs = _; is = refl; dark = refl; free = refl }
 
 begins_numbered : (hex : Bool) (digits : List ℕ) → Begins (Numbered hex digits)
 begins_numbered true digits = record { b = 38; bs = _; is = refl; dark = refl; free = refl }
 begins_numbered false digits = record { b = 38; bs = _; is = refl; dark = refl; free = refl }
 
--- behind `<value>` a text that is not white is read as any other
+-- after `<value>` a text that is not white is read as any other
 pub dark_text : (limits : Limits) (kept : List ℕ) (frames : List Frame) (count : ℕ) (letter : Letter) (bytes : List ℕ) → Begins letter
     → run limits (at (Opened kept) frames count) (printed_letter letter ++ bytes) ≡ run limits (in_text InBare kept frames count) (printed_letter letter ++ bytes)
 dark_text limits kept frames count letter bytes s =

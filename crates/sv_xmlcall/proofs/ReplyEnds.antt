@@ -8,9 +8,10 @@ use Rattle.sv_xmlcall.specs.Reading.{◌>>=◌}
 use Rattle.sv_xmlcall.specs.Documents.{param_end_at, fault_end_at, end_at, value_end_at, faulty_at, Comes}
 use Rattle.sv_xmlcall.specs.Machine.{the_limits, Frame, InFault, Verdict, Read, NotRead, AtReplyParamEnd, AtReplyParamsEnd, AtFaultEnd, AtResponseEnd, AtDone, At, Stuck, at, after_value, after_fault, run, unless_many, whole_fault}
 use Rattle.sv_xmlcall.specs.Running.{Halts}
-use Rattle.sv_xmlcall.specs.Outcome.{Stops, Gives}
+use Rattle.sv_xmlcall.specs.Outcome.{Stops}
 use Rattle.sv_xmlcall.specs.declared.tag.Tag.TheVariants as tag
 use Rattle.sv_xmlcall.specs.declared.stop.Stop.{Stop}
+use Rattle.sv_xmlcall.specs.declared.stop.Stop.TheVariants as stop
 use Rattle.sv_xmlcall.proofs.Runs.{run_closing, left_by}
 use Rattle.sv_xmlcall.proofs.DocumentLaws.{on_done, run_done, halts_with}
 
@@ -111,8 +112,11 @@ run_whole value count bs = elim (cases_Bool (leb count 65536)) [
   | inr k ↦ rw k (many_faulty count bs (faulty_at (fault_of value) bs) k)
 ]
 
-pub faulty_comes : {X : Type 0} (shown : X → Reply) (value : Tree) (count : ℕ) (bs : List ℕ) (one : Verdict) (r : Result X Stop)
-    → one ≡ run the_limits (after_value the_limits value (InFault ∷ []) count) bs → Gives shown r (faulty_at (fault_of value) bs) → Comes one count (λ x. AReply (shown x)) r
-faulty_comes shown value count bs one (Ok x) e g = e ∙ run_whole value count bs ∙ ap (on_faulty count) g
-faulty_comes shown value count bs one (Err stop) e g =
-    halts_with (on_faulty count) count one (faulty_at (fault_of value) bs) stop (λ left. refl) (e ∙ run_whole value count bs) g
+pub faulty_goes : {X : Type 0} (shown : X → Reply) (value : Tree) (count : ℕ) (bs : List ℕ) (one : Verdict) (x : X)
+    → one ≡ run the_limits (after_value the_limits value (InFault ∷ []) count) bs → faulty_at (fault_of value) bs ≡ Ok (shown x) → one ≡ unless_many the_limits count (Read (AReply (shown x)))
+faulty_goes shown value count bs one x e g = e ∙ run_whole value count bs ∙ ap (on_faulty count) g
+
+pub faulty_halts : (value : Tree) (count : ℕ) (bs : List ℕ) (one : Verdict) (left : ℕ)
+    → one ≡ run the_limits (after_value the_limits value (InFault ∷ []) count) bs → faulty_at (fault_of value) bs ≡ Err left → Halts (stop.At left) count one
+faulty_halts value count bs one left e g =
+    halts_with (on_faulty count) count one (faulty_at (fault_of value) bs) (stop.At left) (λ left. refl) (e ∙ run_whole value count bs) g

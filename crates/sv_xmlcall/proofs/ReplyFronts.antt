@@ -20,7 +20,7 @@ use Rattle.sv_xmlcall.proofs.ValueFronts.{plain_end}
 use Rattle.sv_xmlcall.proofs.NestedFronts.{on_two}
 use Rattle.sv_xmlcall.proofs.CallFronts.{done_front}
 
--- a place behind which no value is opened
+-- a place after which no value is opened
 abbrev IsLast : Place → Type 0
 IsLast (AtFaultEnd reply) = Unit {0}
 IsLast (AtResponseEnd reply) = Unit {0}
@@ -92,11 +92,11 @@ few_end limits reply count bs left e = elim (cases_Bool (ltb limits.values count
   | inr m ↦ ltb-false limits.values count m
 ]
 
--- each right text of a reply gives its fronts
+-- each right text of a reply gives its prefixes
 reply_begins : (reply : ReplyText) → IsReply reply → (g : List ℕ) → IsFront g (printed_reply reply) → BeginsReply g
 reply_begins reply r g f = inl (record { rest = f.0; reply = answer_of reply.answer; spells = record { text = reply; right = r; printed = sym f.1; means = refl } })
 
--- each right reply up to the end of the value of a fault gives its fronts
+-- each right reply up to the end of the value of a fault gives its prefixes
 pub fault_begins : (fault : FaultText) → IsFaultText fault → (g : List ℕ) → IsFront g (printed_fault fault) → BeginsReply g
 fault_begins fault r g f = inr (record { rest = f.0; text = fault; right = r; printed = sym f.1 })
 
@@ -116,7 +116,7 @@ answer_begins head h answer r g f =
     reply_begins (reply_with head answer plain_end []) (is_reply head answer plain_end [] h r (refl, refl) refl) (replied head ++ g)
     (on_two (replied head ++ g) (replied head ++ printed_answer answer) (printed_end tag.EndMethodResponse plain_end) [] (front_behind (replied head) g (printed_answer answer) f))
 
--- behind what a reply holds
+-- after what a reply holds
 response_end_front : (limits : Limits) (head : HeadText) → IsHead head → (answer : AnswerText) → IsAnswer answer → (reply : Reply) (count : ℕ) (rest : List ℕ) (left : ℕ)
     → run limits (at (At (AtResponseEnd reply)) [] count) rest ≡ NotRead left → Good (λ g. BeginsReply (replied head ++ (printed_answer answer ++ g))) rest left
 response_end_front limits head h answer r reply count rest left e =
@@ -138,7 +138,7 @@ response_end_front limits head h answer r reply count rest left e =
 params_parts : (c u p e g : List ℕ) → c ++ (u ++ p ++ e ++ g) ≡ c ++ (u ++ (p ++ (e ++ g)))
 params_parts c u p e g = simp append_assoc refl
 
--- behind the param of a reply
+-- after the param of a reply
 pub params_end_front : (limits : Limits) (head : HeadText) → IsHead head → (gap : List ℕ) → IsWhite gap → (param : ParamText) → IsParam param → (value : Tree) (count : ℕ) (rest : List ℕ) (left : ℕ)
     → run limits (at (At (AtReplyParamsEnd value)) [] count) rest ≡ NotRead left → Good (λ g. BeginsReply (replied head ++ (gap ++ spelling tag.Params ++ (printed_param param ++ g)))) rest left
 params_end_front limits head h gap w param r value count rest left e =
@@ -155,7 +155,7 @@ params_end_front limits head h gap w param r value count rest left e =
     (response_end_front limits head h (Answer gap param ending) (w, r, x) (Returns value) count last left f))
     e
 
--- behind a value that is no fault's
+-- after a value that is no fault's
 stuck_left : (limits : Limits) (count : ℕ) (bs : List ℕ) (left : ℕ) → run limits (at Stuck [] count) bs ≡ NotRead left → length bs ≡ left
 stuck_left limits count [] left e = (unless_left limits count 0 left e).1
 stuck_left limits count (b ∷ bs) left e = (unless_left limits count (suc (length bs)) left e).1
@@ -163,7 +163,7 @@ stuck_left limits count (b ∷ bs) left e = (unless_left limits count (suc (leng
 fault_ends : (c gap s g2 v : List ℕ) → c ++ gap ++ s ++ g2 ++ v ≡ c ++ (gap ++ s ++ g2 ++ v ++ [])
 fault_ends c gap s g2 v = simp append_assoc (simp append-nil refl)
 
--- behind the value of a fault, by what of a fault it is
+-- after the value of a fault, by what of a fault it is
 pub fault_end_front : (limits : Limits) (head : HeadText) → IsHead head → (gap g2 : List ℕ) → IsWhite gap → IsWhite g2 → (value : ValueText) → IsValue value → (rest : List ℕ) (left : ℕ) (fault : Option Reply)
     → whole_fault limits (count_behind limits (value_of value) 0) (held limits (value_of value) 0) ≡ fault
     → run limits (after_fault fault [] (count_behind limits (value_of value) 0)) rest ≡ NotRead left

@@ -118,7 +118,7 @@ response_goes limits head h left gap w t rest (inr (inl is)) j =
     (fault_front limits head h gap w rest left (subst (λ (x : Tag). ResponseHalts limits x rest left) is j))
 response_goes limits head h left gap w t rest (inr (inr o)) j = absurd o
 
--- behind the opening tag of a reply
+-- after the opening tag of a reply
 response_front : (limits : Limits) (head : HeadText) (rest : List ℕ) (left : ℕ) → IsHead head → run limits (at (At AtResponse) [] 0) rest ≡ NotRead left
     → Good (λ g. BeginsReply (printed_head head ++ spelling tag.MethodResponse ++ g)) rest left
 response_front limits head rest left h e =
@@ -127,7 +127,7 @@ response_front limits head rest left h e =
     (λ gap w t last i p j. response_goes limits head h left gap w t last i j)
     e
 
--- a front of what stands before a reply's first tag, or of that tag
+-- a prefix of what stands before a reply's first tag, or of that tag
 head_begins : (head : HeadText) → IsHead head → (g : List ℕ) → IsFront g (printed_head head ++ spelling tag.MethodResponse) → BeginsReply g
 head_begins head h g f =
     fault_begins (record { head = head; before = []; before_value = []; value = Empty }) (h, refl, refl, tt) g

@@ -19,11 +19,7 @@ pub record Fit (tags : List Tag) : Type 0 where
 fit_end : (content : Content) (bytes : List ℕ) → Fit (tags_of (AtTextEnd content bytes))
 fit_end InMethod bytes = record { full = refl; apart = refl }
 fit_end (InName before) bytes = record { full = refl; apart = refl }
-fit_end InString bytes = record { full = refl; apart = refl }
-fit_end InDouble bytes = record { full = refl; apart = refl }
-fit_end InDate bytes = record { full = refl; apart = refl }
-fit_end InBase bytes = record { full = refl; apart = refl }
-fit_end InBare bytes = record { full = refl; apart = refl }
+fit_end any bytes = record { full = refl; apart = refl }
 
 pub fit : (place : Place) → Fit (tags_of place)
 fit (AtStart OfCall) = record { full = refl; apart = refl }

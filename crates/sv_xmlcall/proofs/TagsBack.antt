@@ -179,7 +179,7 @@ pub record Ended (limits : Limits) (place : Place) (t : Tag) (frames : List Fram
 shut_parts : (s inside rest : List ℕ) → s ++ (inside ++ codes ">" ++ rest) ≡ s ++ inside ++ codes ">" ++ rest
 shut_parts s inside rest = simp append_assoc refl
 
--- a closing tag behind white space, of which the name was read
+-- a closing tag after white space, of which the name was read
 pub close_back : (limits : Limits) (place : Place) (t : Tag) (frames : List Frame) (count : ℕ) (gap rest bs : List ℕ) (spelled : Spelled)
     → IsWhite gap → bs ≡ gap ++ spelling t ++ rest → run limits (at (Close place) frames count) rest ≡ Read spelled → Ended limits place t frames count bs spelled
 close_back limits place t frames count gap rest bs spelled w p e =
@@ -218,7 +218,7 @@ end_back limits place t frames count bs spelled one e =
     (subst (λ (x : Tag). Continues limits (enter limits place x frames count) a.rest spelled) is a.goes) in
     close_back limits place t frames count a.gap a.rest bs spelled a.white (a.parts ∙ ap (λ (x : Tag). a.gap ++ spelling x ++ a.rest) is) go
 
--- a closing tag right behind a text was read
+-- a closing tag right after a text was read
 pub record ShutBehind (limits : Limits) (place : Place) (t : Tag) (frames : List Frame) (count : ℕ) (bs : List ℕ) (spelled : Spelled) : Type 0 where
   pub inside : List ℕ
   pub white : IsWhite inside

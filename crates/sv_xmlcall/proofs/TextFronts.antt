@@ -1,4 +1,4 @@
--- Fronts of texts: where reading is refused within a text, a number or a closing tag, the bytes before begin one.
+-- Prefixes of texts: where reading is refused within a text, a number or a closing tag, the bytes before begin one.
 use Rattle.std.proofs.Common.{◌≡◌, ℕ, zero, suc, ◌≤◌, Bool, true, false, eqb, ltb, List, [], ◌∷◌, ◌++◌, length, inl, inr, refl, sym, ap, ◌∙◌, subst, arith, append_assoc, append-nil, codes, ◌⊎◌, if◌then◌else◌}
 use Rattle.std.specs.List.{list_all}
 use Rattle.std.proofs.lemmas.Bool.{cases_Bool, cases_eq, eqb-true, le-leb}
@@ -29,7 +29,7 @@ end_parts gap s inside rest = simp append_assoc refl
 inside_parts : (gap s inside : List ℕ) → gap ++ s ++ inside ++ codes ">" ≡ gap ++ (s ++ inside ++ codes ">")
 inside_parts gap s inside = simp append_assoc refl
 
--- a closing tag behind white space, of which the name was read
+-- a closing tag after white space, of which the name was read
 pub closes_front : (limits : Limits) (place : Place) (t : Tag) (frames : List Frame) (count : ℕ) (gap rest bs : List ℕ) (left : ℕ) (P : List ℕ → Type 0)
     → IsWhite gap → bs ≡ gap ++ spelling t ++ rest → EndFronts t P → EndBehind limits place t frames count bs left P
     → run limits (at (Close place) frames count) rest ≡ NotRead left → Good (λ g. P (gap ++ spelling t ++ g)) rest left
@@ -76,7 +76,7 @@ ShutBehind limits place t frames count bs left P = (inside : List ℕ) → IsWhi
 shut_parts : (s inside rest : List ℕ) → s ++ (inside ++ codes ">" ++ rest) ≡ s ++ inside ++ codes ">" ++ rest
 shut_parts s inside rest = simp append_assoc refl
 
--- a closing tag right behind a text
+-- a closing tag right after a text
 pub shut_front : (limits : Limits) (place : Place) (t : Tag) (frames : List Frame) (count : ℕ) (bs : List ℕ) (left : ℕ) (P : List ℕ → Type 0) → Alone limits place t
     → ShutFronts t P → ShutBehind limits place t frames count bs left P
     → run limits (at (Within place (words_of (tags_of place))) frames count) bs ≡ NotRead left → Good P bs left

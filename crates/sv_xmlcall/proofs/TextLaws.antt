@@ -15,7 +15,7 @@ use Rattle.sv_xmlcall.specs.declared.letters.Awaits.TheVariants.{Character, Priv
 use Rattle.sv_xmlcall.proofs.Words.{follow}
 use Rattle.sv_xmlcall.proofs.Runs.{run_tag}
 
--- how a text goes on behind an entity
+-- how a text goes on after an entity
 abbrev pub with_character : Content → List ℕ → List Frame → ℕ → Result (ℕ × List ℕ) ℕ → Verdict
 with_character content kept frames count (Ok r) = run the_limits (at (Chars content (kept ++ encode_utf8 r.0) Character) frames count) r.1
 with_character content kept frames count (Err left) = unless_many the_limits count (NotRead left)
@@ -47,7 +47,7 @@ one_of : (content : Content) (kept : List ℕ) (frames : List Frame) (count c : 
 one_of content kept frames count c rest h =
     ap (λ (x : List ℕ). run the_limits (at (Chars content (kept ++ x) Character) frames count) rest) (sym (encode_ascii c h))
 
--- behind the word of an entity
+-- after the word of an entity
 abbrev EntityGoes : Content → List ℕ → List Frame → ℕ → Tag → List ℕ → Type 0
 EntityGoes content kept frames count t rest =
     on_step (enter the_limits (AtEntity content kept) t frames count) (λ s. run the_limits s rest) (unless_many the_limits count (NotRead (suc (length rest))))
@@ -59,51 +59,7 @@ entity_goes content kept frames count tag.Less rest = one_of content kept frames
 entity_goes content kept frames count tag.Greater rest = one_of content kept frames count 62 rest (omega arith)
 entity_goes content kept frames count tag.Quote rest = one_of content kept frames count 34 rest (omega arith)
 entity_goes content kept frames count tag.Apostrophe rest = one_of content kept frames count 39 rest (omega arith)
-entity_goes content kept frames count tag.Declaration rest = run_hash content kept frames count rest
-entity_goes content kept frames count tag.MethodCall rest = run_hash content kept frames count rest
-entity_goes content kept frames count tag.MethodName rest = run_hash content kept frames count rest
-entity_goes content kept frames count tag.MethodResponse rest = run_hash content kept frames count rest
-entity_goes content kept frames count tag.Params rest = run_hash content kept frames count rest
-entity_goes content kept frames count tag.NoParams rest = run_hash content kept frames count rest
-entity_goes content kept frames count tag.Param rest = run_hash content kept frames count rest
-entity_goes content kept frames count tag.Fault rest = run_hash content kept frames count rest
-entity_goes content kept frames count tag.Value rest = run_hash content kept frames count rest
-entity_goes content kept frames count tag.NoValue rest = run_hash content kept frames count rest
-entity_goes content kept frames count tag.I4 rest = run_hash content kept frames count rest
-entity_goes content kept frames count tag.Int rest = run_hash content kept frames count rest
-entity_goes content kept frames count tag.Boolean rest = run_hash content kept frames count rest
-entity_goes content kept frames count tag.String rest = run_hash content kept frames count rest
-entity_goes content kept frames count tag.NoString rest = run_hash content kept frames count rest
-entity_goes content kept frames count tag.Double rest = run_hash content kept frames count rest
-entity_goes content kept frames count tag.DateTime rest = run_hash content kept frames count rest
-entity_goes content kept frames count tag.Base64 rest = run_hash content kept frames count rest
-entity_goes content kept frames count tag.Struct rest = run_hash content kept frames count rest
-entity_goes content kept frames count tag.NoMembers rest = run_hash content kept frames count rest
-entity_goes content kept frames count tag.Member rest = run_hash content kept frames count rest
-entity_goes content kept frames count tag.Name rest = run_hash content kept frames count rest
-entity_goes content kept frames count tag.Array rest = run_hash content kept frames count rest
-entity_goes content kept frames count tag.Data rest = run_hash content kept frames count rest
-entity_goes content kept frames count tag.NoData rest = run_hash content kept frames count rest
-entity_goes content kept frames count tag.EndMethodCall rest = run_hash content kept frames count rest
-entity_goes content kept frames count tag.EndMethodName rest = run_hash content kept frames count rest
-entity_goes content kept frames count tag.EndMethodResponse rest = run_hash content kept frames count rest
-entity_goes content kept frames count tag.EndParams rest = run_hash content kept frames count rest
-entity_goes content kept frames count tag.EndParam rest = run_hash content kept frames count rest
-entity_goes content kept frames count tag.EndFault rest = run_hash content kept frames count rest
-entity_goes content kept frames count tag.EndValue rest = run_hash content kept frames count rest
-entity_goes content kept frames count tag.EndI4 rest = run_hash content kept frames count rest
-entity_goes content kept frames count tag.EndInt rest = run_hash content kept frames count rest
-entity_goes content kept frames count tag.EndBoolean rest = run_hash content kept frames count rest
-entity_goes content kept frames count tag.EndString rest = run_hash content kept frames count rest
-entity_goes content kept frames count tag.EndDouble rest = run_hash content kept frames count rest
-entity_goes content kept frames count tag.EndDateTime rest = run_hash content kept frames count rest
-entity_goes content kept frames count tag.EndBase64 rest = run_hash content kept frames count rest
-entity_goes content kept frames count tag.EndStruct rest = run_hash content kept frames count rest
-entity_goes content kept frames count tag.EndMember rest = run_hash content kept frames count rest
-entity_goes content kept frames count tag.EndName rest = run_hash content kept frames count rest
-entity_goes content kept frames count tag.EndArray rest = run_hash content kept frames count rest
-entity_goes content kept frames count tag.EndData rest = run_hash content kept frames count rest
-entity_goes content kept frames count tag.Numbered rest = run_hash content kept frames count rest
+entity_goes content kept frames count any rest = run_hash content kept frames count rest
 
 entity_follows : (content : Content) (kept : List ℕ) (frames : List Frame) (count : ℕ) (r : Result (Tag × List ℕ) ℕ)
     → follow the_limits (AtEntity content kept) frames count r ≡ with_character content kept frames count (r >>= (λ r. entity_of r.0 r.1))

@@ -63,7 +63,7 @@ pieced value value2 awaits awaits2 rest rest2 e =
     let k : Some (awaits, rest) ≡ Some (awaits2, rest2) = ap (λ (x : Piece). x.1) h in
     record { bytes = ap (λ (x : Piece). x.0) h; next = ap (λ (x : Awaits × List ℕ). x.0) (some_is (awaits, rest) (awaits2, rest2) k) }
 
--- reading this text behind what was kept has come so far
+-- reading this text after what was kept has come so far
 pub record Reaches (kept bytes value : List ℕ) (awaits : Awaits) (rest : List ℕ) : Type 0 where
   pub most : ℕ
   pub enough : length rest ≤ most
@@ -129,51 +129,7 @@ entity_allowed tag.Less bs c rest e = named 60 c bs rest refl e
 entity_allowed tag.Greater bs c rest e = named 62 c bs rest refl e
 entity_allowed tag.Quote bs c rest e = named 34 c bs rest refl e
 entity_allowed tag.Apostrophe bs c rest e = named 39 c bs rest refl e
-entity_allowed tag.Declaration bs c rest e = numbered_allowed bs c rest e
-entity_allowed tag.MethodCall bs c rest e = numbered_allowed bs c rest e
-entity_allowed tag.MethodName bs c rest e = numbered_allowed bs c rest e
-entity_allowed tag.MethodResponse bs c rest e = numbered_allowed bs c rest e
-entity_allowed tag.Params bs c rest e = numbered_allowed bs c rest e
-entity_allowed tag.NoParams bs c rest e = numbered_allowed bs c rest e
-entity_allowed tag.Param bs c rest e = numbered_allowed bs c rest e
-entity_allowed tag.Fault bs c rest e = numbered_allowed bs c rest e
-entity_allowed tag.Value bs c rest e = numbered_allowed bs c rest e
-entity_allowed tag.NoValue bs c rest e = numbered_allowed bs c rest e
-entity_allowed tag.I4 bs c rest e = numbered_allowed bs c rest e
-entity_allowed tag.Int bs c rest e = numbered_allowed bs c rest e
-entity_allowed tag.Boolean bs c rest e = numbered_allowed bs c rest e
-entity_allowed tag.String bs c rest e = numbered_allowed bs c rest e
-entity_allowed tag.NoString bs c rest e = numbered_allowed bs c rest e
-entity_allowed tag.Double bs c rest e = numbered_allowed bs c rest e
-entity_allowed tag.DateTime bs c rest e = numbered_allowed bs c rest e
-entity_allowed tag.Base64 bs c rest e = numbered_allowed bs c rest e
-entity_allowed tag.Struct bs c rest e = numbered_allowed bs c rest e
-entity_allowed tag.NoMembers bs c rest e = numbered_allowed bs c rest e
-entity_allowed tag.Member bs c rest e = numbered_allowed bs c rest e
-entity_allowed tag.Name bs c rest e = numbered_allowed bs c rest e
-entity_allowed tag.Array bs c rest e = numbered_allowed bs c rest e
-entity_allowed tag.Data bs c rest e = numbered_allowed bs c rest e
-entity_allowed tag.NoData bs c rest e = numbered_allowed bs c rest e
-entity_allowed tag.EndMethodCall bs c rest e = numbered_allowed bs c rest e
-entity_allowed tag.EndMethodName bs c rest e = numbered_allowed bs c rest e
-entity_allowed tag.EndMethodResponse bs c rest e = numbered_allowed bs c rest e
-entity_allowed tag.EndParams bs c rest e = numbered_allowed bs c rest e
-entity_allowed tag.EndParam bs c rest e = numbered_allowed bs c rest e
-entity_allowed tag.EndFault bs c rest e = numbered_allowed bs c rest e
-entity_allowed tag.EndValue bs c rest e = numbered_allowed bs c rest e
-entity_allowed tag.EndI4 bs c rest e = numbered_allowed bs c rest e
-entity_allowed tag.EndInt bs c rest e = numbered_allowed bs c rest e
-entity_allowed tag.EndBoolean bs c rest e = numbered_allowed bs c rest e
-entity_allowed tag.EndString bs c rest e = numbered_allowed bs c rest e
-entity_allowed tag.EndDouble bs c rest e = numbered_allowed bs c rest e
-entity_allowed tag.EndDateTime bs c rest e = numbered_allowed bs c rest e
-entity_allowed tag.EndBase64 bs c rest e = numbered_allowed bs c rest e
-entity_allowed tag.EndStruct bs c rest e = numbered_allowed bs c rest e
-entity_allowed tag.EndMember bs c rest e = numbered_allowed bs c rest e
-entity_allowed tag.EndName bs c rest e = numbered_allowed bs c rest e
-entity_allowed tag.EndArray bs c rest e = numbered_allowed bs c rest e
-entity_allowed tag.EndData bs c rest e = numbered_allowed bs c rest e
-entity_allowed tag.Numbered bs c rest e = numbered_allowed bs c rest e
+entity_allowed any bs c rest e = numbered_allowed bs c rest e
 
 entity_read : (r : Result (Tag × List ℕ) ℕ) (c : ℕ) (rest : List ℕ) → (r >>= (λ r. entity_of r.0 r.1)) ≡ Ok (c, rest) → is_allowed c ≡ true
 entity_read (Ok r) c rest e = entity_allowed r.0 r.1 c rest e

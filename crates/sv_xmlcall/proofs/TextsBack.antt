@@ -277,11 +277,7 @@ pub record TextBack (limits : Limits) (content : Content) (kept : List ℕ) (fra
 pub alone_text : (limits : Limits) (content : Content) (bytes : List ℕ) → Alone limits (AtTextEnd content bytes) (end_of content)
 alone_text limits InMethod bytes = record { only = refl; goes_on = tt; shut = λ frames count. refl }
 alone_text limits (InName before) bytes = record { only = refl; goes_on = tt; shut = λ frames count. refl }
-alone_text limits InString bytes = record { only = refl; goes_on = tt; shut = λ frames count. refl }
-alone_text limits InDouble bytes = record { only = refl; goes_on = tt; shut = λ frames count. refl }
-alone_text limits InDate bytes = record { only = refl; goes_on = tt; shut = λ frames count. refl }
-alone_text limits InBase bytes = record { only = refl; goes_on = tt; shut = λ frames count. refl }
-alone_text limits InBare bytes = record { only = refl; goes_on = tt; shut = λ frames count. refl }
+alone_text limits any bytes = record { only = refl; goes_on = tt; shut = λ frames count. refl }
 
 text_end : (limits : Limits) (content : Content) (kept : List ℕ) (frames : List Frame) (count : ℕ) (bs rest : List ℕ) (spelled : Spelled) (letters : List Letter) → AreLetters letters
     → bs ≡ printed_text letters ++ 60 ∷ rest → run limits (in_text content (kept ++ text_of letters) frames count) (60 ∷ rest) ≡ Read spelled
@@ -373,7 +369,7 @@ record DigitsBack (limits : Limits) (short negative : Bool) (frames : List Frame
 abbrev DigitsGo : Limits → Bool → Bool → Sign → List Frame → ℕ → ℕ → List ℕ → Spelled → Type 0
 DigitsGo limits short negative sign frames count n bs spelled = run limits (at (Digits short negative sign n) frames count) bs ≡ Read spelled
 
--- behind a digit
+-- after a digit
 digit_on : (limits : Limits) (short negative : Bool) (sign : Sign) (frames : List Frame) (count n b : ℕ) (bs : List ℕ) (spelled : Spelled) → is_ascii_digit b ≡ true
     → DigitsGo limits short negative sign frames count n (b ∷ bs) spelled
     → (n * 10 + digit_value b ≤ most_of negative) × DigitsGo limits short negative Counted frames count (n * 10 + digit_value b) bs spelled
@@ -408,7 +404,7 @@ pub record IntegerBack (limits : Limits) (short : Bool) (frames : List Frame) (c
   pub parts : bs ≡ printed_mark mark ++ digits ++ rest
   pub goes : run limits (at (Within (AtIntegerEnd short (signed (is_minus mark) (digits_value 10 digits))) (words_of (tags_of (AtIntegerEnd short (signed (is_minus mark) (digits_value 10 digits)))))) frames count) rest ≡ Read spelled
 
--- the first digit, behind this sign
+-- the first digit, after this sign
 first_back : (limits : Limits) (short : Bool) (mark : Mark) (sign : Sign) (frames : List Frame) (count b : ℕ) (bs : List ℕ) (spelled : Spelled) → is_ascii_digit b ≡ true
     → DigitsGo limits short (is_minus mark) sign frames count 0 (b ∷ bs) spelled → IntegerBack limits short frames count (printed_mark mark ++ b ∷ bs) spelled
 first_back limits short mark sign frames count b bs spelled d e =

@@ -1,4 +1,4 @@
--- Fronts of texts: where reading is refused within a value, the bytes before begin one.
+-- Prefixes of texts: where reading is refused within a value, the bytes before begin one.
 use Rattle.std.proofs.Common.{◌≡◌, ℕ, suc, true, false, eqb, List, [], ◌∷◌, ◌++◌, length, inl, inr, refl, sym, ap, ◌∙◌, subst, append_assoc, append-nil, codes, ◌⊎◌, le_refl}
 use Rattle.std.proofs.lemmas.Bool.{cases_Bool, eqb-true}
 use Rattle.sv_xmlcall.specs.Tags.{spelling}
@@ -151,7 +151,7 @@ ValueBehind limits frames count bs left P = (value : ValueText) → IsValue valu
     → run limits (after_value limits (held limits (value_of value) count) frames (count_behind limits (value_of value) count)) rest ≡ NotRead left
     → Good (λ g. P (printed_value value ++ g)) rest left
 
--- white space behind `<value>` begins a bare text
+-- white space after `<value>` begins a bare text
 pub white_begins : (P : List ℕ → Type 0) → ValueFronts P → (gap : List ℕ) → IsWhite gap → (g : List ℕ) → IsFront g (spelling tag.EndValue) → P (spelling tag.Value ++ (gap ++ g))
 white_begins P fail gap w g f =
     let l = white_letters gap w in
@@ -174,7 +174,7 @@ tag_begins P fail gap w t (inr s) g f = form_begins P fail gap w s.form s.right 
 typed_parts : (s g f r : List ℕ) → s ++ (g ++ (f ++ r)) ≡ s ++ g ++ f ++ r
 typed_parts s g f r = simp append_assoc refl
 
--- behind a form
+-- after a form
 pub form_behind : (limits : Limits) (frames : List Frame) (count : ℕ) (rest0 gap rest : List ℕ) (left : ℕ) (P : List ℕ → Type 0) → ValueFronts P → ValueBehind limits frames count (spelling tag.Value ++ rest0) left P
     → IsWhite gap → rest0 ≡ gap ++ rest → FormBehind limits frames count rest left (λ g. P (spelling tag.Value ++ (gap ++ g)))
 form_behind limits frames count rest0 gap rest left P fail more w p = λ form r behind q e.
@@ -196,7 +196,7 @@ white_parts s g e i c r = simp append_assoc refl
 inside_parts : (s g e i : List ℕ) → s ++ (g ++ (e ++ i)) ++ codes ">" ≡ s ++ g ++ (e ++ i ++ codes ">")
 inside_parts s g e i = simp append_assoc refl
 
--- behind the name of the tag that ends white bare text
+-- after the name of the tag that ends white bare text
 pub white_end : (limits : Limits) (frames : List Frame) (count : ℕ) (rest0 gap behind : List ℕ) (left : ℕ) (P : List ℕ → Type 0) → ValueFronts P → ValueBehind limits frames count (spelling tag.Value ++ rest0) left P
     → IsWhite gap → rest0 ≡ gap ++ (spelling tag.EndValue ++ behind) → EndGoes limits gap frames count behind left (λ g. P (spelling tag.Value ++ (gap ++ g)))
 white_end limits frames count rest0 gap behind left P fail more w p e =
@@ -245,7 +245,7 @@ bare_front limits frames count rest0 gap rest left P fail more w p e =
     (subst (λ (x : List ℕ). run limits (after_value limits (text x) frames (counted limits count)) last ≡ NotRead left) (means letters) f)))
     e
 
--- white space behind `<value>`
+-- white space after `<value>`
 pub opened_front : (limits : Limits) (kept : List ℕ) (frames : List Frame) (count : ℕ) (bs : List ℕ) (left : ℕ) (P : List ℕ → Type 0)
     → ((gap : List ℕ) → IsWhite gap → P gap)
     → ((gap : List ℕ) → IsWhite gap → (rest : List ℕ) → bs ≡ gap ++ rest → run limits (at (Within (AtForm (kept ++ gap)) (words_of (tags_of (AtForm (kept ++ gap))))) frames count) rest ≡ NotRead left → Good (λ g. P (gap ++ g)) rest left)

@@ -12,7 +12,7 @@ use Rattle.sv_xmlcall.specs.declared.tag.Tag.TheVariants as tag
 use Rattle.sv_xmlcall.proofs.Passing.{Passes, Stops, ◌▷◌, nothing, to_state, white, white_opened, shuts, ends, in_text, text_pass, Begins, begins, dark_text, white_char, int_pass}
 
 abbrev mutual
-  -- the count of values behind a value
+  -- the count of values after a value
   pub count_behind : Limits → Tree → ℕ → ℕ
   count_behind limits (integer n) count = counted limits count
   count_behind limits (truth b) count = counted limits count

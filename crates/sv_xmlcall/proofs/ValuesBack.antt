@@ -16,7 +16,7 @@ use Rattle.sv_xmlcall.proofs.ValuePassing.{count_behind, count_behind_values, co
 use Rattle.sv_xmlcall.proofs.TagsBack.{Continues, not_read, shut_back, Alone, end_back, shut_behind}
 use Rattle.sv_xmlcall.proofs.TextsBack.{PlainLetters, text_back, integer_back, printed_append, means_append, right_append}
 
--- a form was read behind `<value>`
+-- a form was read after `<value>`
 pub record FormBack (limits : Limits) (frames : List Frame) (count : ℕ) (bs : List ℕ) (spelled : Spelled) : Type 0 where
   pub form : FormText
   pub right : IsForm form
@@ -198,7 +198,7 @@ no_data_form limits frames count gap rest rest1 spelled w p g =
       goes = e.goes;
     }
 
--- white space was read behind `<value>`, and then a tag, or the rest of a bare text
+-- white space was read after `<value>`, and then a tag, or the rest of a bare text
 pub record OpenedBack (limits : Limits) (kept : List ℕ) (frames : List Frame) (count : ℕ) (bs : List ℕ) (spelled : Spelled) : Type 0 where
   pub gap : List ℕ
   pub white : IsWhite gap

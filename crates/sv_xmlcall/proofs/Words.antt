@@ -132,7 +132,7 @@ nothing_left [] n = refl
 nothing_left (([], t) ∷ words) n = cc n
 nothing_left ((w ∷ ws, t) ∷ words) n = nothing_left words n
 
--- how reading goes on behind a tag of a place, or where none stands
+-- how reading goes on after a tag of a place, or where none stands
 abbrev pub follow : Limits → Place → List Frame → ℕ → Result (Tag × List ℕ) ℕ → Verdict
 follow limits place frames count (Ok r) =
     on_step (enter limits place r.0 frames count) (λ s. run limits s r.1) (unless_many limits count (NotRead (suc (length r.1))))

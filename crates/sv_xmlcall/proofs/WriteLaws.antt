@@ -3,7 +3,7 @@ use Rattle.std.proofs.Common.{◌≡◌, ℕ, List, ◌++◌, sym, ap, ◌∙◌
 use Rattle.std.specs.Prelude.{codes}
 use Rattle.sv_xmlcall.specs.Written.{opening, closing, element}
 
--- a front, what stands within, and a back, one behind the other
+-- a prefix, what stands within, and a back, one after the other
 enclosed : (before front inner back : List ℕ) → ((before ++ front) ++ inner) ++ back ≡ before ++ (front ++ (inner ++ back))
 enclosed before front inner back = append_assoc (before ++ front) inner back ∙ append_assoc before front (inner ++ back)
 
@@ -15,7 +15,7 @@ written_between before out one two front inner back f i b =
 flat : (name front value back : List ℕ) → ((name ++ front) ++ value) ++ back ≡ name ++ (front ++ (value ++ back))
 flat name front value back = enclosed name front value back
 
--- a member: the tags before its name, between its name and its value, and behind its value
+-- a member: the tags before its name, between its name and its value, and after its value
 pub written_member : (before out one two three four name form : List ℕ) → one ≡ before ++ codes "<member><name>" → two ≡ one ++ name
     → three ≡ two ++ codes "</name><value>" → four ≡ three ++ form → out ≡ four ++ codes "</value></member>"
     → out ≡ before ++ element (codes "member") (element (codes "name") name ++ element (codes "value") form)

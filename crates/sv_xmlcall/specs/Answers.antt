@@ -12,7 +12,7 @@ use Rattle.sv_xmlcall.specs.declared.call.CallFault.TheVariants as fault
 use Rattle.sv_xmlcall.specs.declared.stop.Stop.{Stop}
 use Rattle.sv_xmlcall.specs.declared.stop.Stop.TheVariants as stop
 
--- how a text goes on behind the params of a call of this method
+-- how a text goes on after the params of a call of this method
 abbrev pub ReadsParams : {X : Type 0} → List ℕ → ℕ → List ℕ → ℕ → (X → Trees) → (X → List ℕ) → Result X Stop → Type 0
 ReadsParams method before bytes count params rest (Ok x) =
     run the_limits (at (At (AtCalled method)) [] before) bytes
@@ -42,14 +42,14 @@ faulted (stop.At left) opened size = if nat_lt 65536 opened then fault.TooManyVa
 faulted stop.TooDeep opened size = fault.TooDeep
 faulted stop.OutOfMemory opened size = fault.OutOfMemory
 
--- how a text goes on from behind `<params>` to behind the closing tag of the call
+-- how a text goes on from after `<params>` to after the closing tag of the call
 abbrev pub ReadsFurther : {X : Type 0} → List ℕ → ℕ → List ℕ → ℕ → (X → Trees) → (X → List ℕ) → Result X Stop → Type 0
 ReadsFurther method before bytes count params rest (Ok x) =
     run the_limits (at (At (AtParams method no_tree)) [] before) bytes
     ≡ run the_limits (at (At (AtDone (ACall (record { method = method; params = params x })))) [] count) (rest x)
 ReadsFurther method before bytes count params rest (Err stop) = Halts stop count (run the_limits (at (At (AtParams method no_tree)) [] before) bytes)
 
--- how a text goes on behind one more param
+-- how a text goes on after one more param
 abbrev pub ReadsOne : {X : Type 0} → List ℕ → Trees → ℕ → List ℕ → ℕ → (X → Trees) → (X → List ℕ) → Result X Stop → Type 0
 ReadsOne method params before bytes count more rest (Ok x) =
     run the_limits (at (At AtValue) (InParam method params ∷ []) before) bytes ≡ run the_limits (at (At (AtParams method (more x))) [] count) (rest x)

@@ -1,4 +1,4 @@
--- Which bytes begin a text that spells a call or a reply, and the good front of a text, the longest one that does.
+-- Which bytes begin a text that spells a call or a reply, and the good prefix of a text, the longest one that does.
 use Rattle.std.specs.Prelude.{◌≡◌, ◌≤◌, ℕ, List, ◌++◌, ◌⊎◌, length}
 use Rattle.sv_xmlcall.specs.Tags.{spelling}
 use Rattle.sv_xmlcall.specs.Trees.{CallTree, Reply}
@@ -6,13 +6,13 @@ use Rattle.sv_xmlcall.specs.Spells.{IsWhite, ValueText, printed_value, IsValue}
 use Rattle.sv_xmlcall.specs.SpelledTexts.{HeadText, printed_head, IsHead, SpellsCall, SpellsReply}
 use Rattle.sv_xmlcall.specs.declared.tag.Tag.TheVariants as tag
 
--- the bytes are a front of a text that spells a call
+-- the bytes are a prefix of a text that spells a call
 pub record BeginsCall (front : List ℕ) : Type 0 where
   pub rest : List ℕ
   pub call : CallTree
   pub spells : SpellsCall (front ++ rest) call
 
--- the bytes are a front of a text that spells a reply
+-- the bytes are a prefix of a text that spells a reply
 pub record BeginsAnswer (front : List ℕ) : Type 0 where
   pub rest : List ℕ
   pub reply : Reply
@@ -34,7 +34,7 @@ abbrev pub printed_fault : FaultText → List ℕ
 printed_fault fault =
     printed_head fault.head ++ spelling tag.MethodResponse ++ fault.before ++ spelling tag.Fault ++ fault.before_value ++ printed_value fault.value
 
--- the bytes are a front of such a reply
+-- the bytes are a prefix of such a reply
 pub record BeginsFault (front : List ℕ) : Type 0 where
   pub rest : List ℕ
   pub text : FaultText
@@ -45,7 +45,7 @@ pub record BeginsFault (front : List ℕ) : Type 0 where
 abbrev pub BeginsReply : List ℕ → Type 0
 BeginsReply front = BeginsAnswer front ⊎ BeginsFault front
 
--- the longest front of the bytes that has a property
+-- the longest prefix of the bytes that has a property
 pub record IsLongest (Begins : List ℕ → Type 0) (bytes front : List ℕ) : Type 0 where
   pub begins : Begins front
   pub rest : List ℕ

@@ -28,7 +28,7 @@ called bytes = call_of (run the_limits (start OfCall) bytes)
 unfoldable pub replied : List ℕ → Option Reply
 replied bytes = reply_of (run the_limits (start OfReply) bytes)
 
--- a reader's answer: the call that the bytes are, or a fault where they are none; want of memory is free
+-- a reader's answer: the call that the bytes are, or a fault where they are none; running out of memory is always allowed
 abbrev pub AnswersCalled : Option CallTree → Result Call CallFault → Type 0
 AnswersCalled is (Ok call) = is ≡ Some (call_view call)
 AnswersCalled is (Err fault.OutOfMemory) = Unit {0}

@@ -35,7 +35,7 @@ abbrev pub is_private : Letters → ℕ → Bool
 is_private Any b = false
 is_private OfXml b = b == 239
 
--- what is awaited behind the first byte of a character
+-- what is awaited after the first byte of a character
 abbrev pub after_lead : Letters → ℕ → Awaits
 after_lead letters b =
     if nat_lt b 128 then Character
@@ -44,12 +44,12 @@ after_lead letters b =
     else if nat_lt b 240 then Continuation (if b == 224 then 160 else 128) (if b == 237 then 159 else 191) 1
     else Continuation (if b == 240 then 144 else 128) (if b == 244 then 143 else 191) 2
 
--- what is awaited behind a further byte of a character, when so many more have to come
+-- what is awaited after a further byte of a character, when so many more have to come
 abbrev pub after_continuation : ℕ → Awaits
 after_continuation zero = Character
 after_continuation (suc more) = Continuation 128 191 more
 
--- what is awaited behind this byte
+-- what is awaited after this byte
 abbrev pub after : Letters → Awaits → ℕ → Awaits
 after letters Character b = after_lead letters b
 after letters Private b = Continuation 128 (if b == 191 then 189 else 191) 0

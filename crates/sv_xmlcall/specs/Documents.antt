@@ -11,14 +11,14 @@ use Rattle.sv_xmlcall.specs.declared.stop.Stop.{Stop}
 use Rattle.sv_xmlcall.specs.declared.tag.Tag.{Tag}
 use Rattle.sv_xmlcall.specs.declared.tag.Tag.TheVariants as tag
 
--- the declaration, from behind its `<?xml`, and this opening tag of the outermost element
+-- the declaration, from after its `<?xml`, and this opening tag of the outermost element
 abbrev pub declared_at : Tag → List ℕ → Result (List ℕ) ℕ
 declared_at begin bs = do
   rest ← prolog_from false Character bs
   r ← tag_behind (begin ∷ []) rest
   Ok r.1
 
--- behind the first tag of a text, a declaration's or this opening tag: what follows the opening tag
+-- after the first tag of a text, a declaration's or this opening tag: what follows the opening tag
 abbrev pub document_of : Tag → Tag → List ℕ → Result (List ℕ) ℕ
 document_of begin tag.Declaration bs = declared_at begin bs
 document_of begin t bs = Ok bs
@@ -40,19 +40,19 @@ head_at bs = do
 abbrev pub ended_by : Result (List ℕ) ℕ → Result (Bool × List ℕ) ℕ
 ended_by r = r >>= (λ rest. Ok (false, rest))
 
--- what comes behind this tag, the first after the method's name
+-- what comes after this tag, the first after the method's name
 abbrev pub begun_of : Tag → List ℕ → Result (Bool × List ℕ) ℕ
 begun_of tag.Params bs = Ok (true, bs)
 begun_of tag.NoParams bs = ended_by (closing_at (tag.EndMethodCall ∷ []) bs)
 begun_of t bs = ended_by (close_at bs)
 
--- behind the name of a call: whether params may come
+-- after the name of a call: whether params may come
 unfoldable pub begun_at : List ℕ → Result (Bool × List ℕ) ℕ
 begun_at bs = do
   r ← tag_behind (tag.Params ∷ tag.NoParams ∷ tag.EndMethodCall ∷ []) bs
   begun_of r.0 r.1
 
--- what comes behind this tag, which opens a param or closes all of them
+-- what comes after this tag, which opens a param or closes all of them
 abbrev pub param_of : Tag → List ℕ → Result (Bool × List ℕ) ℕ
 param_of tag.Param bs = Ok (true, bs)
 param_of t bs = close_at bs >>= (λ rest. ended_by (closing_at (tag.EndMethodCall ∷ []) rest))
@@ -63,7 +63,7 @@ param_at bs = do
   r ← tag_behind (tag.Param ∷ tag.EndParams ∷ []) bs
   param_of r.0 r.1
 
--- what comes behind this tag, the first inside `<methodResponse>`
+-- what comes after this tag, the first inside `<methodResponse>`
 abbrev pub answer_of : Tag → List ℕ → Result (Bool × List ℕ) ℕ
 answer_of tag.Params bs = do
   r ← tag_behind (tag.Param ∷ []) bs
@@ -77,14 +77,14 @@ answer_at bs = do
   r ← tag_behind (tag.Params ∷ tag.Fault ∷ []) rest
   answer_of r.0 r.1
 
--- behind the value of a method's reply
+-- after the value of a method's reply
 unfoldable pub param_end_at : List ℕ → Result (List ℕ) ℕ
 param_end_at bs = do
   one ← closing_at (tag.EndParam ∷ []) bs
   two ← closing_at (tag.EndParams ∷ []) one
   closing_at (tag.EndMethodResponse ∷ []) two
 
--- behind the value of a fault
+-- after the value of a fault
 unfoldable pub fault_end_at : List ℕ → Result (List ℕ) ℕ
 fault_end_at bs = do
   one ← closing_at (tag.EndFault ∷ []) bs
@@ -104,11 +104,11 @@ nothing_at (b ∷ bs) = Err (suc (length bs))
 abbrev pub end_at : List ℕ → Result (Unit {0}) ℕ
 end_at bs = nothing_at (skip_white bs)
 
--- the end of a method's reply, from behind its value
+-- the end of a method's reply, from after its value
 abbrev pub value_end_at : List ℕ → Result (Unit {0}) ℕ
 value_end_at bs = param_end_at bs >>= (λ rest. end_at rest)
 
--- the end of a fault, from behind its value; none where that is not the value of a fault
+-- the end of a fault, from after its value; none where that is not the value of a fault
 abbrev pub faulty_at : Option Reply → List ℕ → Result Reply ℕ
 faulty_at (Some reply) bs = fault_end_at bs >>= (λ rest. end_at rest >>= (λ u. Ok reply))
 faulty_at None bs = Err (length bs)

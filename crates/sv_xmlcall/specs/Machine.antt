@@ -1,4 +1,4 @@
--- The reading of a text byte by byte: what a text goes on with after each of its fronts.
+-- The reading of a text byte by byte: what a text goes on with after each of its prefixes.
 use Rattle.std.specs.Prelude.{ℕ, suc, ◌+◌, ◌-◌, ◌*◌, ◌^◌, List, [], ◌∷◌, ◌++◌, length, map, Bool, true, false, ◌&&◌, ◌||◌, not, nat_lt, nat_le, ◌==◌, if◌then◌else◌, Option, Some, None, ℤ, codes}
 use Rattle.std.specs.Char.{encode_utf8, is_ascii_digit}
 use Rattle.sv_xmlcall.specs.Trees.{Tree, Trees, Members, integer, truth, text, other, structure, array, no_tree, no_member, Reply, Returns}
@@ -81,8 +81,8 @@ pub data Sign : Type 0 where
   Signed : Sign
   Counted : Sign
 
--- where a text is read: white space or a tag; inside a tag; at the end of a closing tag; characters of a text; behind
--- `&#`; the number of an entity; behind `<value>`; digits; a boolean; the declaration; where no text goes on
+-- where a text is read: white space or a tag; inside a tag; at the end of a closing tag; characters of a text; after
+-- `&#`; the number of an entity; after `<value>`; digits; a boolean; the declaration; where no text goes on
 pub data Control : Type 0 where
   At : Place → Control
   Within : Place → List (List ℕ × Tag) → Control
@@ -179,7 +179,7 @@ abbrev pub kept_member : Limits → ℕ → Members → List ℕ → Tree → Me
 kept_member limits count before name value =
     if nat_le count limits.keeping then snoc_member before name value else before
 
--- behind the value of a fault; no text goes on behind another value there
+-- after the value of a fault; no text goes on after another value there
 abbrev pub after_fault : Option Reply → List Frame → ℕ → State
 after_fault (Some reply) frames count = at (At (AtFaultEnd reply)) frames count
 after_fault None frames count = at Stuck frames count
@@ -188,7 +188,7 @@ after_fault None frames count = at Stuck frames count
 abbrev pub whole_fault : Limits → ℕ → Tree → Option Reply
 whole_fault limits count value = if nat_le count limits.keeping then fault_of value else None
 
--- behind a whole value
+-- after a whole value
 abbrev pub after_value : Limits → Tree → List Frame → ℕ → State
 after_value limits value [] count = at Stuck [] count
 after_value limits value (InParam method before ∷ frames) count = at (At (AtParamEnd method (kept limits count before value))) frames count
@@ -197,7 +197,7 @@ after_value limits value (InFault ∷ frames) count = after_fault (whole_fault l
 after_value limits value (InArray before ∷ frames) count = at (At (AtItems (kept limits count before value))) frames count
 after_value limits value (InMember before name ∷ frames) count = at (At (AtMemberEnd (kept_member limits count before name value))) frames count
 
--- behind the closing tag of a text
+-- after the closing tag of a text
 abbrev pub after_text : Limits → Content → List ℕ → List Frame → ℕ → State
 after_text limits InMethod bytes frames count = at (At (AtCalled bytes)) frames count
 after_text limits (InName before) bytes frames count = at (At AtValue) (InMember before bytes ∷ frames) count
@@ -211,17 +211,17 @@ after_text limits InBare bytes frames count = after_value limits (text bytes) fr
 abbrev pub counted : Limits → ℕ → ℕ
 counted limits count = if nat_le count limits.values then suc count else count
 
--- behind `<value>`
+-- after `<value>`
 abbrev pub open_value : Limits → List Frame → ℕ → Step
 open_value limits frames count =
     if nat_le (length frames) limits.nesting then goes (Opened []) frames (counted limits count) else Deep
 
--- behind `<value/>`, which is the empty string
+-- after `<value/>`, which is the empty string
 abbrev pub empty_value : Limits → List Frame → ℕ → Step
 empty_value limits frames count =
     if nat_le (length frames) limits.nesting then Go (after_value limits (text []) frames (counted limits count)) else Deep
 
--- behind a tag of a place
+-- after a tag of a place
 abbrev pub enter : Limits → Place → Tag → List Frame → ℕ → Step
 enter limits (AtStart document) tag.Declaration frames count = goes (Prolog document false Character) frames count
 enter limits (AtStart OfCall) entered frames count = goes (At AtMethod) frames count
@@ -262,7 +262,7 @@ enter limits (AtEntity content bytes) tag.Apostrophe frames count = goes (Chars 
 enter limits (AtEntity content bytes) entered frames count = goes (Hash content bytes) frames count
 enter limits place closing frames count = goes (Close place) frames count
 
--- behind the closing tag of a place
+-- after the closing tag of a place
 abbrev pub leave : Limits → Place → List Frame → ℕ → State
 leave limits (AtCalled method) frames count = at (At (AtDone (ACall (record { method = method; params = no_tree })))) frames count
 leave limits (AtParams method before) frames count = at (At (AtParamsEnd method before)) frames count
@@ -355,7 +355,7 @@ base_of false = 10
 abbrev pub longer : Bool → ℕ → ℕ → ℕ
 longer hex n b = n * base_of hex + digit_value b
 
--- in a character reference: a digit, up to 10FFFF, or the `;` behind the number of a character that
+-- in a character reference: a digit, up to 10FFFF, or the `;` after the number of a character that
 -- XML allows
 abbrev pub in_numeral : Content → List ℕ → Bool → Bool → ℕ → List Frame → ℕ → ℕ → Step
 in_numeral content bytes hex seen n frames count b =
@@ -364,7 +364,7 @@ in_numeral content bytes hex seen n frames count b =
     else if (b == 59) && seen && is_allowed n then goes (Chars content (bytes ++ encode_utf8 n) Character) frames count
     else Bad
 
--- behind `&#`: the `x` of hexadecimal digits, or a decimal digit
+-- after `&#`: the `x` of hexadecimal digits, or a decimal digit
 abbrev pub in_hash : Content → List ℕ → List Frame → ℕ → ℕ → Step
 in_hash content bytes frames count b =
     if b == 120 then goes (Numeral content bytes true false 0) frames count
@@ -375,7 +375,7 @@ abbrev pub most_of : Bool → ℕ
 most_of true = 2 ^ 63
 most_of false = 2 ^ 63 - 1
 
--- in an integer, a byte that is no digit: a sign before all digits, or the closing tag behind them
+-- in an integer, a byte that is no digit: a sign before all digits, or the closing tag after them
 abbrev pub in_sign : Limits → Bool → Bool → Sign → ℕ → List Frame → ℕ → ℕ → Step
 in_sign limits short negative Fresh n frames count b =
     if b == 45 then goes (Digits short true Signed n) frames count
@@ -392,7 +392,7 @@ in_digits limits short negative sign n frames count b =
     if nat_le (n * 10 + (b - 48)) (most_of negative) then goes (Digits short negative Counted (n * 10 + (b - 48))) frames count else Bad
     else in_sign limits short negative sign n frames count b
 
--- behind `<value>` and white space: more of it, a tag, or a bare text that begins with it
+-- after `<value>` and white space: more of it, a tag, or a bare text that begins with it
 abbrev pub in_opened : Limits → List ℕ → List Frame → ℕ → ℕ → Step
 in_opened limits white frames count b =
     if is_white b then goes (Opened (white ++ b ∷ [])) frames count
@@ -449,7 +449,7 @@ abbrev pub finished : Control → Verdict
 finished (At (AtDone spelled)) = Read spelled
 finished control = NotRead 0
 
--- the verdict behind a step: of the next state, of a bad byte, or of a value that stands too deep
+-- the verdict after a step: of the next state, of a bad byte, or of a value that stands too deep
 abbrev pub on_step : Step → (State → Verdict) → Verdict → Verdict
 on_step (Go state) on bad = on state
 on_step Bad on bad = bad

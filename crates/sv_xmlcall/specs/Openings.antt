@@ -1,4 +1,4 @@
--- The values that a front of a text opens: its whole tags `<value>` and `<value/>` outside the declaration.
+-- The values that a prefix of a text opens: its whole tags `<value>` and `<value/>` outside the declaration.
 use Rattle.std.specs.Prelude.{ℕ, suc, ◌-◌, max, List, [], ◌∷◌, Bool, true, false, ◌&&◌, ◌||◌, ◌==◌, if◌then◌else◌}
 use Rattle.sv_xmlcall.specs.Tags.{spelling}
 use Rattle.sv_xmlcall.specs.Atoms.{skip_white}
@@ -24,7 +24,7 @@ deepest around (b ∷ bs) =
     else if begins (spelling tag.EndValue) (b ∷ bs) then deepest (around - 1) bs
     else deepest around bs
 
--- what is behind the `?>` of a declaration, whose last byte before may be a question mark; nothing where it does not end
+-- what is after the `?>` of a declaration, whose last byte before may be a question mark; nothing where it does not end
 abbrev pub behind_mark : Bool → List ℕ → List ℕ
 behind_mark question [] = []
 behind_mark question (b ∷ bs) = if question && (b == 62) then bs else behind_mark (b == 63) bs
@@ -33,10 +33,10 @@ behind_mark question (b ∷ bs) = if question && (b == 62) then bs else behind_m
 abbrev pub outside : List ℕ → List ℕ
 outside bytes = if begins (spelling tag.Declaration) (skip_white bytes) then behind_mark false (skip_white bytes) else bytes
 
--- how many values a front opens
+-- how many values a prefix opens
 abbrev pub amount_in : List ℕ → ℕ
 amount_in front = opened (outside front)
 
--- the most values that stand one inside the other where a front opens one
+-- the most values that stand one inside the other where a prefix opens one
 abbrev pub depth_in : List ℕ → ℕ
 depth_in front = deepest 0 (outside front)

@@ -13,7 +13,7 @@ use Rattle.sv_xmlcall.specs.declared.tag.Tag.{Tag}
 use Rattle.sv_xmlcall.specs.declared.tag.Tag.TheVariants as tag
 
 infixl 10 ◌>>=◌
--- reads on behind what was read; where it stops, all does
+-- reads on after what was read; where it stops, all does
 abbrev pub ◌>>=◌ : {A B : Type 0} → Result A ℕ → (A → Result B ℕ) → Result B ℕ
 (Ok x) >>= f = f x
 (Err e) >>= f = Err e
@@ -27,7 +27,7 @@ numeral_at hex seen n (b ∷ bs) =
     else if (b == 59) && seen && is_allowed n then Ok (n, bs)
     else Err (suc (length bs))
 
--- a character reference, from behind `&#`
+-- a character reference, from after `&#`
 abbrev pub numbered_at : List ℕ → Result (ℕ × List ℕ) ℕ
 numbered_at [] = Err 0
 numbered_at (b ∷ bs) = if b == 120 then numeral_at true false 0 bs else numeral_at false false 0 (b ∷ bs)
@@ -65,18 +65,18 @@ piece_at kept awaits (b ∷ bs) =
     else if not (b == 60) && not (b == 38) && allows OfXml awaits b then Ok (kept ++ b ∷ [], Some (after OfXml awaits b, bs))
     else Err (suc (length bs))
 
--- reads on behind a piece; where there is none, the text has ended
+-- reads on after a piece; where there is none, the text has ended
 abbrev pub on_piece : List ℕ → List ℕ → Option (Awaits × List ℕ) → (Awaits → List ℕ → Result (List ℕ × List ℕ) ℕ) → Result (List ℕ × List ℕ) ℕ
 on_piece kept bs None on = Ok (kept, bs)
 on_piece kept bs (Some p) on = on p.0 p.1
 
--- the pieces of a text behind the bytes that were kept, at most so many
+-- the pieces of a text after the bytes that were kept, at most so many
 abbrev pub pieces_at : ℕ → List ℕ → Awaits → List ℕ → Result (List ℕ × List ℕ) ℕ
 pieces_at zero kept awaits bs = Err (length bs)
 pieces_at (suc most) kept awaits bs =
     piece_at kept awaits bs >>= (λ p. on_piece p.0 bs p.1 (λ awaits rest. pieces_at most p.0 awaits rest))
 
--- a text behind the bytes that were kept, up to its `<`
+-- a text after the bytes that were kept, up to its `<`
 unfoldable pub text_at : List ℕ → List ℕ → Result (List ℕ × List ℕ) ℕ
 text_at kept bs = pieces_at (suc (length bs)) kept Character bs
 
@@ -137,7 +137,7 @@ truth_at bs = do
   rest ← shut_at tag.EndBoolean r.1
   Ok (r.0, rest)
 
--- the declaration behind its `<?xml`
+-- the declaration after its `<?xml`
 abbrev pub prolog_from : Bool → Awaits → List ℕ → Result (List ℕ) ℕ
 prolog_from question awaits [] = Err 0
 prolog_from question awaits (b ∷ bs) =

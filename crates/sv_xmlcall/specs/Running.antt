@@ -5,7 +5,7 @@ use Rattle.sv_xmlcall.specs.declared.tag.Tag.{Tag}
 use Rattle.sv_xmlcall.specs.declared.stop.Stop.{Stop}
 use Rattle.sv_xmlcall.specs.declared.stop.Stop.TheVariants as stop
 
--- the code stops where this verdict is given, after so many values; want of memory is free
+-- the code stops where this verdict is given, after so many values; running out of memory is always allowed
 abbrev pub Halts : Stop → ℕ → Verdict → Type 0
 Halts (stop.At left) count verdict = verdict ≡ unless_many the_limits count (NotRead left)
 Halts stop.TooDeep count verdict = verdict ≡ TooDeep

@@ -19,7 +19,7 @@ abbrev pub simple_run : List ℕ → List ℕ
 simple_run [] = []
 simple_run (b ∷ bs) = if is_simple b then b ∷ simple_run bs else []
 
--- what is behind that run
+-- what is after that run
 abbrev pub behind_run : List ℕ → List ℕ
 behind_run [] = []
 behind_run (b ∷ bs) = if is_simple b then behind_run bs else b ∷ bs
@@ -29,7 +29,7 @@ abbrev pub run_at : Awaits → List ℕ → List ℕ
 run_at Character bs = simple_run bs
 run_at awaits bs = []
 
--- what is behind that run
+-- what is after that run
 abbrev pub behind_at : Awaits → List ℕ → List ℕ
 behind_at Character bs = behind_run bs
 behind_at awaits bs = bs
@@ -43,12 +43,12 @@ abbrev pub wide_run : Awaits → List ℕ → List ℕ
 wide_run awaits [] = []
 wide_run awaits (b ∷ bs) = if is_wide awaits b then b ∷ wide_run (after OfXml awaits b) bs else []
 
--- what is awaited behind that run
+-- what is awaited after that run
 abbrev pub awaits_behind : Awaits → List ℕ → Awaits
 awaits_behind awaits [] = awaits
 awaits_behind awaits (b ∷ bs) = if is_wide awaits b then awaits_behind (after OfXml awaits b) bs else awaits
 
--- what is behind that run
+-- what is after that run
 abbrev pub behind_wide : Awaits → List ℕ → List ℕ
 behind_wide awaits [] = []
 behind_wide awaits (b ∷ bs) = if is_wide awaits b then behind_wide (after OfXml awaits b) bs else b ∷ bs

@@ -92,11 +92,11 @@ pub record Ending : Type 0 where
 abbrev pub IsEnding : Ending → Type 0
 IsEnding ending = IsWhite ending.before × IsWhite ending.inside
 
--- a closing tag right behind a text
+-- a closing tag right after a text
 abbrev pub printed_shut : Tag → List ℕ → List ℕ
 printed_shut t inside = spelling t ++ inside ++ codes ">"
 
--- a closing tag behind white space
+-- a closing tag after white space
 abbrev pub printed_end : Tag → Ending → List ℕ
 printed_end t ending = ending.before ++ printed_shut t ending.inside
 

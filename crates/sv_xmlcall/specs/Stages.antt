@@ -15,8 +15,8 @@ use Rattle.sv_xmlcall.specs.declared.nested.Stage.TheVariants as code_stage
 use Rattle.sv_xmlcall.specs.declared.nested.Turn.{Turn}
 use Rattle.sv_xmlcall.specs.declared.nested.Turn.TheVariants as code_turn
 
--- before a value, behind its `<value>`, behind its form, before the data of an array, before a further value of an
--- array, before a further member of a struct, behind the value of a member
+-- before a value, after its `<value>`, after its form, before the data of an array, before a further value of an
+-- array, before a further member of a struct, after the value of a member
 pub data Standing : Type 0 where
   Before : Standing
   Opened : Standing
@@ -98,13 +98,13 @@ number_at t bs = do
   r ← integer_at t bs
   Ok (On (Formed (integer r.0)), r.1)
 
--- the tags that may stand behind `<value>`
+-- the tags that may stand after `<value>`
 abbrev pub forms : List Tag
 forms =
     tag.I4 ∷ tag.Int ∷ tag.Boolean ∷ tag.String ∷ tag.NoString ∷ tag.Double ∷ tag.DateTime ∷ tag.Base64
     ∷ tag.Struct ∷ tag.NoMembers ∷ tag.Array ∷ tag.EndValue ∷ []
 
--- what is read behind this tag, before which this white space stands
+-- what is read after this tag, before which this white space stands
 abbrev pub form_of : List ℕ → Tag → List ℕ → Result (Turning × List ℕ) ℕ
 form_of white tag.I4 bs = number_at tag.EndI4 bs
 form_of white tag.Int bs = number_at tag.EndInt bs
@@ -119,7 +119,7 @@ form_of white tag.NoMembers bs = Ok (On (Formed (structure no_member)), bs)
 form_of white tag.Array bs = Ok (On Data, bs)
 form_of white t bs = close_at bs >>= (λ rest. Ok (Whole (text white), rest))
 
--- a form, or the closing tag behind this white space
+-- a form, or the closing tag after this white space
 abbrev pub typed_at : List ℕ → List ℕ → Result (Turning × List ℕ) ℕ
 typed_at white bs = do
   r ← tag_at forms bs
@@ -130,46 +130,46 @@ abbrev pub begins_tag : List ℕ → Bool
 begins_tag [] = false
 begins_tag (b ∷ bs) = b == 60
 
--- what is read behind `<value>` and this white space
+-- what is read after `<value>` and this white space
 abbrev pub behind_white : List ℕ → List ℕ → Result (Turning × List ℕ) ℕ
 behind_white white bs = if begins_tag bs then typed_at white bs else bare_at white bs
 
--- what is read behind `<value>`
+-- what is read after `<value>`
 unfoldable pub opened_at : List ℕ → Result (Turning × List ℕ) ℕ
 opened_at bs = behind_white (white_of bs) (skip_white bs)
 
--- the `</value>` behind a form
+-- the `</value>` after a form
 abbrev pub formed_at : Tree → List ℕ → Result (Turning × List ℕ) ℕ
 formed_at value bs = closing_at (tag.EndValue ∷ []) bs >>= (λ rest. Ok (Whole value, rest))
 
--- the `</array>` behind the data
+-- the `</array>` after the data
 abbrev pub array_end_at : Trees → List ℕ → Result (Turning × List ℕ) ℕ
 array_end_at items bs = closing_at (tag.EndArray ∷ []) bs >>= (λ rest. Ok (On (Formed (array items)), rest))
 
--- what is read behind this tag, which opens the data of an array or is `<data/>`
+-- what is read after this tag, which opens the data of an array or is `<data/>`
 abbrev pub data_of : Tag → List ℕ → Result (Turning × List ℕ) ℕ
 data_of tag.Data bs = Ok (On (Items no_tree), bs)
 data_of t bs = array_end_at no_tree bs
 
--- what is read behind `<array>`
+-- what is read after `<array>`
 abbrev pub data_at : List ℕ → Result (Turning × List ℕ) ℕ
 data_at bs = do
   r ← tag_behind (tag.Data ∷ tag.NoData ∷ []) bs
   data_of r.0 r.1
 
--- what is read behind this tag, which opens a further value of an array or closes its data
+-- what is read after this tag, which opens a further value of an array or closes its data
 abbrev pub item_of : Trees → Tag → List ℕ → Result (Turning × List ℕ) ℕ
 item_of items tag.Value bs = Ok (Item items false, bs)
 item_of items tag.NoValue bs = Ok (Item items true, bs)
 item_of items t bs = close_at bs >>= (λ rest. array_end_at items rest)
 
--- what is read in the data of an array behind these values
+-- what is read in the data of an array after these values
 abbrev pub items_at : Trees → List ℕ → Result (Turning × List ℕ) ℕ
 items_at items bs = do
   r ← tag_behind (tag.Value ∷ tag.NoValue ∷ tag.EndData ∷ []) bs
   item_of items r.0 r.1
 
--- what is read behind this tag, which opens a further member of a struct or closes the struct
+-- what is read after this tag, which opens a further member of a struct or closes the struct
 abbrev pub member_of : Members → Tag → List ℕ → Result (Turning × List ℕ) ℕ
 member_of members tag.Member bs = do
   r ← tag_behind (tag.Name ∷ []) bs
@@ -177,13 +177,13 @@ member_of members tag.Member bs = do
   Ok (Named members name.0, name.1)
 member_of members t bs = close_at bs >>= (λ rest. Ok (On (Formed (structure members)), rest))
 
--- what is read in a struct behind these members
+-- what is read in a struct after these members
 abbrev pub members_at : Members → List ℕ → Result (Turning × List ℕ) ℕ
 members_at members bs = do
   r ← tag_behind (tag.Member ∷ tag.EndStruct ∷ []) bs
   member_of members r.0 r.1
 
--- the `</member>` behind the value of a member
+-- the `</member>` after the value of a member
 abbrev pub ended_at : Members → List ℕ → Result (Turning × List ℕ) ℕ
 ended_at members bs = closing_at (tag.EndMember ∷ []) bs >>= (λ rest. Ok (On (Further members), rest))
 

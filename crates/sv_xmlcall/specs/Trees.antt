@@ -16,7 +16,7 @@ mutual
     structure : Members → Tree
     array : Trees → Tree
 
-  -- values, one behind the other
+  -- values, one after the other
   pub data Trees : Type 0 where
     no_tree : Trees
     tree : Tree → Trees → Trees
@@ -36,12 +36,12 @@ pub data Reply : Type 0 where
   Returns : Tree → Reply
   Faults : (number : ℤ) (content : List ℕ) → Reply
 
--- the values of a list, one behind the other
+-- the values of a list, one after the other
 abbrev pub trees_of : List Tree → Trees
 trees_of [] = no_tree
 trees_of (t ∷ ts) = tree t (trees_of ts)
 
--- the members of a list, one behind the other
+-- the members of a list, one after the other
 abbrev pub members_of : List (List ℕ × Tree) → Members
 members_of [] = no_member
 members_of (m ∷ ms) = member m.0 m.1 (members_of ms)

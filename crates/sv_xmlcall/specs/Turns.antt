@@ -20,12 +20,12 @@ stand (Items items) frames count = at (At (AtItems items)) frames count
 stand (Further members) frames count = at (At (AtMembers members)) frames count
 stand (Ended members) frames count = at (At (AtMemberEnd members)) frames count
 
--- the step behind the opening of a value, empty or not, that was counted
+-- the step after the opening of a value, empty or not, that was counted
 abbrev pub opened_of : Bool → List Frame → ℕ → Step
 opened_of false frames count = goes (behind_value []) frames count
 opened_of true frames count = Go (after_value the_limits (text []) frames count)
 
--- the step behind `<value/>` or `<value>`: not deeper than 32, and counted
+-- the step after `<value/>` or `<value>`: not deeper than 32, and counted
 abbrev pub opening_of : Bool → List Frame → ℕ → Step
 opening_of empty frames count = if nat_le (length frames) 32 then opened_of empty frames (counted the_limits count) else Deep
 
@@ -37,7 +37,7 @@ turned (Item items empty) frames count = opening_of empty (InArray items ∷ fra
 turned (Named members name) frames count = goes (At AtValue) (InMember members name ∷ frames) count
 turned (Whole value) frames count = Go (after_value the_limits value frames count)
 
--- the state after a turn: that of a stage, or behind the outermost value, which stands in this
+-- the state after a turn: that of a stage, or after the outermost value, which stands in this
 -- frame
 abbrev pub settled_state : Frame → Settled → List Frame → ℕ → State
 settled_state frame (settled.On stage) frames count = stand (stage_view stage) frames count
@@ -50,7 +50,7 @@ Settles before behind (Err (stop.At left)) = ⊥
 Settles before behind (Err stop.TooDeep) = (frame : Frame) → before frame ≡ Deep
 Settles before behind (Err stop.OutOfMemory) = Unit {0}
 
--- the text comes to what it comes to behind the value that is read in this frame
+-- the text comes to what it comes to after the value that is read in this frame
 abbrev pub ReadsValue : {X : Type 0} → Frame → ℕ → List ℕ → ℕ → (X → Tree) → (X → List ℕ) → Result X Stop → Type 0
 ReadsValue frame before bytes opened tree rest (Ok x) =
     run the_limits (at (At AtValue) (frame ∷ []) before) bytes ≡ run the_limits (after_value the_limits (tree x) (frame ∷ []) opened) (rest x)

@@ -29,10 +29,10 @@ abbrev pub version_text : List ℕ
 version_text =
     codes "<?xml version='1.0'?><methodResponse><params><param><value><string>3.0</string></value></param></params></methodResponse>"
 
--- a front that opens three values, of which the second and the third stand in the first
+-- a prefix that opens three values, of which the second and the third stand in the first
 abbrev pub three_values : List ℕ
 three_values = codes "<param><value><array><data><value/> <value><i4>1</i4></value></data>"
 
--- a front whose only tag of a value stands in the declaration
+-- a prefix whose only tag of a value stands in the declaration
 abbrev pub value_declared : List ℕ
 value_declared = codes " <?xml <value>?><methodCall>"

@@ -3,9 +3,9 @@ ghost use Rattle.std.specs.Prelude.{◌≡◌, ◌<◌, ◌≤◌, ◌∷◌, []
 ghost use Rattle.sv_xmlcall.specs.Atoms.{skip_white, close_at, tag_behind, closing_at};
 ghost use Rattle.sv_xmlcall.specs.Reading.{shut_at};
 ghost use Rattle.sv_xmlcall.specs.Spelled.{is_white};
-ghost use Rattle.sv_xmlcall.specs.Outcome.{Gives};
+ghost use Rattle.sv_xmlcall.specs.Outcome.{GivesAlways};
 
-use crate::stop::Stop;
+use crate::stop::BadByte;
 use crate::tag::{Tag, next_tag};
 
 /// Whether this is white space.
@@ -31,27 +31,27 @@ pub fn skip_white(bytes: &[u8]) -> &[u8]
 }
 
 /// Reads white space and one of these tags.
-pub fn tag_behind<'a>(tags: &[Tag], bytes: &'a [u8]) -> Result<(Tag, &'a [u8]), Stop>
-    ensures value { Gives (λ x. (x.0, x.1.now)) result (tag_behind tags.now bytes.now) }
+pub fn tag_behind<'a>(tags: &[Tag], bytes: &'a [u8]) -> Result<(Tag, &'a [u8]), BadByte>
+    ensures value { GivesAlways (λ x. (x.0, x.1.now)) result (tag_behind tags.now bytes.now) }
     ensures shorter { IfOk result (λ x. length x.1.now < length bytes.now) }
 {
     next_tag(tags, skip_white(bytes))
 }
 
 /// Reads the end of a closing tag.
-pub fn close(bytes: &[u8]) -> Result<&[u8], Stop>
-    ensures value { Gives (λ rest. rest.now) result (close_at bytes.now) }
+pub fn close(bytes: &[u8]) -> Result<&[u8], BadByte>
+    ensures value { GivesAlways (λ rest. rest.now) result (close_at bytes.now) }
     ensures shorter { IfOk result (λ rest. length rest.now < length bytes.now) }
 {
     match skip_white(bytes) {
         [b'>', rest @ ..] => Ok(rest),
-        rest => Err(Stop::At(rest.len())),
+        rest => Err(BadByte(rest.len())),
     }
 }
 
 /// Reads white space and this closing tag.
-pub fn closing<'a>(tag: Tag, bytes: &'a [u8]) -> Result<&'a [u8], Stop>
-    ensures value { Gives (λ rest. rest.now) result (closing_at (tag ∷ []) bytes.now) }
+pub fn closing<'a>(tag: Tag, bytes: &'a [u8]) -> Result<&'a [u8], BadByte>
+    ensures value { GivesAlways (λ rest. rest.now) result (closing_at (tag ∷ []) bytes.now) }
     ensures shorter { IfOk result (λ rest. length rest.now < length bytes.now) }
 {
     let (_, rest) = tag_behind(&[tag], bytes)?;
@@ -60,8 +60,8 @@ pub fn closing<'a>(tag: Tag, bytes: &'a [u8]) -> Result<&'a [u8], Stop>
 
 /// Reads this closing tag.
 #[tactic(auto, unfolding(crate::specs::Reading::shut_at))]
-pub fn shut<'a>(tag: Tag, bytes: &'a [u8]) -> Result<&'a [u8], Stop>
-    ensures value { Gives (λ rest. rest.now) result (shut_at tag bytes.now) }
+pub fn shut<'a>(tag: Tag, bytes: &'a [u8]) -> Result<&'a [u8], BadByte>
+    ensures value { GivesAlways (λ rest. rest.now) result (shut_at tag bytes.now) }
     ensures shorter { IfOk result (λ rest. length rest.now < length bytes.now) }
 {
     let (_, rest) = next_tag(&[tag], bytes)?;

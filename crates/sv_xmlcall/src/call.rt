@@ -19,18 +19,18 @@ pub enum Answered {
     Fault(i64, Text),
 }
 
-/// Why a text is no call, or no reply. The good front of a text is the longest of its fronts with which a text begins that
+/// Why a text is no call, or no reply. The good prefix of a text is the longest of its prefixes with which a text begins that
 /// spells a call, or a reply, in whose fault any value may stand until it is whole. The causes are tried in the order given
 /// here.
 #[derive(Clone, Copy, Debug, PartialEq, Eq, Error)]
 pub enum CallFault {
-    /// The good front opens a value inside 32 others.
+    /// The good prefix opens a value inside 32 others.
     #[error("2 TooDeep")]
     TooDeep,
-    /// The good front opens more than 65,536 values.
+    /// The good prefix opens more than 65,536 values.
     #[error("3 TooManyValues")]
     TooManyValues,
-    /// Nothing is spelled. The number is the length of the good front in bytes.
+    /// Nothing is spelled. The number is the length of the good prefix in bytes.
     #[error("1 NotACall {0}")]
     NotACall(usize),
     /// There was no memory left for the answer.

@@ -6,14 +6,14 @@ ghost use Rattle.std.specs.Option.{option_map};
 ghost use Rattle.sv_xmlcall.specs.declared.letters.Letters.TheVariants.{OfXml};
 ghost use Rattle.sv_xmlcall.specs.declared.letters.Awaits.{Awaits};
 ghost use Rattle.sv_xmlcall.specs.Machine.{is_digit, digit_value};
-ghost use Rattle.sv_xmlcall.specs.Outcome.{Gives};
+ghost use Rattle.sv_xmlcall.specs.Outcome.{Gives, GivesAlways};
 ghost use Rattle.sv_xmlcall.specs.Simple.{run_at, behind_at, wide_run, awaits_behind, behind_wide};
 ghost use Rattle.sv_xmlcall.specs.Reading.{numeral_at, numbered_at, entity_at, piece_at, text_at, content_at, method_at};
 
 use crate::atoms::shut;
 use crate::letters::{Awaits, Letters};
 use crate::simple::push_run;
-use crate::stop::Stop;
+use crate::stop::{BadByte, Stop};
 use crate::tag::{Tag, next_tag};
 use std::alloc::{AllocError, Global};
 use sv_base::text::Text;
@@ -53,8 +53,8 @@ fn digit_value(byte: u8) -> u8
 }
 
 /// Reads the number of an entity and its semicolon, and gives the character.
-fn numeral(hex: bool, bytes: &[u8]) -> Result<(char, &[u8]), Stop>
-    ensures value { Gives (λ x. (x.0, x.1.now)) result (numeral_at hex false 0 bytes.now) }
+fn numeral(hex: bool, bytes: &[u8]) -> Result<(char, &[u8]), BadByte>
+    ensures value { GivesAlways (λ x. (x.0, x.1.now)) result (numeral_at hex false 0 bytes.now) }
     ensures shorter { IfOk result (λ x. length x.1.now < length bytes.now) }
 {
     let mut number: u32 = 0;
@@ -64,7 +64,7 @@ fn numeral(hex: bool, bytes: &[u8]) -> Result<(char, &[u8]), Stop>
         if is_digit(hex, *byte) {
             let more = number * (if hex { 16 } else { 10 }) + u32::from(digit_value(*byte));
             if more > LAST {
-                return Err(Stop::At(rest.len()));
+                return Err(BadByte(rest.len()));
             }
             number = more;
             seen = true;
@@ -72,18 +72,18 @@ fn numeral(hex: bool, bytes: &[u8]) -> Result<(char, &[u8]), Stop>
         } else if *byte == b';' && seen && is_allowed(number) {
             return match char::from_u32(number) {
                 Some(character) => Ok((character, after)),
-                None => Err(Stop::At(rest.len())),
+                None => Err(BadByte(rest.len())),
             };
         } else {
-            return Err(Stop::At(rest.len()));
+            return Err(BadByte(rest.len()));
         }
     }
-    Err(Stop::At(0))
+    Err(BadByte(0))
 }
 
 /// Reads what follows the `&#` of an entity.
-fn numbered(bytes: &[u8]) -> Result<(char, &[u8]), Stop>
-    ensures value { Gives (λ x. (x.0, x.1.now)) result (numbered_at bytes.now) }
+fn numbered(bytes: &[u8]) -> Result<(char, &[u8]), BadByte>
+    ensures value { GivesAlways (λ x. (x.0, x.1.now)) result (numbered_at bytes.now) }
     ensures shorter { IfOk result (λ x. length x.1.now < length bytes.now) }
 {
     match bytes {
@@ -94,8 +94,8 @@ fn numbered(bytes: &[u8]) -> Result<(char, &[u8]), Stop>
 
 /// Reads an entity, and gives its character.
 #[tactic(auto, unfolding(crate::specs::Reading::entity_at))]
-fn entity(bytes: &[u8]) -> Result<(char, &[u8]), Stop>
-    ensures value { Gives (λ x. (x.0, x.1.now)) result (entity_at bytes.now) }
+fn entity(bytes: &[u8]) -> Result<(char, &[u8]), BadByte>
+    ensures value { GivesAlways (λ x. (x.0, x.1.now)) result (entity_at bytes.now) }
     ensures shorter { IfOk result (λ x. length x.1.now < length bytes.now) }
 {
     let (tag, rest) = next_tag(
@@ -150,7 +150,7 @@ fn piece<'a>(
 }
 
 /// Adds the run of simple bytes with which these begin, where a character may come, to those that were kept, and gives
-/// what is behind it.
+/// what is after it.
 fn run<'a>(kept: &mut Vec<u8>, awaits: Awaits, bytes: &'a [u8]) -> Result<&'a [u8], AllocError>
     ensures run { OnOk result (kept.new.items ≡ kept.old.items ++ run_at awaits bytes.now) }
     ensures behind { IfOk result (λ rest. rest.now ≡ behind_at awaits bytes.now) }
@@ -162,7 +162,7 @@ fn run<'a>(kept: &mut Vec<u8>, awaits: Awaits, bytes: &'a [u8]) -> Result<&'a [u
     }
 }
 
-/// What may come behind the bytes of wider characters with which these begin, and what is behind them.
+/// What may come after the bytes of wider characters with which these begin, and what is after them.
 fn behind_wide(awaits: Awaits, bytes: &[u8]) -> (Awaits, &[u8])
     ensures next { result.0 ≡ awaits_behind awaits bytes.now }
     ensures behind { result.1.now ≡ behind_wide awaits bytes.now }
@@ -181,7 +181,7 @@ fn behind_wide(awaits: Awaits, bytes: &[u8]) -> (Awaits, &[u8])
 }
 
 /// Adds the bytes of wider characters with which these begin to those that were kept, and gives what may come then and
-/// what is behind them.
+/// what is after them.
 #[tactic(auto, using(crate::proofs::SimpleLaws::wide_taken))]
 fn wide<'a>(
     kept: &mut Vec<u8>,
@@ -198,7 +198,7 @@ fn wide<'a>(
     Ok((next, rest))
 }
 
-/// Reads characters up to the `<` that ends the text, and gives them behind those that were kept.
+/// Reads characters up to the `<` that ends the text, and gives them after those that were kept.
 #[tactic(auto, using(crate::proofs::SimpleLaws::ran, crate::proofs::SimpleLaws::ran_open, crate::proofs::SimpleLaws::ran_wide, crate::proofs::SimpleLaws::ran_wide_open, crate::proofs::Texts::reaches_begin_at, crate::proofs::Texts::reaches_more, crate::proofs::Texts::reaches_end, crate::proofs::Texts::reaches_bad, crate::proofs::Texts::piece_open, crate::proofs::Texts::whole_utf8))]
 pub fn characters<'a>(alloc: Global, kept: &[u8], bytes: &'a [u8]) -> Result<(Text, &'a [u8]), Stop>
     requires { IsTrue (are_letters OfXml Awaits.Character kept.now) }
@@ -248,7 +248,7 @@ pub fn content(alloc: Global, end: Tag, bytes: &[u8]) -> Result<(Text, &[u8]), S
     Ok((text, rest))
 }
 
-/// Reads the name of a method behind its opening tag, and the closing tag.
+/// Reads the name of a method after its opening tag, and the closing tag.
 #[tactic(auto, unfolding(crate::specs::Reading::method_at))]
 pub fn method_name(alloc: Global, bytes: &[u8]) -> Result<(Text, &[u8]), Stop>
     ensures value { Gives (λ x. (x.0, x.1.now)) result (method_at bytes.now) }

@@ -1,6 +1,6 @@
 //! The outer parts of a call and of a reply.
 ghost use Rattle.std.specs.Prelude.{◌≡◌, ◌<◌, ◌≤◌, false, IfOk, length};
-ghost use Rattle.sv_xmlcall.specs.Outcome.{Gives};
+ghost use Rattle.sv_xmlcall.specs.Outcome.{Gives, GivesAlways};
 ghost use Rattle.sv_xmlcall.specs.Reading.{prolog_from};
 ghost use Rattle.sv_xmlcall.specs.Documents.{declared_at, document_of, document_at, head_at, begun_of, begun_at, param_of, param_at, answer_of, answer_at, param_end_at, fault_end_at};
 ghost use Rattle.sv_xmlcall.specs.declared.letters.Awaits.{Awaits};
@@ -8,14 +8,14 @@ ghost use Rattle.sv_xmlcall.specs.declared.letters.Awaits.{Awaits};
 use crate::atoms::{close, closing, tag_behind};
 use crate::content::method_name;
 use crate::letters::{Awaits, Letters};
-use crate::stop::Stop;
+use crate::stop::{BadByte, Stop};
 use crate::tag::Tag;
 use std::alloc::Global;
 use sv_base::text::Text;
 
-/// Reads the declaration behind its `<?xml`.
-fn prolog(bytes: &[u8]) -> Result<&[u8], Stop>
-    ensures { Gives (λ rest. rest.now) result (prolog_from false Awaits.Character bytes.now) }
+/// Reads the declaration after its `<?xml`.
+fn prolog(bytes: &[u8]) -> Result<&[u8], BadByte>
+    ensures { GivesAlways (λ rest. rest.now) result (prolog_from false Awaits.Character bytes.now) }
 {
     let mut question = false;
     let mut awaits = Awaits::Character;
@@ -25,17 +25,17 @@ fn prolog(bytes: &[u8]) -> Result<&[u8], Stop>
             return Ok(after);
         }
         if !awaits.allows(Letters::Any, *byte) {
-            return Err(Stop::At(rest.len()));
+            return Err(BadByte(rest.len()));
         }
         question = *byte == b'?';
         awaits = awaits.after(Letters::Any, *byte);
         rest = after;
     }
-    Err(Stop::At(0))
+    Err(BadByte(0))
 }
 
-fn declared(begin: Tag, bytes: &[u8]) -> Result<&[u8], Stop>
-    ensures { Gives (λ rest. rest.now) result (declared_at begin bytes.now) }
+fn declared(begin: Tag, bytes: &[u8]) -> Result<&[u8], BadByte>
+    ensures { GivesAlways (λ rest. rest.now) result (declared_at begin bytes.now) }
 {
     let rest = prolog(bytes)?;
     let (_, rest) = tag_behind(&[begin], rest)?;
@@ -44,8 +44,8 @@ fn declared(begin: Tag, bytes: &[u8]) -> Result<&[u8], Stop>
 
 /// Reads what stands before the outermost element, and its opening tag.
 #[tactic(auto, unfolding(crate::specs::Documents::document_at))]
-fn document(begin: Tag, bytes: &[u8]) -> Result<&[u8], Stop>
-    ensures { Gives (λ rest. rest.now) result (document_at begin bytes.now) }
+fn document(begin: Tag, bytes: &[u8]) -> Result<&[u8], BadByte>
+    ensures { GivesAlways (λ rest. rest.now) result (document_at begin bytes.now) }
 {
     let (tag, rest) = tag_behind(&[Tag::Declaration, begin], bytes)?;
     match tag {
@@ -66,8 +66,8 @@ pub fn head(alloc: Global, bytes: &[u8]) -> Result<(Text, &[u8]), Stop>
 
 /// Reads what follows the name of a call: whether params may come, or else the end of the call.
 #[tactic(auto, unfolding(crate::specs::Documents::begun_at))]
-pub fn begun(bytes: &[u8]) -> Result<(bool, &[u8]), Stop>
-    ensures { Gives (λ x. (x.0, x.1.now)) result (begun_at bytes.now) }
+pub fn begun(bytes: &[u8]) -> Result<(bool, &[u8]), BadByte>
+    ensures { GivesAlways (λ x. (x.0, x.1.now)) result (begun_at bytes.now) }
 {
     let (tag, rest) = tag_behind(&[Tag::Params, Tag::NoParams, Tag::EndMethodCall], bytes)?;
     match tag {
@@ -85,8 +85,8 @@ pub fn begun(bytes: &[u8]) -> Result<(bool, &[u8]), Stop>
 
 /// Reads whether one more param comes, or else the end of the call.
 #[tactic(auto, unfolding(crate::specs::Documents::param_at))]
-pub fn param(bytes: &[u8]) -> Result<(bool, &[u8]), Stop>
-    ensures value { Gives (λ x. (x.0, x.1.now)) result (param_at bytes.now) }
+pub fn param(bytes: &[u8]) -> Result<(bool, &[u8]), BadByte>
+    ensures value { GivesAlways (λ x. (x.0, x.1.now)) result (param_at bytes.now) }
     ensures shorter { IfOk result (λ x. length x.1.now < length bytes.now) }
 {
     let (tag, rest) = tag_behind(&[Tag::Param, Tag::EndParams], bytes)?;
@@ -102,8 +102,8 @@ pub fn param(bytes: &[u8]) -> Result<(bool, &[u8]), Stop>
 
 /// Reads a reply up to its value: whether it is that of a method, or a fault.
 #[tactic(auto, unfolding(crate::specs::Documents::answer_at))]
-pub fn answer(bytes: &[u8]) -> Result<(bool, &[u8]), Stop>
-    ensures { Gives (λ x. (x.0, x.1.now)) result (answer_at bytes.now) }
+pub fn answer(bytes: &[u8]) -> Result<(bool, &[u8]), BadByte>
+    ensures { GivesAlways (λ x. (x.0, x.1.now)) result (answer_at bytes.now) }
 {
     let rest = document(Tag::MethodResponse, bytes)?;
     let (tag, rest) = tag_behind(&[Tag::Params, Tag::Fault], rest)?;
@@ -118,8 +118,8 @@ pub fn answer(bytes: &[u8]) -> Result<(bool, &[u8]), Stop>
 
 /// Reads what follows the value of a method's reply.
 #[tactic(auto, unfolding(crate::specs::Documents::param_end_at))]
-pub fn param_end(bytes: &[u8]) -> Result<&[u8], Stop>
-    ensures { Gives (λ rest. rest.now) result (param_end_at bytes.now) }
+pub fn param_end(bytes: &[u8]) -> Result<&[u8], BadByte>
+    ensures { GivesAlways (λ rest. rest.now) result (param_end_at bytes.now) }
 {
     let rest = closing(Tag::EndParam, bytes)?;
     let rest = closing(Tag::EndParams, rest)?;
@@ -128,8 +128,8 @@ pub fn param_end(bytes: &[u8]) -> Result<&[u8], Stop>
 
 /// Reads what follows the value of a fault.
 #[tactic(auto, unfolding(crate::specs::Documents::fault_end_at))]
-pub fn fault_end(bytes: &[u8]) -> Result<&[u8], Stop>
-    ensures { Gives (λ rest. rest.now) result (fault_end_at bytes.now) }
+pub fn fault_end(bytes: &[u8]) -> Result<&[u8], BadByte>
+    ensures { GivesAlways (λ rest. rest.now) result (fault_end_at bytes.now) }
 {
     let rest = closing(Tag::EndFault, bytes)?;
     closing(Tag::EndMethodResponse, rest)

@@ -2,11 +2,11 @@
 ghost use Rattle.std.specs.Prelude.{◌≡◌, ◌<◌, ◌≤◌, length, false, IfOk};
 ghost use Rattle.sv_xmlcall.specs.Machine.{most_of};
 ghost use Rattle.sv_xmlcall.specs.Spelled.{signed};
-ghost use Rattle.sv_xmlcall.specs.Outcome.{Gives};
+ghost use Rattle.sv_xmlcall.specs.Outcome.{GivesAlways};
 ghost use Rattle.sv_xmlcall.specs.Reading.{size_from, size_at, integer_at, digit_at, truth_at};
 
 use crate::atoms::shut;
-use crate::stop::Stop;
+use crate::stop::BadByte;
 use crate::tag::Tag;
 
 /// The greatest size of an integer of 64 bits with this sign.
@@ -35,8 +35,8 @@ fn signed(negative: bool, size: u64) -> i64
 }
 
 /// Reads digits, of which there is at least one.
-fn size(negative: bool, bytes: &[u8]) -> Result<(u64, &[u8]), Stop>
-    ensures value { Gives (λ x. (x.0, x.1.now)) result (size_from negative false 0 bytes.now) }
+fn size(negative: bool, bytes: &[u8]) -> Result<(u64, &[u8]), BadByte>
+    ensures value { GivesAlways (λ x. (x.0, x.1.now)) result (size_from negative false 0 bytes.now) }
     ensures bound { IfOk result (λ x. x.0 ≤ most_of negative) }
     ensures shorter { IfOk result (λ x. length x.1.now ≤ length bytes.now) }
 {
@@ -48,23 +48,23 @@ fn size(negative: bool, bytes: &[u8]) -> Result<(u64, &[u8]), Stop>
             return if seen {
                 Ok((number, rest))
             } else {
-                Err(Stop::At(rest.len()))
+                Err(BadByte(rest.len()))
             };
         }
         let more = u128::from(number) * 10 + u128::from(*byte - b'0');
         if more > u128::from(most_of(negative)) {
-            return Err(Stop::At(rest.len()));
+            return Err(BadByte(rest.len()));
         }
         number = more as u64;
         seen = true;
         rest = after;
     }
-    Err(Stop::At(0))
+    Err(BadByte(0))
 }
 
 /// Reads an optional sign and digits.
-fn sized(bytes: &[u8]) -> Result<(bool, u64, &[u8]), Stop>
-    ensures value { Gives (λ x. (x.0, (x.1, x.2.now))) result (size_at bytes.now) }
+fn sized(bytes: &[u8]) -> Result<(bool, u64, &[u8]), BadByte>
+    ensures value { GivesAlways (λ x. (x.0, (x.1, x.2.now))) result (size_at bytes.now) }
     ensures bound { IfOk result (λ x. x.1 ≤ most_of x.0) }
     ensures shorter { IfOk result (λ x. length x.2.now ≤ length bytes.now) }
 {
@@ -86,8 +86,8 @@ fn sized(bytes: &[u8]) -> Result<(bool, u64, &[u8]), Stop>
 
 /// Reads an optional sign and digits, and the closing tag.
 #[tactic(auto, unfolding(crate::specs::Reading::integer_at))]
-pub fn integer(end: Tag, bytes: &[u8]) -> Result<(i64, &[u8]), Stop>
-    ensures value { Gives (λ x. (x.0, x.1.now)) result (integer_at end bytes.now) }
+pub fn integer(end: Tag, bytes: &[u8]) -> Result<(i64, &[u8]), BadByte>
+    ensures value { GivesAlways (λ x. (x.0, x.1.now)) result (integer_at end bytes.now) }
     ensures shorter { IfOk result (λ x. length x.1.now < length bytes.now) }
 {
     let (negative, size, rest) = sized(bytes)?;
@@ -95,21 +95,21 @@ pub fn integer(end: Tag, bytes: &[u8]) -> Result<(i64, &[u8]), Stop>
     Ok((signed(negative, size), rest))
 }
 
-fn digit(bytes: &[u8]) -> Result<(bool, &[u8]), Stop>
-    ensures value { Gives (λ x. (x.0, x.1.now)) result (digit_at bytes.now) }
+fn digit(bytes: &[u8]) -> Result<(bool, &[u8]), BadByte>
+    ensures value { GivesAlways (λ x. (x.0, x.1.now)) result (digit_at bytes.now) }
     ensures shorter { IfOk result (λ x. length x.1.now < length bytes.now) }
 {
     match bytes {
         [b'0', rest @ ..] => Ok((false, rest)),
         [b'1', rest @ ..] => Ok((true, rest)),
-        _ => Err(Stop::At(bytes.len())),
+        _ => Err(BadByte(bytes.len())),
     }
 }
 
 /// Reads `0` or `1`, and the closing tag.
 #[tactic(auto, unfolding(crate::specs::Reading::truth_at))]
-pub fn truth(bytes: &[u8]) -> Result<(bool, &[u8]), Stop>
-    ensures value { Gives (λ x. (x.0, x.1.now)) result (truth_at bytes.now) }
+pub fn truth(bytes: &[u8]) -> Result<(bool, &[u8]), BadByte>
+    ensures value { GivesAlways (λ x. (x.0, x.1.now)) result (truth_at bytes.now) }
     ensures shorter { IfOk result (λ x. length x.1.now < length bytes.now) }
 {
     let (truth, rest) = digit(bytes)?;

@@ -20,7 +20,7 @@ pub fn no_text_spells_two()
         → one ≡ two }
 {}
 
-/// A law: bytes have one good front as a call, and one as a reply.
+/// A law: bytes have one good prefix as a call, and one as a reply.
 pub fn one_good_front()
     ensures calls { (bytes one two : List ℕ) → IsLongest BeginsCall bytes one
         → IsLongest BeginsCall bytes two → one ≡ two }
@@ -57,7 +57,7 @@ pub fn written_texts_are_read()
 {}
 
 /// A law: three texts that spell one call, the reply to it as it is written, which call and which reply texts are, and that
-/// with letters behind it a call is none, the place at which they are refused, and what two fronts open.
+/// with letters after it a call is none, the place at which they are refused, and what two prefixes open.
 pub fn worked_texts()
     ensures plain { SpellsCall plain_call version_call }
     ensures declared { SpellsCall declared_call version_call }

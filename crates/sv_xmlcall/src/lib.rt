@@ -1,5 +1,5 @@
 //! The texts of XML-RPC, read and written: `specs/Spells.antt` and `specs/SpelledTexts.antt` say which texts spell a call
-//! or a reply; `specs/Judged.antt` says how a text is refused, by the longest front with which such a text begins
+//! or a reply; `specs/Judged.antt` says how a text is refused, by the longest prefix with which such a text begins
 //! (`specs/Beginnings.antt`) and by the values that this opens (`specs/Openings.antt`); `specs/Written.antt` says which one
 //! text is written for a call or a reply. Nesting and the number of values are bounded while a text is read, before
 //! anything is built beyond them.

@@ -4,7 +4,7 @@ ghost use Rattle.sv_xmlcall.specs.Characters.{are_letters};
 ghost use Rattle.sv_xmlcall.specs.declared.letters.Letters.TheVariants.{OfXml};
 ghost use Rattle.sv_xmlcall.specs.declared.letters.Awaits.{Awaits};
 ghost use Rattle.sv_xmlcall.specs.Trees.{view, trees_view, members_view};
-ghost use Rattle.sv_xmlcall.specs.Outcome.{Gives};
+ghost use Rattle.sv_xmlcall.specs.Outcome.{Gives, GivesAlways};
 ghost use Rattle.sv_xmlcall.specs.Atoms.{skip_white};
 ghost use Rattle.sv_xmlcall.specs.Machine.{Frame, Go, the_limits, kept, kept_member, after_value, counted};
 ghost use Rattle.sv_xmlcall.specs.Turns.{Settles, opening_of, opened_of, turned, settled_state, ReadsValue};
@@ -13,7 +13,7 @@ ghost use Rattle.sv_xmlcall.specs.Stages.{turn_view, stage_view, held_view, fram
 use crate::atoms::{close, closing, is_white, shut, skip_white, tag_behind};
 use crate::content::{characters, content, text_of};
 use crate::integer::{integer, truth};
-use crate::stop::Stop;
+use crate::stop::{BadByte, Stop};
 use crate::tag::{Tag, next_tag};
 use crate::value::Value;
 use std::alloc::{AllocError, Global};
@@ -33,8 +33,8 @@ pub enum Held {
     Member(Vec<(Text, Value)>, Text),
 }
 
-/// Where a value is read: before it, behind its `<value>`, behind its form, before the data of an array, before a
-/// further value of an array, before a further member of a struct, behind the value of a member.
+/// Where a value is read: before it, after its `<value>`, after its form, before the data of an array, before a
+/// further value of an array, before a further member of a struct, after the value of a member.
 #[derive(Drop)]
 pub enum Stage {
     Before,
@@ -144,7 +144,7 @@ fn open(empty: bool, stack: &mut Vec<Held>, opened: u32) -> Result<Settled, Stop
     }
 }
 
-/// Goes on behind a whole value.
+/// Goes on after a whole value.
 #[inline(always)]
 fn whole(value: Value, stack: &mut Vec<Held>, opened: u32) -> Result<Settled, Stop>
     ensures { Settles
@@ -221,18 +221,18 @@ fn read_stage(alloc: Global, stage: Stage, bytes: &[u8]) -> Result<(Turn, &[u8])
     ensures shorter { IfOk result (λ x. length x.1.now < length bytes.now) }
 {
     match stage {
-        Stage::Before => before(bytes),
+        Stage::Before => Ok(before(bytes)?),
         Stage::Opened => opened(alloc, bytes),
-        Stage::Formed(value) => formed(value, bytes),
+        Stage::Formed(value) => Ok(formed(value, bytes)?),
         Stage::Data => data(alloc, bytes),
-        Stage::Items(items) => further_item(items, bytes),
+        Stage::Items(items) => Ok(further_item(items, bytes)?),
         Stage::Further(members) => further_member(alloc, members, bytes),
-        Stage::Ended(members) => ended(members, bytes),
+        Stage::Ended(members) => Ok(ended(members, bytes)?),
     }
 }
 
-fn before(bytes: &[u8]) -> Result<(Turn, &[u8]), Stop>
-    ensures value { Gives (λ x. (turn_view x.0, x.1.now)) result (before_at bytes.now) }
+fn before(bytes: &[u8]) -> Result<(Turn, &[u8]), BadByte>
+    ensures value { GivesAlways (λ x. (turn_view x.0, x.1.now)) result (before_at bytes.now) }
     ensures shorter { IfOk result (λ x. length x.1.now < length bytes.now) }
 {
     let (tag, rest) = tag_behind(&[Tag::Value, Tag::NoValue], bytes)?;
@@ -242,8 +242,8 @@ fn before(bytes: &[u8]) -> Result<(Turn, &[u8]), Stop>
     }
 }
 
-fn formed(value: Value, bytes: &[u8]) -> Result<(Turn, &[u8]), Stop>
-    ensures value { Gives (λ x. (turn_view x.0, x.1.now)) result
+fn formed(value: Value, bytes: &[u8]) -> Result<(Turn, &[u8]), BadByte>
+    ensures value { GivesAlways (λ x. (turn_view x.0, x.1.now)) result
         (formed_at (view value) bytes.now) }
     ensures shorter { IfOk result (λ x. length x.1.now < length bytes.now) }
 {
@@ -251,8 +251,8 @@ fn formed(value: Value, bytes: &[u8]) -> Result<(Turn, &[u8]), Stop>
     Ok((Turn::Whole(value), rest))
 }
 
-fn array_end(items: Vec<Value>, bytes: &[u8]) -> Result<(Turn, &[u8]), Stop>
-    ensures value { Gives (λ x. (turn_view x.0, x.1.now)) result
+fn array_end(items: Vec<Value>, bytes: &[u8]) -> Result<(Turn, &[u8]), BadByte>
+    ensures value { GivesAlways (λ x. (turn_view x.0, x.1.now)) result
         (array_end_at (trees_view items.items) bytes.now) }
     ensures shorter { IfOk result (λ x. length x.1.now < length bytes.now) }
 {
@@ -267,12 +267,12 @@ fn data(alloc: Global, bytes: &[u8]) -> Result<(Turn, &[u8]), Stop>
     let (tag, rest) = tag_behind(&[Tag::Data, Tag::NoData], bytes)?;
     match tag {
         Tag::Data => Ok((Turn::On(Stage::Items(Vec::new(alloc))), rest)),
-        _ => array_end(Vec::new(alloc), rest),
+        _ => Ok(array_end(Vec::new(alloc), rest)?),
     }
 }
 
-fn further_item(items: Vec<Value>, bytes: &[u8]) -> Result<(Turn, &[u8]), Stop>
-    ensures value { Gives (λ x. (turn_view x.0, x.1.now)) result
+fn further_item(items: Vec<Value>, bytes: &[u8]) -> Result<(Turn, &[u8]), BadByte>
+    ensures value { GivesAlways (λ x. (turn_view x.0, x.1.now)) result
         (items_at (trees_view items.items) bytes.now) }
     ensures shorter { IfOk result (λ x. length x.1.now < length bytes.now) }
 {
@@ -310,8 +310,8 @@ fn further_member(
     }
 }
 
-fn ended(members: Vec<(Text, Value)>, bytes: &[u8]) -> Result<(Turn, &[u8]), Stop>
-    ensures value { Gives (λ x. (turn_view x.0, x.1.now)) result
+fn ended(members: Vec<(Text, Value)>, bytes: &[u8]) -> Result<(Turn, &[u8]), BadByte>
+    ensures value { GivesAlways (λ x. (turn_view x.0, x.1.now)) result
         (ended_at (members_view members.items) bytes.now) }
     ensures shorter { IfOk result (λ x. length x.1.now < length bytes.now) }
 {
@@ -335,7 +335,7 @@ fn white_text(alloc: Global, bytes: &[u8]) -> Result<Vec<u8>, AllocError>
     Ok(white)
 }
 
-/// Reads what stands behind `<value>`: a bare text, or a form.
+/// Reads what stands after `<value>`: a bare text, or a form.
 #[tactic(auto, using(crate::proofs::Texts::white_letters, crate::proofs::StageLaws::opened_gives))]
 fn opened(alloc: Global, bytes: &[u8]) -> Result<(Turn, &[u8]), Stop>
     ensures value { Gives (λ x. (turn_view x.0, x.1.now)) result (opened_at bytes.now) }
@@ -368,7 +368,7 @@ fn begins_tag(bytes: &[u8]) -> bool
     }
 }
 
-/// Reads a bare text behind its white space.
+/// Reads a bare text after its white space.
 fn bare(alloc: Global, white: Vec<u8>, bytes: &[u8]) -> Result<(Turn, &[u8]), Stop>
     requires { IsTrue (are_letters OfXml Awaits.Character white.items) }
     ensures value { Gives (λ x. (turn_view x.0, x.1.now)) result (bare_at white.items bytes.now) }
@@ -380,8 +380,8 @@ fn bare(alloc: Global, white: Vec<u8>, bytes: &[u8]) -> Result<(Turn, &[u8]), St
 }
 
 #[inline(always)]
-fn number(end: Tag, bytes: &[u8]) -> Result<(Turn, &[u8]), Stop>
-    ensures value { Gives (λ x. (turn_view x.0, x.1.now)) result (number_at end bytes.now) }
+fn number(end: Tag, bytes: &[u8]) -> Result<(Turn, &[u8]), BadByte>
+    ensures value { GivesAlways (λ x. (turn_view x.0, x.1.now)) result (number_at end bytes.now) }
     ensures shorter { IfOk result (λ x. length x.1.now < length bytes.now) }
 {
     let (number, rest) = integer(end, bytes)?;
@@ -415,7 +415,7 @@ fn typed(alloc: Global, white: Vec<u8>, bytes: &[u8]) -> Result<(Turn, &[u8]), S
     form(alloc, white, tag, rest)
 }
 
-/// Reads the form of this tag, or the end of a closing tag behind this white space.
+/// Reads the form of this tag, or the end of a closing tag after this white space.
 #[tactic(auto, using(crate::proofs::LetterLaws::letters_utf8))]
 fn form(alloc: Global, white: Vec<u8>, tag: Tag, bytes: &[u8]) -> Result<(Turn, &[u8]), Stop>
     requires { IsTrue (are_letters OfXml Awaits.Character white.items) }
@@ -424,8 +424,8 @@ fn form(alloc: Global, white: Vec<u8>, tag: Tag, bytes: &[u8]) -> Result<(Turn, 
     ensures shorter { IfOk result (λ x. length x.1.now ≤ length bytes.now) }
 {
     match tag {
-        Tag::I4 => number(Tag::EndI4, bytes),
-        Tag::Int => number(Tag::EndInt, bytes),
+        Tag::I4 => Ok(number(Tag::EndI4, bytes)?),
+        Tag::Int => Ok(number(Tag::EndInt, bytes)?),
         Tag::Boolean => {
             let (truth, rest) = truth(bytes)?;
             Ok((Turn::On(Stage::Formed(Value::Truth(truth))), rest))

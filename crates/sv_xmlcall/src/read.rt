@@ -9,7 +9,7 @@ ghost use Rattle.sv_xmlcall.specs.Judged.{Judges};
 ghost use Rattle.sv_xmlcall.specs.Called.{called, replied, AnswersCalled, AnswersReplied};
 ghost use Rattle.sv_xmlcall.specs.Spelled.{ACall, AReply, fault_of, two_of, named_fault};
 ghost use Rattle.std.specs.Str.{bytes_eq};
-ghost use Rattle.sv_xmlcall.specs.Outcome.{Gives};
+ghost use Rattle.sv_xmlcall.specs.Outcome.{GivesAlways};
 ghost use Rattle.sv_xmlcall.specs.Machine.{OfCall, OfReply, start, run, the_limits, InReply, InFault, At, AtCalled, AtValue, at};
 ghost use Rattle.sv_xmlcall.specs.Documents.{Comes, end_at, value_end_at, faulty_at};
 ghost use Rattle.sv_xmlcall.specs.Answers.{ReadsParams, ReadsFurther, ReadsOne, faulted};
@@ -18,14 +18,14 @@ use crate::atoms::{closing, skip_white};
 use crate::call::{Answered, Call, CallFault};
 use crate::document::{answer, begun, fault_end, head, param, param_end};
 use crate::nested::{VALUES, kept, value};
-use crate::stop::Stop;
+use crate::stop::{BadByte, Stop};
 use crate::tag::Tag;
 use crate::value::Value;
 use std::alloc::{AllocError, Global};
 use sv_base::text::Text;
 
 /// The call that these bytes spell (the XML-RPC specification, its chapter on requests). Bytes that spell none, or whose
-/// values are too many or stand too deep, are refused by their good front, the longest one that begins a spelled call:
+/// values are too many or stand too deep, are refused by their good prefix, the longest one that begins a spelled call:
 /// [`CallFault`]. Memory is linear in the bytes.
 #[tactic(auto, using(crate::proofs::DocumentLaws::fault_is))]
 pub fn read_call(alloc: Global, bytes: &[u8]) -> Result<Call, CallFault>
@@ -43,7 +43,7 @@ pub fn read_call(alloc: Global, bytes: &[u8]) -> Result<Call, CallFault>
 }
 
 /// The reply that these bytes spell (the XML-RPC specification, its chapter on responses). Bytes are refused as by
-/// [`read_call`], by the longest front that begins a reply, in whose fault any value may stand until it is whole.
+/// [`read_call`], by the longest prefix that begins a reply, in whose fault any value may stand until it is whole.
 #[tactic(auto, using(crate::proofs::DocumentLaws::fault_is))]
 pub fn read_reply(alloc: Global, bytes: &[u8]) -> Result<Answered, CallFault>
     ensures found { IfOk result (λ answered. SpellsReply bytes.now (reply_view answered)) }
@@ -83,7 +83,7 @@ fn call(alloc: Global, opened: &mut u32, bytes: &[u8]) -> Result<Call, Stop>
     }
 }
 
-/// Reads a call behind its method's name.
+/// Reads a call after its method's name.
 fn call_of(alloc: Global, opened: &mut u32, method: Text, bytes: &[u8]) -> Result<Call, Stop>
     ensures { Comes (run the_limits (at (At (AtCalled method)) [] opened.old) bytes.now) opened.new
         (λ call. ACall (call_view call)) result }
@@ -91,7 +91,7 @@ fn call_of(alloc: Global, opened: &mut u32, method: Text, bytes: &[u8]) -> Resul
     match params(alloc, opened, bytes) {
         Ok((params, rest)) => match end(rest) {
             Ok(()) => Ok(Call { method, params }),
-            Err(stop) => Err(stop),
+            Err(bad) => Err(Stop::At(bad.0)),
         },
         Err(stop) => Err(stop),
     }
@@ -109,7 +109,7 @@ fn params<'a>(
     match begun(bytes) {
         Ok((true, rest)) => further_params(alloc, opened, rest),
         Ok((false, rest)) => Ok((Vec::new(alloc), rest)),
-        Err(stop) => Err(stop),
+        Err(bad) => Err(Stop::At(bad.0)),
     }
 }
 
@@ -133,12 +133,12 @@ fn further_params<'a>(
                 Err(stop) => return Err(stop),
             },
             Ok((false, behind)) => return Ok((params, behind)),
-            Err(stop) => return Err(stop),
+            Err(bad) => return Err(Stop::At(bad.0)),
         }
     }
 }
 
-/// Reads a further param behind its opening tag.
+/// Reads a further param after its opening tag.
 fn one_param<'a>(
     alloc: Global,
     opened: &mut u32,
@@ -156,13 +156,13 @@ fn one_param<'a>(
                 Ok(more) => Ok((more, behind)),
                 Err(_) => Err(Stop::OutOfMemory),
             },
-            Err(stop) => Err(stop),
+            Err(bad) => Err(Stop::At(bad.0)),
         },
         Err(stop) => Err(stop),
     }
 }
 
-#[tactic(auto, using(crate::proofs::DocumentLaws::answer_halts, crate::proofs::DocumentLaws::answer_value, crate::proofs::DocumentLaws::answer_fault))]
+#[tactic(auto, using(crate::proofs::DocumentLaws::answer_value, crate::proofs::DocumentLaws::answer_fault))]
 fn reply(alloc: Global, opened: &mut u32, bytes: &[u8]) -> Result<Answered, Stop>
     requires { opened.old ≡ 0 }
     ensures { Comes (run the_limits (start OfReply) bytes.now) opened.new
@@ -171,7 +171,7 @@ fn reply(alloc: Global, opened: &mut u32, bytes: &[u8]) -> Result<Answered, Stop
     match answer(bytes) {
         Ok((true, rest)) => value_reply(alloc, opened, rest),
         Ok((false, rest)) => fault_reply(alloc, opened, rest),
-        Err(stop) => Err(stop),
+        Err(bad) => Err(Stop::At(bad.0)),
     }
 }
 
@@ -183,14 +183,14 @@ fn value_reply(alloc: Global, opened: &mut u32, bytes: &[u8]) -> Result<Answered
     match value(alloc, opened, bytes) {
         Ok((one, rest)) => match value_end(rest) {
             Ok(()) => Ok(Answered::Value(one)),
-            Err(stop) => Err(stop),
+            Err(bad) => Err(Stop::At(bad.0)),
         },
         Err(stop) => Err(stop),
     }
 }
 
-fn value_end(bytes: &[u8]) -> Result<(), Stop>
-    ensures { Gives (λ x. x) result (value_end_at bytes.now) }
+fn value_end(bytes: &[u8]) -> Result<(), BadByte>
+    ensures { GivesAlways (λ x. x) result (value_end_at bytes.now) }
 {
     let rest = param_end(bytes)?;
     end(rest)
@@ -203,7 +203,10 @@ fn fault_reply(alloc: Global, opened: &mut u32, bytes: &[u8]) -> Result<Answered
 {
     match value(alloc, opened, bytes) {
         Ok((one, rest)) => match fault_of(&one) {
-            Ok(answered) => faulty(answered, rest),
+            Ok(answered) => match faulty(answered, rest) {
+                Ok(answered) => Ok(answered),
+                Err(bad) => Err(Stop::At(bad.0)),
+            },
             Err(_) => Err(Stop::OutOfMemory),
         },
         Err(stop) => Err(stop),
@@ -211,8 +214,8 @@ fn fault_reply(alloc: Global, opened: &mut u32, bytes: &[u8]) -> Result<Answered
 }
 
 /// Reads what follows the value of a fault, which is none unless it is that of a fault.
-fn faulty(answered: Option<Answered>, bytes: &[u8]) -> Result<Answered, Stop>
-    ensures { Gives reply_view result (faulty_at (option_map reply_view answered) bytes.now) }
+fn faulty(answered: Option<Answered>, bytes: &[u8]) -> Result<Answered, BadByte>
+    ensures { GivesAlways reply_view result (faulty_at (option_map reply_view answered) bytes.now) }
 {
     match answered {
         Some(answered) => {
@@ -220,7 +223,7 @@ fn faulty(answered: Option<Answered>, bytes: &[u8]) -> Result<Answered, Stop>
             end(rest)?;
             Ok(answered)
         }
-        None => Err(Stop::At(bytes.len())),
+        None => Err(BadByte(bytes.len())),
     }
 }
 
@@ -284,11 +287,11 @@ fn named(
 }
 
 /// The text ends here, but for white space.
-fn end(bytes: &[u8]) -> Result<(), Stop>
-    ensures { Gives (λ x. x) result (end_at bytes.now) }
+fn end(bytes: &[u8]) -> Result<(), BadByte>
+    ensures { GivesAlways (λ x. x) result (end_at bytes.now) }
 {
     match skip_white(bytes) {
         [] => Ok(()),
-        rest => Err(Stop::At(rest.len())),
+        rest => Err(BadByte(rest.len())),
     }
 }

@@ -34,7 +34,7 @@ fn room_of_text(text: &Text) -> usize {
     text.as_str().len().saturating_mul(ENTITY)
 }
 
-/// The most bytes of a value, behind so many of what stands before it.
+/// The most bytes of a value, after so many of what stands before it.
 fn room_behind(value: &Value, before: usize) -> usize {
     let mut room = before.saturating_add(TAGS);
     match value {

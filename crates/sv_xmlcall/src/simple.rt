@@ -28,7 +28,7 @@ fn are_simple(bytes: &[u8]) -> bool
     all
 }
 
-/// What is behind the blocks of simple bytes, each of this size, with which these begin.
+/// What is after the blocks of simple bytes, each of this size, with which these begin.
 #[inline(always)]
 fn behind_blocks(size: usize, bytes: &[u8]) -> &[u8]
     requires { 0 < size }
@@ -55,13 +55,13 @@ fn begins_run(bytes: &[u8]) -> bool
     }
 }
 
-/// What is behind the run of simple bytes with which these begin.
+/// What is after the run of simple bytes with which these begin.
 #[tactic(auto, using(crate::proofs::SimpleLaws::no_run))]
 fn behind_run(bytes: &[u8]) -> &[u8]
     ensures value { result.now ≡ behind_run bytes.now }
     ensures shorter { length result.now ≤ length bytes.now }
 {
-    // Where other bytes stand one behind the other, no block is tested at each of them.
+    // Where other bytes stand one after the other, no block is tested at each of them.
     if !begins_run(bytes) {
         return bytes;
     }
@@ -75,7 +75,7 @@ fn behind_run(bytes: &[u8]) -> &[u8]
     rest
 }
 
-/// Adds the run of simple bytes with which these begin, and gives what is behind it.
+/// Adds the run of simple bytes with which these begin, and gives what is after it.
 #[tactic(auto, using(crate::proofs::SimpleLaws::run_taken))]
 pub fn push_run<'a>(out: &mut Vec<u8>, bytes: &'a [u8]) -> Result<&'a [u8], AllocError>
     ensures run { OnOk result (out.new.items ≡ out.old.items ++ simple_run bytes.now) }

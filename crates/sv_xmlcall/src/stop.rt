@@ -1,8 +1,14 @@
 //! Why reading stopped.
 ghost use Rattle.std.specs.Prelude.{◌≡◌};
+ghost use Rattle.sv_xmlcall.specs.declared.stop.BadByte.{BadByte};
 ghost use Rattle.sv_xmlcall.specs.declared.stop.Stop.{Stop};
 
 use std::alloc::{AllocError, AllocFailed};
+
+/// Why reading without memory stops within a text: at the first byte with which no text goes on, with so many bytes from
+/// it to the end.
+#[derive(Clone, Copy, Debug, PartialEq, Eq)]
+pub struct BadByte(pub usize);
 
 /// Why reading stops within a text.
 #[derive(Clone, Copy, Debug, PartialEq, Eq)]
@@ -13,6 +19,14 @@ pub enum Stop {
     TooDeep,
     /// Out of memory.
     OutOfMemory,
+}
+
+impl From<BadByte> for Stop {
+    ghost from_gives = { λ bad stop. stop ≡ Stop.At bad.0 };
+
+    fn from(bad: BadByte) -> Stop {
+        Stop::At(bad.0)
+    }
 }
 
 impl From<AllocError> for Stop {

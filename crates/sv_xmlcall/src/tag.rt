@@ -1,9 +1,9 @@
 //! The tags, with their spelling.
 ghost use Rattle.std.specs.Prelude.{◌≡◌, ◌+◌, ◌<◌, IfOk, length};
 ghost use Rattle.sv_xmlcall.specs.Tags.{spelling, word_at, tag_at};
-ghost use Rattle.sv_xmlcall.specs.Outcome.{Gives};
+ghost use Rattle.sv_xmlcall.specs.Outcome.{GivesAlways};
 
-use crate::stop::Stop;
+use crate::stop::BadByte;
 
 /// What a text of XML-RPC is made of beside its characters: the tags, those of closing tags without the `>` at their
 /// end, the beginning of the declaration, and the entities, those by number without their number.
@@ -123,8 +123,8 @@ impl Tag {
 }
 
 /// Reads this word, and gives what follows it.
-fn word<'a>(wanted: &[u8], bytes: &'a [u8]) -> Result<&'a [u8], Stop>
-    ensures value { Gives (λ rest. rest.now) result (word_at wanted.now bytes.now) }
+fn word<'a>(wanted: &[u8], bytes: &'a [u8]) -> Result<&'a [u8], BadByte>
+    ensures value { GivesAlways (λ rest. rest.now) result (word_at wanted.now bytes.now) }
     ensures shorter { IfOk result (λ rest. length rest.now + length wanted.now ≡ length bytes.now) }
 {
     let mut left = wanted;
@@ -132,7 +132,7 @@ fn word<'a>(wanted: &[u8], bytes: &'a [u8]) -> Result<&'a [u8], Stop>
     while let [next, more @ ..] = left {
         match rest {
             [byte, after @ ..] if *byte == *next => rest = after,
-            _ => return Err(Stop::At(rest.len())),
+            _ => return Err(BadByte(rest.len())),
         }
         left = more;
     }
@@ -141,8 +141,8 @@ fn word<'a>(wanted: &[u8], bytes: &'a [u8]) -> Result<&'a [u8], Stop>
 
 /// Reads one of these tags. Where none stands here, the bad byte is the first that goes on with none of them.
 #[inline(always)]
-pub fn next_tag<'a>(tags: &[Tag], bytes: &'a [u8]) -> Result<(Tag, &'a [u8]), Stop>
-    ensures value { Gives (λ x. (x.0, x.1.now)) result (tag_at tags.now bytes.now) }
+pub fn next_tag<'a>(tags: &[Tag], bytes: &'a [u8]) -> Result<(Tag, &'a [u8]), BadByte>
+    ensures value { GivesAlways (λ x. (x.0, x.1.now)) result (tag_at tags.now bytes.now) }
     ensures shorter { IfOk result (λ x. length x.1.now < length bytes.now) }
 {
     let mut least = bytes.len();
@@ -150,10 +150,9 @@ pub fn next_tag<'a>(tags: &[Tag], bytes: &'a [u8]) -> Result<(Tag, &'a [u8]), St
     while let [next, more @ ..] = left {
         match word(next.spelling().as_bytes(), bytes) {
             Ok(rest) => return Ok((*next, rest)),
-            Err(Stop::At(bad)) => least = least.min(bad),
-            Err(stop) => return Err(stop),
+            Err(BadByte(bad)) => least = least.min(bad),
         }
         left = more;
     }
-    Err(Stop::At(least))
+    Err(BadByte(least))
 }

@@ -123,7 +123,7 @@ fn put_text(out: &mut Vec<u8>, text: &str) -> Result<(), AllocError>
     Ok(())
 }
 
-/// Writes the simple bytes with which these begin, and gives what is behind them.
+/// Writes the simple bytes with which these begin, and gives what is after them.
 #[tactic(auto, using(crate::proofs::SimpleLaws::written_run))]
 fn put_run<'a>(out: &mut Vec<u8>, bytes: &'a [u8]) -> Result<&'a [u8], AllocError>
     ensures written { IfOk result (λ rest. out.new.items ++ escaped rest.now

@@ -193,7 +193,7 @@ pub const VALUES: [(&str, &str); 54] = [
     ("<value>1</value>", "<value><string>1</string></value>"),
 ];
 
-/// Texts that spell no value: the longest front with which a good one begins, and what follows it.
+/// Texts that spell no value: the longest prefix with which a good one begins, and what follows it.
 pub const NO_TAGS: [(&str, &str); 39] = [
     ("", "x"),
     ("<", "int/>"),
@@ -236,7 +236,7 @@ pub const NO_TAGS: [(&str, &str); 39] = [
     ("<value><string>a</string", "/></value>"),
 ];
 
-/// Texts that spell no value: the longest front with which a good one begins, and what follows it.
+/// Texts that spell no value: the longest prefix with which a good one begins, and what follows it.
 pub const NO_FORMS: [(&str, &str); 39] = [
     ("<value><string>a</", " string></value>"),
     ("<value><string></string><", "int>1</int></value>"),
@@ -303,7 +303,7 @@ pub const NO_FORMS: [(&str, &str); 39] = [
     ("<value>&l", "e;</value>"),
 ];
 
-/// Texts that spell no value: the longest front with which a good one begins, and what follows it.
+/// Texts that spell no value: the longest prefix with which a good one begins, and what follows it.
 pub const NO_TEXTS: [(&str, &str); 39] = [
     ("<value>&lt", " </value>"),
     ("<value>&", "nbsp;</value>"),
@@ -346,7 +346,7 @@ pub const NO_TEXTS: [(&str, &str); 39] = [
     ("<value><array><data>", ""),
 ];
 
-/// Texts that spell no value since they are no UTF-8: the longest front with which a good one begins, and what follows it.
+/// Texts that spell no value since they are no UTF-8: the longest prefix with which a good one begins, and what follows it.
 pub const NO_UTF8: [(&[u8], &[u8]); 19] = [
     (b"<value>a", b"\x80</value>"),
     (b"<value>", b"\xc0\x80</value>"),
@@ -398,7 +398,7 @@ pub const CALLS: [(&str, &str); 6] = [
     ),
 ];
 
-/// Texts that spell no call: the longest front with which a good one begins, and what follows it.
+/// Texts that spell no call: the longest prefix with which a good one begins, and what follows it.
 pub const NO_CALLS: [(&[u8], &[u8]); 36] = [
     (b"", b""),
     (b" \n", b""),
@@ -491,7 +491,7 @@ pub const REPLIES: [(&str, &str); 4] = [
     ),
 ];
 
-/// Texts that spell no reply: the longest front with which a good one begins, and what follows it.
+/// Texts that spell no reply: the longest prefix with which a good one begins, and what follows it.
 pub const NO_REPLIES: [(&[u8], &[u8]); 13] = [
     (b"<method", b"Call>"),
     (b"<methodResponse><", b"/methodResponse>"),

@@ -1,5 +1,6 @@
 use Rattle.std.proofs.Common.{sym, ◌∙◌, arith}
 use Rattle.sv_xmlcall.specs.Trees.{trees_view}
+use Rattle.sv_xmlcall.specs.declared.stop.Stop.TheVariants as stop
 use Rattle.sv_xmlcall.proofs.DocumentLaws.{param_halts, param_none, param_some, halts_from, with_flag}
 use Rattle.sv_xmlcall.proofs.read.further_params.Goals as goal
 
@@ -32,4 +33,4 @@ returns-in-Ok-false-default c method =
 pub returns-in-Err : goal.returns-in-Err
 returns-in-Err c method =
     let l = c.loop-behind in
-    param_halts method (trees_view l.params.items) l.opened l.rest.now _ c.in-Err.stop (l.invariant.reads method) c.in-Err.ensures.value
+    param_halts method (trees_view l.params.items) l.opened l.rest.now _ (stop.At c.in-Err.bad.0) (l.invariant.reads method) c.in-Err.ensures.value

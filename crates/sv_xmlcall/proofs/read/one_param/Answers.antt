@@ -2,6 +2,7 @@ use Rattle.std.proofs.Common.{[], sym, ap, ◌∙◌}
 use Rattle.sv_xmlcall.specs.Trees.{Trees, view, trees_view}
 use Rattle.sv_xmlcall.specs.Machine.{InParam, AtParams, AtParamEnd, At, at, run, the_limits, kept}
 use Rattle.sv_xmlcall.specs.declared.tag.Tag.TheVariants as tag
+use Rattle.sv_xmlcall.specs.declared.stop.Stop.TheVariants as stop
 use Rattle.sv_xmlcall.proofs.DocumentLaws.{closes_param, closing_goes, closing_halts}
 use Rattle.sv_xmlcall.proofs.read.one_param.Goals as goal
 
@@ -19,4 +20,4 @@ returns-in-Err-closing-clause-reads c method =
     let before = trees_view c.args.params.items in
     let n = c.value.new.opened in
     let all = kept the_limits n before (view c.in-Ok.one) in
-    closing_halts (AtParamEnd method all) tag.EndParam n c.in-Ok.rest.now _ c.in-Err-closing.stop (closes_param method all) (c.in-Ok.ensures.reads (InParam method before)) c.in-Err-closing.ensures.value
+    closing_halts (AtParamEnd method all) tag.EndParam n c.in-Ok.rest.now _ (stop.At c.in-Err-closing.bad.0) (closes_param method all) (c.in-Ok.ensures.reads (InParam method before)) c.in-Err-closing.ensures.value

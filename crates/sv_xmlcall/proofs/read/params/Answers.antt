@@ -2,6 +2,7 @@ use Rattle.std.proofs.Common.{[], List, sym, ap, ◌∙◌}
 use Rattle.sv_xmlcall.specs.Trees.{trees_view}
 use Rattle.sv_xmlcall.specs.Machine.{AtDone, At, at, run, the_limits}
 use Rattle.sv_xmlcall.specs.declared.value.Value.{Value}
+use Rattle.sv_xmlcall.specs.declared.stop.Stop.TheVariants as stop
 use Rattle.sv_xmlcall.proofs.DocumentLaws.{begun_some, begun_none, begun_halts, with_flag, a_call}
 use Rattle.sv_xmlcall.proofs.read.params.Goals as goal
 
@@ -17,4 +18,4 @@ returns-in-Ok-false-default c method =
     ∙ ap (λ (x : List Value). run the_limits (at (At (AtDone (a_call method (trees_view x)))) [] c.args.opened.now) t.rest.now) (sym c.new.ensures.items)
 
 pub returns-in-Err : goal.returns-in-Err
-returns-in-Err c method = begun_halts method c.args.opened.now c.args.bytes.now c.in-Err.stop c.in-Err.ensures
+returns-in-Err c method = begun_halts method c.args.opened.now c.args.bytes.now (stop.At c.in-Err.bad.0) c.in-Err.ensures
