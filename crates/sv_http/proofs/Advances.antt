@@ -38,7 +38,7 @@ dropped_more guard front text ask all is = record {
   asks = is.asks;
 }
 
--- what is left of the dropped bytes behind some of them
+-- what is left of the dropped bytes after some of them
 leftover : (front dropped head more : List ℕ) → list_all ends_line front ≡ true → is_begun head ≡ true → front ++ more ≡ dropped ++ head
     → (left : List ℕ) × (dropped ≡ front ++ left) × (more ≡ left ++ head)
 leftover [] dropped head more all begun same = (dropped, refl, same)

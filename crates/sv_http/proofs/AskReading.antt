@@ -112,7 +112,7 @@ head_is bytes size is small =
 size_some : (bytes : List ℕ) (size : ℕ) → head_length bytes ≡ Some size → 0 < size
 size_some bytes size is = omega (arith, two_at_least bytes size is)
 
--- the first ask behind what is dropped
+-- the first ask after what is dropped
 behind_is : (guard : Guard) (bytes : List ℕ) (found : Option ℕ) (read : Ask × List ℕ) → is_begun bytes ≡ true → head_length bytes ≡ found
     → ask_behind guard found bytes ≡ Some read → Fronts guard bytes read
 behind_is guard bytes None read begun is e = large_front guard bytes None read begun is (λ size none. absurd (no_value none)) e
@@ -163,7 +163,7 @@ none_behind guard bytes (Some size) begun is e = by_size (nat_le size head_limit
     by_size false large e =
         absurd (omega (arith, few_bytes bytes e, head_size bytes size is, le_false size head_limit large))
 
--- what is left behind CR and LF
+-- what is left after CR and LF
 begun_behind : (stream : List ℕ) → (drop (prefix_len ends_line stream) stream ≡ []) ⊎ (is_begun (drop (prefix_len ends_line stream) stream) ≡ true)
 begun_behind [] = inl refl
 begun_behind (a ∷ stream) = by_first (ends_line a) refl (begun_behind stream)

@@ -14,7 +14,7 @@ use Rattle.sv_http.proofs.Heads.{eq_true}
 use Rattle.sv_http.specs.Authorization.{IsCredentials, after_front, is_password, lets_in, opens_behind, opens_decoded, opens_encoded}
 use Rattle.sv_http.specs.declared.guard.Guard.{Guard}
 
--- what follows a front
+-- what follows a prefix
 front_is : (front bytes rest : List ℕ) → after_front front bytes ≡ Some rest → bytes ≡ front ++ rest
 front_is front bytes rest found = by_same (bytes_eq (take (length front) bytes) front) refl found
   where
@@ -32,7 +32,7 @@ front_found front rest =
     ((bytes_eq-Decides (take (length front) (front ++ rest)) front).1 (take-append_seam front rest))
     ∙ ap Some (drop-append_seam front rest)
 
--- a field that lets in has a text behind its front
+-- a field that lets in has a text after its prefix
 pub is_basic : (guard : Guard) (value : List ℕ) → lets_in guard value ≡ true → (text : List ℕ) × (value ≡ codes "Basic " ++ text)
 is_basic guard value opened = by_text (after_front (codes "Basic ") value) refl opened
   where

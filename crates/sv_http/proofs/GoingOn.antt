@@ -1,4 +1,4 @@
--- What is kept goes on to be the rest of the stream behind its asks.
+-- What is kept goes on to be the rest of the stream after its asks.
 use Rattle.std.proofs.Common.{◌≡◌, ℕ, List, [], ◌∷◌, ◌++◌, Option, None, Some, Bool, true, refl, sym, ap, ◌∙◌, subst, append_assoc}
 use Rattle.std.specs.List.{list_all}
 use Rattle.sv_http.proofs.Advances.{all_of, behind_dropped, dropped_more}
@@ -30,7 +30,7 @@ behind_more : (guard : Guard) (asks : List Ask) (ask : Ask) (stream : List ℕ)
 behind_more guard [] ask stream = refl
 behind_more guard (other ∷ asks) ask stream = behind_more guard asks ask (behind_first (first_ask guard stream))
 
--- what is kept is an ask: what comes then stands behind it
+-- what is kept is an ask: what comes then stands after it
 behind_asked : (guard : Guard) (kept stream : List ℕ) (asks : List Ask) (ask : Ask) → GoesOn guard kept stream asks → IsAsk guard kept ask
     → (more : List ℕ) → behind_asks guard (asks ++ ask ∷ []) (stream ++ more) ≡ behind_first (Some (ask, more))
 behind_asked guard kept stream asks ask goes is more =

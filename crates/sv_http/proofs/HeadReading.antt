@@ -110,7 +110,7 @@ pub end_read : (end : LineEnd) (rest : List ℕ) → end_at (print_end end ++ re
 end_read lf rest = refl
 end_read crlf rest = refl
 
--- what a field has behind its name
+-- what a field has after its name
 
 pub raw_is : (bytes : List ℕ) (read : List ℕ × (LineEnd × List ℕ)) → raw_at bytes ≡ Some read
     → (list_all is_value_byte read.0 ≡ true) × (bytes ≡ read.0 ++ (print_end read.1.0 ++ read.1.1))

@@ -30,7 +30,7 @@ other_byte byte bytes e =
     else if test && begins (13 ∷ 10 ∷ []) bytes then Some 3
     else option_map (λ size. 1 + size) (head_length bytes)) e
 
--- behind a line feed
+-- after a line feed
 other_line : (byte : ℕ) (bytes : List ℕ) → (byte == 10) ≡ false → (byte == 13) ≡ false
     → head_length (10 ∷ byte ∷ bytes) ≡ option_map (λ size. 1 + size) (head_length (byte ∷ bytes))
 other_line byte bytes e f =
@@ -86,7 +86,7 @@ pending_steps line.Text byte = text_steps byte
 pending_steps line.Feed byte = feed_steps byte
 pending_steps line.FeedReturn byte = return_steps byte
 
--- a further byte, behind all bytes that were looked at
+-- a further byte, after all bytes that were looked at
 pub one_more : (bytes : List ℕ) (at : Line) (byte : ℕ) (next : Option Line) → next ≡ after at byte → IsSearched bytes at → Steps (bytes ++ byte ∷ []) next
 one_more bytes at byte next is searched = joined next (subst (λ (to : Option Line). Steps (pending at ++ byte ∷ []) to) (sym is) (pending_steps at byte))
   where
@@ -112,7 +112,7 @@ one_more bytes at byte next is searched = joined next (subst (λ (to : Option Li
           ∙ ap (λ count. option_map (λ size. count + size) (head_length (pending to ++ more))) (sym (length-append searched.0 now.0)),
     )
 
--- the same where all bytes before were looked at behind others
+-- the same where all bytes before were looked at after others
 pub looked_more : (bytes : List ℕ) (count : ℕ) (from at : Line) (next : Option Line) → count < length bytes → next ≡ after at (get_or bytes count 0)
     → ((earlier : List ℕ) → IsSearched earlier from → IsSearched (earlier ++ take count bytes) at)
     → (earlier : List ℕ) → IsSearched earlier from → Steps (earlier ++ take (count + 1) bytes) next

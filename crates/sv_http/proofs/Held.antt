@@ -64,7 +64,7 @@ judged_most : (guard : Guard) (head : List ℕ) (close : Bool) (size : ℕ) → 
 judged_most guard head close size (inl judged) = ruled_most guard judged.0 close size (sym judged.2)
 judged_most guard head close size (inr judged) = absurd (never_takes size close BadRequest judged.1)
 
--- what stands behind the CR and LF that are dropped
+-- what stands after the CR and LF that are dropped
 
 not_ended : (ends : Bool) → (if ends then false else true) ≡ true → ends ≡ false
 not_ended true begun = absurd cc

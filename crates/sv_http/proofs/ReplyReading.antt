@@ -38,7 +38,7 @@ pub short_no_reply : (stream : List ℕ) (status size : ℕ) (body : List ℕ) �
 short_no_reply stream status size body begins short other whole reply =
     let same = sizes_same stream status size other body whole begins reply in absurd (omega (arith, same, short))
 
--- a head behind which no body can follow
+-- a head after which no body can follow
 pub unsized_never : (stream body : List ℕ) (head : ResponseHead) → ReadsResponse stream head body → size_behind head ≡ None → NeverReply stream
 unsized_never stream body head reads none more other whole reply =
     let same = response_prefix_free stream more head reply.head body whole reads reply.reads in
@@ -47,7 +47,7 @@ unsized_never stream body head reads none more other whole reply =
 pub invalid_never : (stream : List ℕ) → NeverHasResponse stream → NeverReply stream
 invalid_never stream never more other whole reply = never more reply.head whole reply.reads
 
--- the limits that a head with a body behind it keeps
+-- the limits that a head with a body after it keeps
 within_by : (few short : Bool) (sized : Option ℕ) (size : ℕ) → cond (few && short) sized None ≡ Some size → (few ≡ true) × (short ≡ true)
 within_by true true sized size is = (refl, refl)
 within_by true false sized size is = absurd (no_value is)

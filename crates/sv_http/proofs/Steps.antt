@@ -73,7 +73,7 @@ refused_stands guard kept head body stream refusal earlier asks goes is =
 pub too_large_advances : (guard : Guard) (at to : Line) (head body front : List ℕ) (asks : List Ask) → (head ≡ [] → is_begun front ≡ true)
     → ((earlier : List ℕ) → IsSearched earlier at → IsSearched (earlier ++ front) to)
     → head_limit ≤ length (head ++ front) → length front ≤ max (head_limit - length head) 1
-    → Advances guard (reads (place.Head at) head body asks) front (refused HeadTooLarge (head ++ front) body asks)
+    → Advances guard (reads (place.Head at) head body asks) front (refused HeadTooLarge body asks)
 too_large_advances guard at to head body front asks starts searched large room = λ stream earlier stands.
     let small = stands.2 in
     let exact : length (head ++ front) ≡ head_limit = omega (arith, large, room, small, length-append head front) in
@@ -162,7 +162,7 @@ call_advances guard size close head body front asks whole room = λ stream earli
     (goes_more guard (stands.0 ++ body) front stream (earlier ++ asks) stands.6))
     (call_is guard stands.0 (body ++ front) size.body close stands.1 stands.2 stands.3 exact)
 
--- behind what was refused
+-- after what was refused
 pub over_advances : (guard : Guard) (head body front : List ℕ) (asks : List Ask)
     → Advances guard (reads place.Over head body asks) front (reads place.Over head body asks)
 over_advances guard head body front asks = λ stream earlier stands. record {
@@ -195,7 +195,7 @@ searched_taken guard at from next head body longer front asks to in_head is star
     (subst (λ (kept : List ℕ). Advances guard (reads at head body asks) front (goes_on next kept body asks)) (sym is)
     (subst (λ (inside : Place). Advances guard (reads inside head body asks) front (goes_on next (head ++ front) body asks)) (sym in_head)
     (by_test (Advances guard (reads (place.Head from) head body asks) front) (nat_lt (length (head ++ front)) head_limit)
-    (reads (place.Head next) (head ++ front) body asks) (refused HeadTooLarge (head ++ front) body asks)
+    (reads (place.Head next) (head ++ front) body asks) (refused HeadTooLarge body asks)
     (λ small. head_advances guard from next head body front asks starts searched (below small))
     (λ large. too_large_advances guard from next head body front asks starts searched (above large) room))))
   where
@@ -236,6 +236,6 @@ part_taken piece taken rest count is =
     is ∙ ap (λ back. taken ++ back) (sym (take-append-drop count rest)) ∙ sym (append_assoc taken (take count rest) (drop count rest))
     ∙ ap (λ back. (taken ++ take count rest) ++ back) (sym (take_all (length rest - count) (drop count rest) (omega (arith, length-drop count rest))))
 
--- what was looked at of a front
+-- what was looked at of a prefix
 pub front_taken : (count most : ℕ) (bytes : List ℕ) → count ≤ length (take most bytes) → take count (take most bytes) ≡ take count bytes
 front_taken count most bytes within = take-take count most bytes (omega (arith, within, length-take most bytes))

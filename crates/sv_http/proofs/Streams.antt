@@ -15,7 +15,7 @@ use Rattle.sv_http.specs.declared.head.Ruling.{Ruling}
 use Rattle.sv_http.specs.declared.head.Ruling.TheVariants.{Refused, Takes}
 use Rattle.sv_http.specs.declared.status.Refusal.{Refusal}
 
--- fronts of one length are the same, and so is what follows them
+-- prefixes of one length are the same, and so is what follows them
 pub same_front : (a b x y : List ℕ) → length a ≡ length b → a ++ x ≡ b ++ y → (a ≡ b) × (x ≡ y)
 same_front a b x y size same = (
   sym (take-append_seam a x) ∙ ap (λ n. take n (a ++ x)) size ∙ ap (λ all. take (length b) all) same ∙ take-append_seam b y,
@@ -127,7 +127,7 @@ asks_once guard head body other r q (Bad refusal) (Bad reason) (empty, inr one) 
   ap (λ front. front ++ r) (sym empty) ∙ same ∙ ap (λ front. front ++ q) none,
 )
 
--- the same where the head and the body stand behind what is dropped
+-- the same where the head and the body stand after what is dropped
 pub regrouped : {text : List ℕ} (dropped head body rest : List ℕ) → text ≡ dropped ++ head ++ body → text ++ rest ≡ dropped ++ (head ++ (body ++ rest))
 regrouped dropped head body rest is =
     ap (λ all. all ++ rest) is ∙ append_assoc (dropped ++ head) body rest ∙ append_assoc dropped head (body ++ rest)

@@ -35,7 +35,7 @@ has_field name fields = list_any (is_named name) fields
 abbrev pub says : List ℕ → List ℕ → List Field → Bool
 says name value fields = list_any (λ field. is_named name field && str_eq_ignore_ascii_case field.1 value) fields
 
--- the number that these digits write behind a number
+-- the number that these digits write after a number
 abbrev pub number_of : ℕ → List ℕ → ℕ
 number_of number [] = number
 number_of number (digit ∷ digits) = number_of (10 * number + (digit - 48)) digits
@@ -48,7 +48,7 @@ is_length value = nat_lt 0 (length value) && nat_lt (length value) 20 && list_al
 abbrev pub is_target : List ℕ → Bool
 is_target target = bytes_eq target (codes "/RPC2") || bytes_eq target (codes "/RPC2/")
 
--- the link closes behind the reply
+-- the link closes after the reply
 abbrev pub closes : ℕ → List Field → Bool
 closes minor fields =
     says (codes "Connection") (codes "close") fields

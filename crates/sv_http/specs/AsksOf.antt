@@ -13,7 +13,7 @@ use Rattle.sv_http.specs.declared.head.Ruling.TheVariants.{Refused, Takes}
 use Rattle.sv_http.specs.declared.status.Refusal.TheVariants.{BadRequest, HeadTooLarge}
 
 infixl 10 ◌>>=◌
--- what is read behind what was read
+-- what is read after what was read
 abbrev pub ◌>>=◌ : {A B : Type 0} → Option A → (A → Option B) → Option B
 None >>= next = None
 (Some value) >>= next = next value
@@ -37,7 +37,7 @@ text_at [] bytes = Some bytes
 text_at (byte ∷ text) [] = None
 text_at (byte ∷ text) (other ∷ bytes) = if other == byte then text_at text bytes else None
 
--- LF behind CR
+-- LF after CR
 abbrev pub feed_at : List ℕ → Option (LineEnd × List ℕ)
 feed_at [] = None
 feed_at (byte ∷ bytes) = if byte == 10 then Some (crlf, bytes) else None
@@ -58,7 +58,7 @@ raw_at (byte ∷ bytes) =
 abbrev pub field_of : List ℕ → List ℕ × (LineEnd × List ℕ) → Option (Field × List ℕ)
 field_of name raw = Some (record { name = name; raw = raw.0; end = raw.1.0 }, raw.1.1)
 
--- a field line behind its name and colon: the name isn't empty (RFC 9112, section 5)
+-- a field line after its name and colon: the name isn't empty (RFC 9112, section 5)
 abbrev pub named_field_at : List ℕ × List ℕ → Option (Field × List ℕ)
 named_field_at name = provided (nat_lt 0 (length name.0)) (raw_at name.1 >>= field_of name.0)
 
@@ -66,7 +66,7 @@ named_field_at name = provided (nat_lt 0 (length name.0)) (raw_at name.1 >>= fie
 abbrev pub field_at : List ℕ → Option (Field × List ℕ)
 field_at bytes = word_at is_token_byte 58 bytes >>= named_field_at
 
--- the empty line with nothing behind it, or what else there is
+-- the empty line with nothing after it, or what else there is
 abbrev pub last_or : Option (LineEnd × List ℕ) → Option (List Field × LineEnd) → Option (List Field × LineEnd)
 last_or None other = other
 last_or (Some (end, [])) other = Some ([], end)

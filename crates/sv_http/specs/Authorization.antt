@@ -35,7 +35,7 @@ is_password password.None given = bytes_eq given []
 is_password (password.Plain text) given = bytes_eq given text
 is_password (password.Sha digest) given = bytes_eq (sha1 given) digest
 
--- what follows this front, where the bytes begin with it
+-- what follows this prefix, where the bytes begin with it
 abbrev pub after_front : List ℕ → List ℕ → Option (List ℕ)
 after_front front bytes = if bytes_eq (take (length front) bytes) front then Some (drop (length front) bytes) else None
 
@@ -54,7 +54,7 @@ abbrev pub opens_decoded : Guard → Result (List ℕ) DecodeError → Bool
 opens_decoded guard (Ok given) = opens guard given
 opens_decoded guard (Err error) = false
 
--- the base64 behind the scheme and a space, where there is one, holds the credentials that are asked for
+-- the base64 after the scheme and a space, where there is one, holds the credentials that are asked for
 abbrev pub opens_encoded : Guard → Option (List ℕ) → Bool
 opens_encoded guard None = false
 opens_encoded guard (Some text) = opens_decoded guard (decode_of standard text)

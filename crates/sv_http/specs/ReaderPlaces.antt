@@ -23,7 +23,7 @@ pending line.Text = []
 pending line.Feed = 10 ∷ []
 pending line.FeedReturn = 10 ∷ 13 ∷ []
 
--- what a further byte of the head makes of it; None behind the empty line
+-- what a further byte of the head makes of it; None after the empty line
 abbrev pub after : Line → ℕ → Option Line
 after line.Text byte = if byte == 10 then Some line.Feed else Some line.Text
 after line.Feed byte = if byte == 10 then None else if byte == 13 then Some line.FeedReturn else Some line.Text
@@ -40,14 +40,14 @@ abbrev pub IsFound : List ℕ → Type 0
 IsFound bytes = (more : List ℕ) → head_length (bytes ++ more) ≡ Some (length bytes)
 
 -- whatever comes, the asks of what is kept and what comes are the next of the stream, in which what is kept stands
--- behind these asks and some CR and LF
+-- after these asks and some CR and LF
 pub record GoesOn (guard : Guard) (kept stream : List ℕ) (asks : List Ask) : Type 0 where
   pub next : (more : List ℕ) (later : List Ask) → AreAsks guard (kept ++ more) later → AreAsks guard (stream ++ more) (asks ++ later)
   pub dropped : List ℕ
   pub dropped_is : list_all ends_line dropped ≡ true
   pub left : (more : List ℕ) → behind_asks guard asks (stream ++ more) ≡ dropped ++ (kept ++ more)
 
--- whatever comes, the stream has these asks, and nothing counts behind them
+-- whatever comes, the stream has these asks, and nothing counts after them
 pub record IsOver (guard : Guard) (stream : List ℕ) (asks : List Ask) : Type 0 where
   pub asked : (more : List ℕ) → AreAsks guard (stream ++ more) asks
   pub left : (more : List ℕ) → behind_asks guard asks (stream ++ more) ≡ []
@@ -65,6 +65,14 @@ Stands guard place.Broken head body stream asks = ⊥
 -- the reader stands for a stream of which these are the asks
 abbrev pub StandsFor : HttpReader → List ℕ → List Ask → Type 0
 StandsFor reader stream asks = Stands reader.guard reader.place reader.head.items reader.body.items stream asks
+
+-- a request of the stream was refused
+abbrev pub IsRefused : HttpReader → Type 0
+IsRefused reader = reader.place ≡ place.Over
+
+-- memory was refused
+abbrev pub IsBroken : HttpReader → Type 0
+IsBroken reader = reader.place ≡ place.Broken
 
 -- what a reader keeps, and the asks of the piece in hand
 pub record Reading : Type 0 where
@@ -88,22 +96,22 @@ Advances guard from bytes to =
     → Stands guard from.place from.head from.body stream (earlier ++ from.asks)
     → Stands guard to.place to.head to.body (stream ++ bytes) (earlier ++ to.asks)
 
--- what is refused ends the stream
-abbrev pub refused : Refusal → List ℕ → List ℕ → List Ask → Reading
-refused refusal head body asks = reads place.Over head body (asks ++ Bad refusal ∷ [])
+-- what is refused ends the stream, and its head is let go
+abbrev pub refused : Refusal → List ℕ → List Ask → Reading
+refused refusal body asks = reads place.Over [] body (asks ++ Bad refusal ∷ [])
 
 -- a head that isn't whole goes on, or is too long
 abbrev pub goes_on : Line → List ℕ → List ℕ → List Ask → Reading
 goes_on to head body asks =
-    if nat_lt (length head) head_limit then reads (place.Head to) head body asks else refused HeadTooLarge head body asks
+    if nat_lt (length head) head_limit then reads (place.Head to) head body asks else refused HeadTooLarge body asks
 
 -- a call is whole
 abbrev pub called : Bool → List ℕ → List ℕ → List Ask → Reading
 called close head body asks = reads (place.Head line.Text) head [] (asks ++ Call body close ∷ [])
 
--- behind a whole head: a refusal, or a body, which is whole at once where it has no bytes
+-- after a whole head: a refusal, or a body, which is whole at once where it has no bytes
 abbrev pub after_ruling : Ruling → List ℕ → List ℕ → List Ask → Reading
-after_ruling (Refused refusal) head body asks = refused refusal head body asks
+after_ruling (Refused refusal) head body asks = refused refusal body asks
 after_ruling (Takes size close) head body asks =
     if size == 0 then called close [] [] asks
     else reads (place.Body (record { head = length head; body = size }) close) [] [] asks

@@ -29,6 +29,10 @@ Stands place.Broken held stream = ⊥
 abbrev pub StandsForReply : ReplyReader → List ℕ → Type 0
 StandsForReply reader stream = Stands reader.place reader.held.items stream
 
+-- memory was refused
+abbrev pub IsBroken : ReplyReader → Type 0
+IsBroken reader = reader.place ≡ place.Broken
+
 -- what is answered of a stream
 abbrev pub Answers : List ℕ → Result (Option Replied) ReplyFault → Type 0
 Answers stream (Ok None) = GoesOn stream

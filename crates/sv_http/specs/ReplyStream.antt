@@ -23,7 +23,7 @@ size_behind head =
     if nat_le (length head.fields) field_limit && nat_le (length (print_response head)) head_limit
     then body_size (map name_and_value head.fields) else None
 
--- a head, and the size of the body behind it
+-- a head, and the size of the body after it
 pub record Begins (stream : List ℕ) (status size : ℕ) (body : List ℕ) : Type 0 where
   pub head : ResponseHead
   pub reads : ReadsResponse stream head body

@@ -35,7 +35,7 @@ abbrev pub challenge : Status → List ℕ
 challenge (Bad Unauthorized) = line (codes "WWW-Authenticate: Basic realm=\"default\"")
 challenge status = []
 
--- the field that says that the link closes behind the reply (RFC 9112, section 9.6)
+-- the field that says that the link closes after the reply (RFC 9112, section 9.6)
 abbrev pub closing : Bool → List ℕ
 closing true = line (codes "Connection: close")
 closing false = []

@@ -44,7 +44,7 @@ IsHead head = (head_length head ≡ Some (length head)) × (length head ≤ head
 abbrev pub IsTooLong : List ℕ → Type 0
 IsTooLong head = (head_length head ≡ None) × (length head ≡ head_limit)
 
--- what a head and the body behind it ask
+-- what a head and the body after it ask
 abbrev pub Asks : Guard → List ℕ → List ℕ → Ask → Type 0
 Asks guard head body (Call bytes close) = IsHead head × Judged guard head (Takes (length body) close) × (bytes ≡ body)
 Asks guard head body (Bad refusal) =

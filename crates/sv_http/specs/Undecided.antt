@@ -8,7 +8,7 @@ use Rattle.sv_http.specs.declared.ask.Ask.{Ask}
 use Rattle.sv_http.specs.declared.ask.Ask.TheVariants.{Call, Bad}
 use Rattle.sv_http.specs.declared.guard.Guard.{Guard}
 
--- what follows the first ask: nothing counts behind a refusal
+-- what follows the first ask: nothing counts after a refusal
 abbrev pub behind_first : Option (Ask × List ℕ) → List ℕ
 behind_first None = []
 behind_first (Some (Bad refusal, rest)) = []
@@ -19,7 +19,7 @@ abbrev pub behind_asks : Guard → List Ask → List ℕ → List ℕ
 behind_asks guard [] stream = stream
 behind_asks guard (ask ∷ asks) stream = behind_asks guard asks (behind_first (first_ask guard stream))
 
--- the head and the body so far behind the last ask, without the CR and LF that are dropped before a head
+-- the head and the body so far after the last ask, without the CR and LF that are dropped before a head
 abbrev pub undecided : Guard → List ℕ → List ℕ
 undecided guard stream =
     let rest = behind_asks guard (asks_of guard stream) stream in drop (prefix_len ends_line rest) rest

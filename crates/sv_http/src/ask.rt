@@ -5,7 +5,7 @@ use sv_base::bytes::Bytes;
 /// What a request asks.
 #[derive(Debug, Drop)]
 pub enum Ask {
-    /// A call with this body. Where `close` is set, the link closes behind the reply.
+    /// A call with this body. Where `close` is set, the link closes after the reply.
     Call { body: Bytes, close: bool },
     /// The request is refused, and so is all that follows it.
     Bad(Refusal),

@@ -81,7 +81,7 @@ fn says(fields: &[Header<'_>], name: &str, value: &[u8]) -> bool
     false
 }
 
-/// Whether the link closes behind the reply.
+/// Whether the link closes after the reply.
 pub(crate) fn closes(minor: u8, fields: &[Header<'_>]) -> bool
     ensures { result ≡ closes minor (map header_parts fields.now) }
 {
@@ -89,7 +89,7 @@ pub(crate) fn closes(minor: u8, fields: &[Header<'_>]) -> bool
         || (minor == 0 && !says(fields, "Connection", b"keep-alive".as_slice()))
 }
 
-/// The value of the first field of this name, and the fields behind it.
+/// The value of the first field of this name, and the fields after it.
 pub(crate) fn first_value<'a, 'b>(
     fields: &'a [Header<'b>],
     name: &str,
@@ -167,7 +167,7 @@ fn number_of(digits: &[u8]) -> u64
     number
 }
 
-/// The number with a digit behind it.
+/// The number with a digit after it.
 fn with_digit(number: u64, digit: u8) -> u64
     requires { number ≤ reply_limit + 1 }
     ensures { result ≡ min (10 * number + (digit - 48)) (reply_limit + 1) }

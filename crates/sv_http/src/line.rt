@@ -7,14 +7,14 @@ ghost use Rattle.sv_http.specs.ReaderPlaces.{after, IsSearched, IsFound};
 pub(crate) enum Line {
     /// In a line, or before the first.
     Text,
-    /// Behind a line feed.
+    /// After a line feed.
     Feed,
-    /// Behind a line feed and CR.
+    /// After a line feed and CR.
     FeedReturn,
 }
 
 impl Line {
-    /// How the head ends with a further byte; `None` behind the empty line.
+    /// How the head ends with a further byte; `None` after the empty line.
     fn after(self, byte: u8) -> Option<Line>
         ensures { result ≡ after self byte }
     {
@@ -31,7 +31,7 @@ impl Line {
 }
 
 /// Looks for the empty line that ends a head: how many bytes it took to find it, or all of them, and how the head then
-/// ends; `None` behind the empty line.
+/// ends; `None` after the empty line.
 pub(crate) fn look(line: Line, bytes: &[u8]) -> (usize, Option<Line>)
     ensures most { result.0 ≤ length bytes.now }
     ensures least { 0 < length bytes.now → 0 < result.0 }

@@ -48,7 +48,7 @@ pub struct HttpReader {
 
 impl HttpReader {
     ghost use Rattle.sv_http.specs.RequestStream.{AreAsks};
-    ghost use Rattle.sv_http.specs.ReaderPlaces.{StandsFor, Advances, EndsHead, shown, refused, called, goes_on, counted};
+    ghost use Rattle.sv_http.specs.ReaderPlaces.{StandsFor, IsRefused, IsBroken, Advances, EndsHead, shown, refused, called, goes_on, counted};
     ghost use Rattle.sv_http.specs.AsksOf.{asks_of};
     ghost use Rattle.sv_http.specs.Undecided.{held_of, held_limit};
     ghost use Rattle.sv_http.specs.declared.line.Line.{Line};
@@ -68,7 +68,7 @@ impl HttpReader {
         }
     }
 
-    /// Takes the next bytes of the stream and gives the asks that they decide. Behind a refused request there are none.
+    /// Takes the next bytes of the stream and gives the asks that they decide. After a refused request there are none.
     ///
     /// Out of memory leaves a value that stands for no stream, and each later call gives the same answer.
     pub fn feed(&mut self, alloc: Global, piece: &[u8]) -> Result<Vec<Ask>, AllocError>
@@ -81,12 +81,12 @@ impl HttpReader {
         ensures stands { IfOk result (λ told. (stream : List ℕ) (asks : List Ask)
             → StandsFor self.old stream asks
             → StandsFor self.new (stream ++ piece.now) (asks ++ told.items)) }
-        ensures over { self.old.place ≡ Place.Over → IfOk result (λ told. told.items ≡ []) }
+        ensures over { IsRefused self.old → IfOk result (λ told. told.items ≡ []) }
         ensures guard { self.new.guard ≡ self.old.guard }
-        ensures refused { OnErr result (self.new.place ≡ Place.Broken) }
+        ensures refused { OnErr result (IsBroken self.new) }
         ensures none { OnErr result ((stream : List ℕ) (asks : List Ask)
             → StandsFor self.new stream asks → ⊥) }
-        ensures stays_refused { self.old.place ≡ Place.Broken → IsErr result }
+        ensures stays_refused { IsBroken self.old → IsErr result }
     {
         if self.is_broken() {
             return Err(AllocError);
@@ -102,13 +102,13 @@ impl HttpReader {
     }
 
     /// How many bytes were read and are not decided yet: those of the head and of the body of the unfinished request,
-    /// without the CR and LF that are dropped before it. None are behind a refused request and after out of memory.
+    /// without the CR and LF that are dropped before it. None are after a refused request and after out of memory.
     pub fn held(&self) -> u64
         ensures held { (stream : List ℕ) (asks : List Ask) → StandsFor self.now stream asks
             → result ≡ held_of self.now.guard stream }
         ensures bound { result ≤ held_limit }
-        ensures over { self.now.place ≡ Place.Over → result ≡ 0 }
-        ensures broken { self.now.place ≡ Place.Broken → result ≡ 0 }
+        ensures over { IsRefused self.now → result ≡ 0 }
+        ensures broken { IsBroken self.now → result ≡ 0 }
     {
         self.counted()
     }
@@ -128,7 +128,7 @@ impl HttpReader {
     }
 
     fn is_broken(&self) -> bool
-        ensures { IsTrue result ↔ (self.now.place ≡ Place.Broken) }
+        ensures { IsTrue result ↔ IsBroken self.now }
     {
         match self.place {
             Place::Broken => true,
@@ -208,13 +208,13 @@ impl HttpReader {
         self.head.extend_from_slice(&front[..count])?;
         match found {
             None => self.end_head(alloc, asks)?,
-            Some(line) => self.go_on(line, asks)?,
+            Some(line) => self.go_on(alloc, line, asks)?,
         }
         Ok(count)
     }
 
     /// The head isn't whole yet: it goes on, or is too long.
-    fn go_on(&mut self, line: Line, asks: &mut Vec<Ask>) -> Result<(), AllocError>
+    fn go_on(&mut self, alloc: Global, line: Line, asks: &mut Vec<Ask>) -> Result<(), AllocError>
         ensures goes_on { OnOk result (shown self.new asks.new.items
             ≡ goes_on line self.old.head.items self.old.body.items asks.old.items) }
         ensures guard { self.new.guard ≡ self.old.guard }
@@ -223,7 +223,7 @@ impl HttpReader {
             self.place = Place::Head { line };
             Ok(())
         } else {
-            self.refuse(Refusal::HeadTooLarge, asks)
+            self.refuse(alloc, Refusal::HeadTooLarge, asks)
         }
     }
 
@@ -234,7 +234,7 @@ impl HttpReader {
         ensures guard { self.new.guard ≡ self.old.guard }
     {
         match judge(alloc, &self.guard, self.head.as_slice())? {
-            Ruling::Refused(refusal) => self.refuse(refusal, asks),
+            Ruling::Refused(refusal) => self.refuse(alloc, refusal, asks),
             Ruling::Takes { size, close } => {
                 let head = self.head.as_slice().len();
                 self.head.clear();
@@ -291,13 +291,20 @@ impl HttpReader {
         Ok(())
     }
 
-    fn refuse(&mut self, refusal: Refusal, asks: &mut Vec<Ask>) -> Result<(), AllocError>
+    /// Nothing is read after a refused request, so its head is let go.
+    fn refuse(
+        &mut self,
+        alloc: Global,
+        refusal: Refusal,
+        asks: &mut Vec<Ask>,
+    ) -> Result<(), AllocError>
         ensures refused { OnOk result (shown self.new asks.new.items
-            ≡ refused refusal self.old.head.items self.old.body.items asks.old.items) }
+            ≡ refused refusal self.old.body.items asks.old.items) }
         ensures guard { self.new.guard ≡ self.old.guard }
     {
         asks.push(Ask::Bad(refusal))?;
         self.place = Place::Over;
+        self.head = Vec::new(alloc);
         Ok(())
     }
 }

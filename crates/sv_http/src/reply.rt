@@ -6,7 +6,7 @@ use crate::status::{Refusal, Status};
 use std::alloc::{AllocError, Global};
 use sv_base::bytes::Bytes;
 
-/// The text of a reply with this status and body. Where `close` is set it says that the link closes behind it.
+/// The text of a reply with this status and body. Where `close` is set it says that the link closes after it.
 #[tactic(auto, using(crate::proofs::Replies::seven_parts))]
 pub fn reply(alloc: Global, status: Status, body: &[u8], close: bool) -> Result<Bytes, AllocError>
     ensures { IfOk result (λ text. text ≡ reply_text status body.now close) }

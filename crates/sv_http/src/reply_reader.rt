@@ -58,7 +58,7 @@ pub struct ReplyReader {
 }
 
 impl ReplyReader {
-    ghost use Rattle.sv_http.specs.ReplyPlaces.{StandsForReply, Answers, Continues};
+    ghost use Rattle.sv_http.specs.ReplyPlaces.{StandsForReply, IsBroken, Answers, Continues};
     ghost use Rattle.sv_http.specs.ReplyStream.{Begins};
     ghost use Rattle.sv_http.specs.declared.reply_reader.ReplyPlace.{ReplyPlace};
 
@@ -79,7 +79,7 @@ impl ReplyReader {
             → Answers (stream ++ piece.now) result }
         ensures stands { (stream : List ℕ) → StandsForReply self.old stream
             → Continues self.new (stream ++ piece.now) result }
-        ensures stays_refused { self.old.place ≡ ReplyPlace.Broken → IsErr result }
+        ensures stays_refused { IsBroken self.old → IsErr result }
     {
         match self.take(alloc, piece) {
             Ok(replied) => Ok(replied),
@@ -99,7 +99,7 @@ impl ReplyReader {
             → Answers (stream ++ piece.now) result }
         ensures stands { (stream : List ℕ) → StandsForReply self.old stream
             → Continues self.new (stream ++ piece.now) result }
-        ensures stays_refused { self.old.place ≡ ReplyPlace.Broken → IsErr result }
+        ensures stays_refused { IsBroken self.old → IsErr result }
     {
         match self.place {
             ReplyPlace::Over => return Err(ReplyFault::NotAReply),

@@ -1,4 +1,4 @@
-//! What the head of a reply says of the body behind it.
+//! What the head of a reply says of the body after it.
 ghost use Rattle.std.specs.Prelude.{◌≡◌, ◌≤◌, map, length, MatchOption, None, Some};
 ghost use Rattle.httparse.specs.Borrowed.{header_parts};
 ghost use Rattle.sv_http.specs.ReplyStream.{body_size};
@@ -20,7 +20,7 @@ pub(crate) enum Verdict {
     Unfinished,
     /// No reply, whatever follows.
     Never,
-    /// A head of so many bytes, behind which a body of so many bytes follows.
+    /// A head of so many bytes, after which a body of so many bytes follows.
     Head {
         count: usize,
         status: u16,

@@ -24,7 +24,7 @@ use Rattle.sv_http.specs.declared.guard.Guard.{Guard}
 use Rattle.sv_http_laws.proofs.Visible.{all_by, all_reversed, are_digits, both, digits_visible, number_back, skips_all, skips_none, visible_value}
 use Rattle.sv_http_laws.specs.Sendable.{LetsIn, is_visible}
 
--- a field behind whose colon stands a space
+-- a field after whose colon stands a space
 abbrev pub field_of : List ℕ → List ℕ → Field
 field_of name value = record { name = name; raw = 32 ∷ value; end = crlf }
 

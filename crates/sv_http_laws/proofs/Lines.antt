@@ -76,7 +76,7 @@ passes_line text lines inner behind =
     ∙ ap (λ found. option_map (λ size. length text + size) (option_map (λ size. 1 + size) found)) behind
     ∙ ap Some (line_size (length (head_of lines)) text (head_of lines) refl)
 
--- behind the line feed of a line
+-- after the line feed of a line
 behind_feed : (lines : List (List ℕ)) → AreLines lines → head_length (10 ∷ head_of lines) ≡ Some (1 + length (head_of lines))
 behind_feed [] none = refl
 behind_feed (text ∷ lines) (more line_is are) =

@@ -63,7 +63,7 @@ fn play(rt: &impl Abort, alloc: Global, row: &(&str, u64)) {
     assert!(rt; cut.held() == *expected);
 }
 
-/// A front, a byte that stands so often, and what follows it.
+/// A prefix, a byte that stands so often, and what follows it.
 fn repeated(
     rt: &impl Abort,
     alloc: Global,
