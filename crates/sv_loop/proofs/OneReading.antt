@@ -11,15 +11,15 @@ use Rattle.sv_journal.specs.JournalLine.{order_line}
 use Rattle.sv_journal.specs.Limits.{line_limit}
 use Rattle.sv_journal.specs.declared.header.Header.{Header}
 use Rattle.sv_journal.specs.declared.header.Header.TheVariants as header_is
-use Rattle.sv_loop.specs.JournalPlaces.{Line, line_text, FitsLine, Stage, Verdict, heads, judged, Walked, behind, walks_on, walked, journal_text, AllFit, IsMisplaced, IsRefused, IsUnconfigured}
+use Rattle.sv_loop.specs.JournalPlaces.{Line, line_text, FitsLine, Stage, Verdict, heads, judged, Walked, behind, walks_on, walked, journal_text, AllFit, IsBadLine, IsNotAccepted, IsNotConfigured}
 use Rattle.sv_loop.specs.JournalPlaces.Line.{Head, Said, Noted}
 use Rattle.sv_loop.specs.JournalPlaces.Stage.{Fresh, Named, Long, Running}
-use Rattle.sv_loop.specs.JournalPlaces.Verdict.{Stands, Misplaced, Refused, Faulty}
+use Rattle.sv_loop.specs.JournalPlaces.Verdict.{Stands, BadLine, NotAccepted, NotConfigured}
 use Rattle.sv_loop.specs.JournalPlaces.Walked.{Reaches, Stops}
-use Rattle.sv_loop.specs.Reading.{has_feed, IsRead, IsWhole, OutsideGrammar, NotAccepted, NotConfigured}
+use Rattle.sv_loop.specs.Reading.{has_feed, IsRead, IsWhole, OutsideGrammar, UnacceptedLine, UnconfiguredLine}
 use Rattle.sv_loop.specs.Replaying.{EndsTooEarly, IsBeforeGo, Replays, TellsWhy, journal_limit, status_number}
 use Rattle.sv_loop.specs.WholeJournal.{HoldsGoodJournal, IsDoneOrHindered}
-use Rattle.sv_loop.specs.WholeJournal.IsDoneOrHindered.{Is_done, Source_failed, Words_refused, No_memory, Sink_failed}
+use Rattle.sv_loop.specs.WholeJournal.IsDoneOrHindered.{Is_done, Source_failed, No_memory, Sink_failed}
 use Rattle.sv_loop.specs.declared.replaying.Status.{Status}
 use Rattle.sv_loop.specs.declared.replaying.Status.TheVariants as status
 use Rattle.sv_out.specs.declared.order.Order.{Order}
@@ -63,7 +63,7 @@ no_longer (c ∷ text) x (d ∷ line) y none e =
     let same : line ++ 10 ∷ y ≡ text ++ x = cc in
     let rest : length text ≤ length line = no_longer text x line y (or_right (c == 10) (has_feed text) none) same in omega arith
 
-pub no_header_behind_go : (m : Model) (header : Header) → heads (Running m) header ≡ Misplaced
+pub no_header_behind_go : (m : Model) (header : Header) → heads (Running m) header ≡ BadLine
 no_header_behind_go m (header_is.Journal version) = refl
 no_header_behind_go m (header_is.Program program) = refl
 no_header_behind_go m (header_is.Host name) = refl
@@ -76,7 +76,7 @@ no_header_behind_go m (header_is.Include name more) = refl
 no_header_behind_go m (header_is.Go start) = refl
 
 pub no_head : (m : Model) (header : Header) (to : Stage) (given : List Order) → heads (Running m) header ≡ Stands to given → ⊥
-no_head m header to given e = let both : Misplaced ≡ Stands to given = sym (no_header_behind_go m header) ∙ e in cc
+no_head m header to given e = let both : BadLine ≡ Stands to given = sym (no_header_behind_go m header) ∙ e in cc
 
 behind_mark : (one other : List ℕ) → codes "> " ++ one ≡ codes "> " ++ other → one ≡ other
 behind_mark one other e = cc
@@ -124,9 +124,9 @@ step_in at to line lines last given all Stops stands walks e = cc
 pub step_of : (verdict : Verdict) (at : Stage) (line : Line) (lines : List Line) (last : Stage) (all : List Order)
     → judged at line ≡ verdict → walks_on verdict (λ next. walked next lines) ≡ Reaches last all → Step at line lines last
 step_of (Stands to given) at line lines last all stands e = step_in at to line lines last given all (walked to lines) stands refl e
-step_of Misplaced at line lines last all stands e = cc
-step_of Refused at line lines last all stands e = cc
-step_of (Faulty fault) at line lines last all stands e = cc
+step_of BadLine at line lines last all stands e = cc
+step_of NotAccepted at line lines last all stands e = cc
+step_of (NotConfigured fault) at line lines last all stands e = cc
 
 -- from this place on, the bytes are a good journal
 record Onward (at : Stage) (bytes : List ℕ) : Type 0 where
@@ -197,22 +197,22 @@ not_long (line ∷ lines) text x fit none e =
     let short : length (line_text line) ≤ line_limit = fit.1 in
     omega arith
 
-pub stands_not : (at : Stage) (text : List ℕ) → Stood at text → IsMisplaced at text → ⊥
+pub stands_not : (at : Stage) (text : List ℕ) → Stood at text → IsBadLine at text → ⊥
 stands_not at text s misplaced =
-    let lost : judged at s.line ≡ Misplaced = misplaced s.line s.fits s.spelled (subst (λ (t : List ℕ). length t ≤ line_limit) s.spelled s.short) in
+    let lost : judged at s.line ≡ BadLine = misplaced s.line s.fits s.spelled (subst (λ (t : List ℕ). length t ≤ line_limit) s.spelled s.short) in
     let stands = s.stands in
-    let both : Stands s.to s.given ≡ Misplaced = sym stands ∙ lost in cc
+    let both : Stands s.to s.given ≡ BadLine = sym stands ∙ lost in cc
 
 pub never_refused : (at : Stage) (text : List ℕ) (line : Line) (to : Stage) (given : List Order) → FitsLine line → line_text line ≡ text
-    → judged at line ≡ Stands to given → IsRefused at text → ⊥
+    → judged at line ≡ Stands to given → IsNotAccepted at text → ⊥
 never_refused Fresh text line to given fits spelled stands r = let no = r.refused in cc
 never_refused (Named groups) text line to given fits spelled stands r = let no = r.refused in cc
 never_refused (Long place) text line to given fits spelled stands r = let no = r.refused in cc
 never_refused (Running m) text (Head header) to given fits spelled stands r = no_head m header to given stands
 never_refused (Running m) text (Said input) to given fits spelled stands r =
     let same : r.input ≡ input = one_input r.input input r.fits fits (r.spelled ∙ sym spelled) in
-    let no : judged (Running m) (Said input) ≡ Refused = ap (λ i. judged (Running m) (Said i)) (sym same) ∙ r.refused in
-    let both : Stands to given ≡ Refused = sym stands ∙ no in cc
+    let no : judged (Running m) (Said input) ≡ NotAccepted = ap (λ i. judged (Running m) (Said i)) (sym same) ∙ r.refused in
+    let both : Stands to given ≡ NotAccepted = sym stands ∙ no in cc
 never_refused (Running m) text (Noted order) to given fits spelled stands r =
     marked_input r.input (order_line order) r.fits (r.spelled ∙ sym spelled)
 
@@ -227,7 +227,7 @@ outside at text rest left none on (inr long) =
     let short : length text ≤ line_limit = not_long on.lines text (rest ++ left) on.fit none (on.spelled ∙ append_assoc text rest left) in
     omega arith
 
-refused : (at : Stage) (text rest left : List ℕ) → has_feed text ≡ false → Onward at ((text ++ rest) ++ left) → NotAccepted at text rest → ⊥
+refused : (at : Stage) (text rest left : List ℕ) → has_feed text ≡ false → Onward at ((text ++ rest) ++ left) → UnacceptedLine at text rest → ⊥
 refused at text rest left none on (whole, r) =
     let s = stood on.lines at on.model on.given text (whole.behind ++ left) on.fit on.walks none (on.spelled ∙ whole_line text rest left whole) in
     never_refused at text s.line s.to s.given s.fits s.spelled s.stands r
@@ -235,11 +235,11 @@ refused at text rest left none on (whole, r) =
 pub why_stands : (verdict : Verdict) (to : Stage) (given : List Order) (closing : List ℕ) → verdict ≡ Stands to given → TellsWhy verdict closing → ⊥
 why_stands verdict to given closing e why = subst (λ (v : Verdict). TellsWhy v closing) e why
 
-pub why_misplaced : (verdict : Verdict) (closing : List ℕ) → verdict ≡ Misplaced → TellsWhy verdict closing → ⊥
+pub why_misplaced : (verdict : Verdict) (closing : List ℕ) → verdict ≡ BadLine → TellsWhy verdict closing → ⊥
 why_misplaced verdict closing e why = subst (λ (v : Verdict). TellsWhy v closing) e why
 
 pub never_unconfigured : (at : Stage) (text closing : List ℕ) (verdict : Verdict) (line : Line) (to : Stage) (given : List Order) → FitsLine line → line_text line ≡ text
-    → judged at line ≡ Stands to given → IsUnconfigured at text verdict → TellsWhy verdict closing → ⊥
+    → judged at line ≡ Stands to given → IsNotConfigured at text verdict → TellsWhy verdict closing → ⊥
 never_unconfigured at text closing verdict (Head header) to given fits spelled stands u why =
     let same : u.header ≡ header = one_header u.header header u.fits fits (u.spelled ∙ sym spelled) in
     why_stands verdict to given closing (sym u.judged_so ∙ ap (heads at) same ∙ stands) why
@@ -255,7 +255,7 @@ never_unconfigured (Running m) text closing verdict (Noted order) to given fits 
     why_misplaced verdict closing (sym u.judged_so ∙ no_header_behind_go m u.header) why
 
 unconfigured : (at : Stage) (text rest left closing : List ℕ) (verdict : Verdict) → has_feed text ≡ false → Onward at ((text ++ rest) ++ left)
-    → NotConfigured verdict at text rest → TellsWhy verdict closing → ⊥
+    → UnconfiguredLine verdict at text rest → TellsWhy verdict closing → ⊥
 unconfigured at text rest left closing verdict none on (whole, u) why =
     let s = stood on.lines at on.model on.given text (whole.behind ++ left) on.fit on.walks none (on.spelled ∙ whole_line text rest left whole) in
     never_unconfigured at text closing verdict s.line s.to s.given s.fits s.spelled s.stands u why
@@ -302,7 +302,7 @@ by_row : (good : List Line) (m : Model) (given : List Order) (left : List ℕ) (
     → Replays got (Some (journal_text good)) (Some left) old new → IsDoneOrHindered (status_number got)
 by_row good m given left old new status.Done fits goes short row = Is_done
 by_row good m given left old new status.SourceFailed fits goes short row = Source_failed
-by_row good m given left old new status.WordsRefused fits goes short row = Words_refused
+by_row good m given left old new status.WordsRefused fits goes short row = absurd row
 by_row good m given left old new status.NoMemory fits goes short row = No_memory
 by_row good m given left old new status.SinkFailed fits goes short row = Sink_failed
 by_row good m given left old new status.BadLine fits goes short row =
@@ -327,7 +327,7 @@ by_left : (good : List Line) (m : Model) (given : List Order) (left_after old ne
 by_left good m given (Some left) old new got fits goes short row = by_row good m given left old new got fits goes short row
 by_left good m given None old new status.Done fits goes short row = Is_done
 by_left good m given None old new status.SourceFailed fits goes short row = Source_failed
-by_left good m given None old new status.WordsRefused fits goes short row = Words_refused
+by_left good m given None old new status.WordsRefused fits goes short row = absurd row
 by_left good m given None old new status.NoMemory fits goes short row = No_memory
 by_left good m given None old new status.SinkFailed fits goes short row = Sink_failed
 by_left good m given None old new status.BadLine fits goes short row = absurd (taken_from good None row.bytes row.taken.consumed refl)

@@ -13,7 +13,7 @@ use Rattle.sv_loop.proofs.OneReading.{no_head, no_header_behind_go, why_misplace
 use Rattle.sv_loop.specs.JournalPlaces.{Line, Stage, Verdict, Walked, begins, behind, goes_on, heads, judged, long_heads, moved, titles, walked, walks_on}
 use Rattle.sv_loop.specs.JournalPlaces.Line.{Head, Said, Noted}
 use Rattle.sv_loop.specs.JournalPlaces.Stage.{Fresh, Named, Long, Running}
-use Rattle.sv_loop.specs.JournalPlaces.Verdict.{Stands, Misplaced, Refused, Faulty}
+use Rattle.sv_loop.specs.JournalPlaces.Verdict.{Stands, BadLine, NotAccepted, NotConfigured}
 use Rattle.sv_loop.specs.JournalPlaces.Walked.{Reaches, Stops}
 use Rattle.sv_loop.specs.Replaying.{IsBeforeGo, TellsWhy}
 use Rattle.sv_loop.specs.LongHeader.{starting_at}
@@ -75,7 +75,7 @@ head_quiet Fresh (header_is.Include name more) to given e = cc
 head_quiet Fresh (header_is.Go start) to given e = cc
 head_quiet (Named groups) (header_is.Journal version) to given e = cc
 head_quiet (Named groups) (header_is.Program program) to given e =
-    if_quiet (is_roster (placed (group_of program) groups)) (Named (placed (group_of program) groups)) Misplaced to given (λ same. cc) e
+    if_quiet (is_roster (placed (group_of program) groups)) (Named (placed (group_of program) groups)) BadLine to given (λ same. cc) e
 head_quiet (Named groups) (header_is.Host name) to given e = cc
 head_quiet (Named groups) (header_is.Here here) to given e = cc
 head_quiet (Named groups) (header_is.Pid pid) to given e = cc
@@ -92,7 +92,7 @@ head_quiet (Long (Configured host sizes conf included)) header to given e = conf
 head_quiet (Running m) header to given e = absurd (no_head m header to given e)
 
 said_behind_go : (m : Model) (input : Input) (accepted : Bool) (to : Stage) (given : List Order)
-    → (if accepted then Stands (Running (next m input)) (orders m input) else Refused) ≡ Stands to given → IsBeforeGo to → ⊥
+    → (if accepted then Stands (Running (next m input)) (orders m input) else NotAccepted) ≡ Stands to given → IsBeforeGo to → ⊥
 said_behind_go m input true to given e before = let same : to ≡ Running (next m input) = cc in subst IsBeforeGo same before
 said_behind_go m input false to given e before = cc
 
@@ -130,9 +130,9 @@ step_quiet (Stands to first) from line lines at given stands later e =
     let tail = behind_quiet first (walked to lines) to at given (later to) e in
     let step = line_quiet from line to first stands tail.0 in
     (step.0, tail.1 step.1)
-step_quiet Misplaced from line lines at given stands later e = cc
-step_quiet Refused from line lines at given stands later e = cc
-step_quiet (Faulty fault) from line lines at given stands later e = cc
+step_quiet BadLine from line lines at given stands later e = cc
+step_quiet NotAccepted from line lines at given stands later e = cc
+step_quiet (NotConfigured fault) from line lines at given stands later e = cc
 
 -- lines that lead to a place before `go` give no orders
 pub quiet_until : (lines : List Line) (from at : Stage) (given : List Order) → walked from lines ≡ Reaches at given → IsBeforeGo at

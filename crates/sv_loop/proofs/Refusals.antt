@@ -6,15 +6,15 @@ use Rattle.sv_journal.specs.JournalLine.{FitsHeader, header_line}
 use Rattle.sv_journal.specs.Limits.{line_limit}
 use Rattle.sv_journal.specs.declared.header.Header.{Header}
 use Rattle.sv_loop.proofs.OneReading.{plain_line, feed_in, same_front, no_longer, step_of, never_refused, never_unconfigured, no_header_behind_go, same_line, stands_not, whole_line, why_misplaced, Stood}
-use Rattle.sv_loop.specs.JournalPlaces.{Line, line_text, Stage, Verdict, heads, judged, walked, journal_text, AllFit, IsMisplaced, IsRefused, IsUnconfigured}
+use Rattle.sv_loop.specs.JournalPlaces.{Line, line_text, Stage, Verdict, heads, judged, walked, journal_text, AllFit, IsBadLine, IsNotAccepted, IsNotConfigured}
 use Rattle.sv_loop.specs.JournalPlaces.Line.{Head}
 use Rattle.sv_loop.specs.JournalPlaces.Stage.{Fresh, Named, Long, Running}
 use Rattle.sv_loop.specs.JournalPlaces.Verdict.{Stands}
 use Rattle.sv_loop.specs.JournalPlaces.Walked.{Reaches}
-use Rattle.sv_loop.specs.Reading.{has_feed, IsRead, OutsideGrammar, NotAccepted}
+use Rattle.sv_loop.specs.Reading.{has_feed, IsRead, OutsideGrammar, UnacceptedLine}
 use Rattle.sv_loop.specs.Replaying.{EndsTooEarly, Replays, TellsWhy, journal_limit, status_number}
 use Rattle.sv_loop.specs.WholeJournal.{HoldsUnconfigured, IsUnconfiguredOrHindered}
-use Rattle.sv_loop.specs.WholeJournal.IsUnconfiguredOrHindered.{Is_unconfigured, Source_failed, Words_refused, No_memory, Sink_failed}
+use Rattle.sv_loop.specs.WholeJournal.IsUnconfiguredOrHindered.{Is_unconfigured, Source_failed, No_memory, Sink_failed}
 use Rattle.sv_loop.specs.declared.replaying.Status.{Status}
 use Rattle.sv_loop.specs.declared.replaying.Status.TheVariants as status
 use Rattle.sv_out.specs.declared.order.Order.{Order}
@@ -41,7 +41,7 @@ record Refusing (from : Stage) (bytes : List ℕ) (room : ℕ) : Type 0 where
   spelled : journal_text lines ++ (header_line refusal.last ++ 10 ∷ behind) ≡ bytes
   within : length (journal_text lines) + (length (header_line refusal.last) + 1) ≤ room
 
-unconfigured_text : (at : Stage) (r : Refusal at) (text : List ℕ) → header_line r.last ≡ text → IsUnconfigured at text r.verdict
+unconfigured_text : (at : Stage) (r : Refusal at) (text : List ℕ) → header_line r.last ≡ text → IsNotConfigured at text r.verdict
 unconfigured_text at r text e = record {
   header = r.last;
   fits = r.fits;
@@ -137,18 +137,18 @@ next_of : (from : Stage) (text back : List ℕ) (room : ℕ) → has_feed text �
 next_of from text back room none on =
     next_line on.lines from on.at on.given on.refusal text on.behind back on.fit on.walks none on.spelled
 
-ends_not : (from : Stage) (text : List ℕ) → EndsHere from text → IsMisplaced from text → ⊥
+ends_not : (from : Stage) (text : List ℕ) → EndsHere from text → IsBadLine from text → ⊥
 ends_not from text ends misplaced =
     let r = ends.refusal in
     let short = subst (λ (t : List ℕ). length t ≤ line_limit) ends.spelled r.short in
     why_misplaced r.verdict r.closing (sym r.judged_so ∙ misplaced (Head r.last) r.fits ends.spelled short) r.why
 
-next_misplaced : (from : Stage) (text : List ℕ) → Stood from text ⊎ EndsHere from text → IsMisplaced from text → ⊥
+next_misplaced : (from : Stage) (text : List ℕ) → Stood from text ⊎ EndsHere from text → IsBadLine from text → ⊥
 next_misplaced from text (inl s) misplaced = stands_not from text s misplaced
 next_misplaced from text (inr ends) misplaced = ends_not from text ends misplaced
 
 -- a header's line isn't an input that isn't accepted
-ends_unrefused : (from : Stage) (text : List ℕ) → EndsHere from text → IsRefused from text → ⊥
+ends_unrefused : (from : Stage) (text : List ℕ) → EndsHere from text → IsNotAccepted from text → ⊥
 ends_unrefused Fresh text ends r = let no = r.refused in cc
 ends_unrefused (Named groups) text ends r = let no = r.refused in cc
 ends_unrefused (Long place) text ends r = let no = r.refused in cc
@@ -156,7 +156,7 @@ ends_unrefused (Running m) text ends r =
     let f = ends.refusal in
     why_misplaced f.verdict f.closing (sym f.judged_so ∙ no_header_behind_go m f.last) f.why
 
-next_refused : (from : Stage) (text : List ℕ) → Stood from text ⊎ EndsHere from text → IsRefused from text → ⊥
+next_refused : (from : Stage) (text : List ℕ) → Stood from text ⊎ EndsHere from text → IsNotAccepted from text → ⊥
 next_refused from text (inl s) r = never_refused from text s.line s.to s.given s.fits s.spelled s.stands r
 next_refused from text (inr ends) r = ends_unrefused from text ends r
 
@@ -186,7 +186,7 @@ outside from text rest left room none on (inr long) =
     omega arith
 
 not_accepted : (from : Stage) (text rest left : List ℕ) (room : ℕ) → has_feed text ≡ false → Refusing from ((text ++ rest) ++ left) room
-    → NotAccepted from text rest → ⊥
+    → UnacceptedLine from text rest → ⊥
 not_accepted from text rest left room none on (whole, r) =
     let moved : Refusing from (text ++ 10 ∷ (whole.behind ++ left)) room = subst (λ (z : List ℕ). Refusing from z room) (whole_line text rest left whole) on in
     next_refused from text (next_of from text (whole.behind ++ left) room none moved) r
@@ -224,7 +224,7 @@ refusal_of all h = record {
 some_same : (one other : List ℕ) → Some one ≡ Some other → one ≡ other
 some_same one other e = cc
 
--- what was read is a front of the header, and what is left goes on with it
+-- what was read is a prefix of the header, and what is left goes on with it
 refusing_read : (all bytes left : List ℕ) (h : HoldsUnconfigured (Some all)) (got : List Order) (lines : List Line) (at : Stage) (text rest : List ℕ) (room : ℕ)
     → all ≡ bytes ++ left → IsRead bytes got lines at text rest → journal_limit ≤ length (journal_text lines) + room → Refusing at ((text ++ rest) ++ left) room
 refusing_read all bytes left h got lines at text rest room e read enough =
@@ -252,7 +252,7 @@ too_many all bytes left one h got lines at text e read size =
 by_row : (all left : List ℕ) (h : HoldsUnconfigured (Some all)) (old new : Option (List ℕ)) (got : Status)
     → Replays got (Some all) (Some left) old new → IsUnconfiguredOrHindered (status_number got)
 by_row all left h old new status.SourceFailed row = Source_failed
-by_row all left h old new status.WordsRefused row = Words_refused
+by_row all left h old new status.WordsRefused row = absurd row
 by_row all left h old new status.NoMemory row = No_memory
 by_row all left h old new status.SinkFailed row = Sink_failed
 by_row all left h old new status.NotConfigured row = Is_unconfigured
@@ -275,7 +275,7 @@ by_left : (all : List ℕ) (h : HoldsUnconfigured (Some all)) (left_after old ne
     → Replays got (Some all) left_after old new → IsUnconfiguredOrHindered (status_number got)
 by_left all h (Some left) old new got row = by_row all left h old new got row
 by_left all h None old new status.SourceFailed row = Source_failed
-by_left all h None old new status.WordsRefused row = Words_refused
+by_left all h None old new status.WordsRefused row = absurd row
 by_left all h None old new status.NoMemory row = No_memory
 by_left all h None old new status.SinkFailed row = Sink_failed
 by_left all h None old new status.NotConfigured row = Is_unconfigured

@@ -4,15 +4,15 @@ use Rattle.std.proofs.KnownBytes.{Appends-nil, Appends-trans}
 use Rattle.std.specs.Io.KnownBytes.{Appends}
 use Rattle.sv_journal.specs.Limits.{line_limit}
 use Rattle.sv_loop.proofs.Walks.{journal_text_more, order_text_append, all_fit_more, walked_more}
-use Rattle.sv_loop.specs.JournalPlaces.{Line, line_text, Stage, Verdict, journal_text, order_text, IsMisplaced, IsRefused, IsUnconfigured}
+use Rattle.sv_loop.specs.JournalPlaces.{Line, line_text, Stage, Verdict, journal_text, order_text, IsBadLine, IsNotAccepted, IsNotConfigured}
 use Rattle.sv_loop.specs.JournalPlaces.Stage.{Fresh}
-use Rattle.sv_loop.specs.JournalPlaces.Verdict.{Faulty as As_faulty}
+use Rattle.sv_loop.specs.JournalPlaces.Verdict.{NotConfigured as As_not_configured}
 use Rattle.sv_loop.specs.Judging.{LeadsTo}
 use Rattle.std.proofs.lemmas.List.Folds.{list_any-append}
-use Rattle.sv_loop.specs.Reading.{Holds, has_feed, IsCut, IsRead, IsAt, GoesOn, AtFault, IsWhole, OutsideGrammar, NotAccepted, NotConfigured, Anything, HalfWritten, StopsAt, Unwrote}
+use Rattle.sv_loop.specs.Reading.{Holds, has_feed, IsCut, IsRead, IsAt, GoesOn, AtFault, IsWhole, OutsideGrammar, UnacceptedLine, UnconfiguredLine, Anything, HalfWritten, StopsAt, Unwrote}
 use Rattle.sv_loop.specs.declared.judge.Place.{Place}
 use Rattle.sv_loop.specs.declared.run.End.{End}
-use Rattle.sv_loop.specs.declared.run.End.TheVariants.{Misplaced, Refused, Faulty, NoMemory, Unwritten}
+use Rattle.sv_loop.specs.declared.run.End.TheVariants.{BadLine, NotAccepted, NotConfigured, NoMemory, SinkFailed}
 use Rattle.sv_loop.specs.declared.run.Run.{Run}
 use Rattle.sv_out.specs.Written.{AppendsFront}
 use Rattle.sv_out.specs.declared.order.Order.{Order}
@@ -39,7 +39,7 @@ pub holds_of : (run : Run) (lines : List Line) (at : Stage) (given : List Order)
     → Holds run.lines lines at given bytes run.line.items
 holds_of run lines at given bytes is = record { read = is.read; short = is.short; count_is = is.count }
 
--- a line that lies whole behind all that was taken
+-- a line that lies whole after all that was taken
 pub holds_line : (run : Run) (lines : List Line) (at : Stage) (given : List Order) (bytes text : List ℕ) → IsAt run lines at given bytes
     → run.line.items ≡ [] → has_feed text ≡ false → length text ≤ line_limit → Holds run.lines lines at given (bytes ++ text) text
 holds_line run lines at given bytes text is empty unbroken short = record {
@@ -121,34 +121,34 @@ unwritten count lines at given bytes text place orders old new is leads wrote =
 pub stopped_at_write : (end : End) (count : ℕ) (later : Run) (lines : List Line) (at : Stage) (given : List Order) (bytes text : List ℕ)
     (place : Place) (orders : List Order) (old new : Option (List ℕ)) → Holds count lines at given bytes text → LeadsTo at text place orders
     → later.lines ≡ count → Unwrote end (order_text orders) old new → StopsAt end later (bytes ++ 10 ∷ []) given old new
-stopped_at_write Misplaced count later lines at given bytes text place orders old new is leads counted wrote = absurd wrote
-stopped_at_write Refused count later lines at given bytes text place orders old new is leads counted wrote = absurd wrote
-stopped_at_write (Faulty fault) count later lines at given bytes text place orders old new is leads counted wrote = absurd wrote
+stopped_at_write BadLine count later lines at given bytes text place orders old new is leads counted wrote = absurd wrote
+stopped_at_write NotAccepted count later lines at given bytes text place orders old new is leads counted wrote = absurd wrote
+stopped_at_write (NotConfigured fault) count later lines at given bytes text place orders old new is leads counted wrote = absurd wrote
 stopped_at_write NoMemory count later lines at given bytes text place orders old new is leads counted wrote =
     at_fault count later Anything lines at given bytes text (10 ∷ []) old new is counted tt wrote
-stopped_at_write Unwritten count later lines at given bytes text place orders old new is leads counted wrote =
+stopped_at_write SinkFailed count later lines at given bytes text place orders old new is leads counted wrote =
     unwritten count lines at given bytes text place orders old new is leads wrote
 
 whole : IsWhole (10 ∷ [])
 whole = record { behind = []; feed = refl }
 
 pub misplaced : (count : ℕ) (later : Run) (lines : List Line) (at : Stage) (given : List Order) (bytes text : List ℕ) (same : Option (List ℕ))
-    → Holds count lines at given bytes text → later.lines ≡ count → IsMisplaced at text
+    → Holds count lines at given bytes text → later.lines ≡ count → IsBadLine at text
     → AtFault later OutsideGrammar (bytes ++ 10 ∷ []) given same same
 misplaced count later lines at given bytes text same is counted cause =
     at_fault count later OutsideGrammar lines at given bytes text (10 ∷ []) same same is counted (inl (whole, cause)) (Appends-nil same)
 
 pub refused : (count : ℕ) (later : Run) (lines : List Line) (at : Stage) (given : List Order) (bytes text : List ℕ) (same : Option (List ℕ))
-    → Holds count lines at given bytes text → later.lines ≡ count → IsRefused at text
-    → AtFault later NotAccepted (bytes ++ 10 ∷ []) given same same
+    → Holds count lines at given bytes text → later.lines ≡ count → IsNotAccepted at text
+    → AtFault later UnacceptedLine (bytes ++ 10 ∷ []) given same same
 refused count later lines at given bytes text same is counted cause =
-    at_fault count later NotAccepted lines at given bytes text (10 ∷ []) same same is counted (whole, cause) (Appends-nil same)
+    at_fault count later UnacceptedLine lines at given bytes text (10 ∷ []) same same is counted (whole, cause) (Appends-nil same)
 
 pub unconfigured : (count : ℕ) (later : Run) (verdict : Verdict) (lines : List Line) (at : Stage) (given : List Order) (bytes text : List ℕ)
-    (same : Option (List ℕ)) → Holds count lines at given bytes text → later.lines ≡ count → IsUnconfigured at text verdict
-    → AtFault later (NotConfigured verdict) (bytes ++ 10 ∷ []) given same same
+    (same : Option (List ℕ)) → Holds count lines at given bytes text → later.lines ≡ count → IsNotConfigured at text verdict
+    → AtFault later (UnconfiguredLine verdict) (bytes ++ 10 ∷ []) given same same
 unconfigured count later verdict lines at given bytes text same is counted cause =
-    at_fault count later (NotConfigured verdict) lines at given bytes text (10 ∷ []) same same is counted (whole, cause) (Appends-nil same)
+    at_fault count later (UnconfiguredLine verdict) lines at given bytes text (10 ∷ []) same same is counted (whole, cause) (Appends-nil same)
 
 pub no_memory : (count : ℕ) (later : Run) (lines : List Line) (at : Stage) (given : List Order) (bytes text more : List ℕ) (same : Option (List ℕ))
     → Holds count lines at given bytes text → later.lines ≡ count → AtFault later Anything (bytes ++ more) given same same
@@ -265,19 +265,19 @@ pub stops_further : (end : End) (run later : Run) (bytes piece more : List ℕ) 
     → GoesOn run bytes given one two
     → ((lines : List Line) (at : Stage) (g : List Order) (b : List ℕ) → IsAt run lines at g b → StopsAt end later (b ++ piece) g two three)
     → StopsAt end later ((bytes ++ piece) ++ more) given one three
-stops_further Misplaced run later bytes piece more given one two three first step =
+stops_further BadLine run later bytes piece more given one two three first step =
     fault_later later OutsideGrammar (bytes ++ piece) more given first.more one two three (outside_later more) first.wrote
     (step first.lines first.at (given ++ first.more) bytes first.is_at)
-stops_further Refused run later bytes piece more given one two three first step =
-    fault_later later NotAccepted (bytes ++ piece) more given first.more one two three (λ at text rest w. (whole_later rest more w.0, w.1)) first.wrote
+stops_further NotAccepted run later bytes piece more given one two three first step =
+    fault_later later UnacceptedLine (bytes ++ piece) more given first.more one two three (λ at text rest w. (whole_later rest more w.0, w.1)) first.wrote
     (step first.lines first.at (given ++ first.more) bytes first.is_at)
-stops_further (Faulty fault) run later bytes piece more given one two three first step =
-    fault_later later (NotConfigured (As_faulty fault)) (bytes ++ piece) more given first.more one two three
+stops_further (NotConfigured fault) run later bytes piece more given one two three first step =
+    fault_later later (UnconfiguredLine (As_not_configured fault)) (bytes ++ piece) more given first.more one two three
     (λ at text rest w. (whole_later rest more w.0, w.1)) first.wrote (step first.lines first.at (given ++ first.more) bytes first.is_at)
 stops_further NoMemory run later bytes piece more given one two three first step =
     fault_later later Anything (bytes ++ piece) more given first.more one two three (λ at text rest w. tt) first.wrote
     (step first.lines first.at (given ++ first.more) bytes first.is_at)
-stops_further Unwritten run later bytes piece more given one two three first step =
+stops_further SinkFailed run later bytes piece more given one two three first step =
     let half = step first.lines first.at (given ++ first.more) bytes first.is_at in
     record {
       lines = half.lines;
@@ -326,7 +326,7 @@ goes_past_feed run later bytes text given one two three first step =
     subst (λ (b : List ℕ). GoesOn later b given one three) (append_assoc bytes text (10 ∷ []))
     (goes_further run later (bytes ++ text) (10 ∷ []) given one two three first step)
 
--- a piece is what was taken of it, the line that is cut off, and what is behind
+-- a piece is what was taken of it, the line that is cut off, and what is after
 pub taken_to_line : (piece front rest line behind : List ℕ) → piece ≡ front ++ rest → IsCut rest line behind
     → piece ≡ (front ++ (line ++ 10 ∷ [])) ++ behind
 taken_to_line piece front rest line behind split cut = rw (split, cut.is) (simp append_assoc)

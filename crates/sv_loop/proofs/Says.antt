@@ -1,4 +1,4 @@
--- Lines that lead behind `go` are a journal, and their orders are the deeds of its inputs.
+-- Lines that lead after `go` are a journal, and their orders are the deeds of its inputs.
 use Rattle.std.proofs.Common.{◌≡◌, ℕ, zero, suc, List, [], ◌∷◌, ◌++◌, Bool, true, false, refl, ap, subst, ◌∙◌, append-nil, Option, if◌then◌else◌}
 use Rattle.std.specs.Io.KnownBytes.{Appends, Consumes}
 use Rattle.sv_base.specs.Roster.{is_roster}
@@ -7,18 +7,19 @@ use Rattle.sv_core.specs.Deeds.{after, deeds}
 use Rattle.sv_core.specs.MachineState.{Model, opening}
 use Rattle.sv_journal.specs.declared.header.Header.TheVariants as header_is
 use Rattle.sv_journal.specs.declared.header.Program.{Program as Programs_line}
+use Rattle.sv_loop.proofs.Quiet.{quiet_until}
 use Rattle.sv_loop.proofs.SaysInputs.{says_inputs, quiet}
 use Rattle.sv_loop.proofs.SaysLong.{says_long}
-use Rattle.sv_loop.specs.JournalPlaces.{Line, titles, walks_on, walked, journal_text, order_text, AllFit}
+use Rattle.sv_loop.specs.JournalPlaces.{Line, Stage, titles, walks_on, walked, journal_text, order_text, AllFit}
 use Rattle.sv_loop.specs.JournalPlaces.Line.{Head, Said, Noted}
 use Rattle.sv_loop.specs.JournalPlaces.Stage.{Fresh, Named, Long, Running}
-use Rattle.sv_loop.specs.JournalPlaces.Verdict.{Stands, Misplaced}
+use Rattle.sv_loop.specs.JournalPlaces.Verdict.{Stands, BadLine}
 use Rattle.sv_loop.specs.JournalPlaces.Walked.{Reaches}
 use Rattle.sv_loop.specs.Replaying.{Done}
 use Rattle.sv_loop.specs.ShortHeader.{config_of, group_of, host_at, placed}
 use Rattle.sv_loop.specs.WholeJournal.Beginning.{Short as Of_programs, Long as Of_configuration}
 use Rattle.sv_loop.specs.declared.long.LongPlace.TheVariants.{Titled}
-use Rattle.sv_loop.specs.WholeJournal.{Entry, program_lines, entry_lines, inputs_in, groups_of, AllAccepted, SaysJournal, WritesDeeds}
+use Rattle.sv_loop.specs.WholeJournal.{Entry, program_lines, entry_lines, inputs_in, groups_of, AllAccepted, SaysJournal, TellsDeeds, WritesDeeds}
 use Rattle.sv_out.specs.declared.input.Input.{Input}
 use Rattle.sv_out.specs.declared.order.Order.{Order}
 
@@ -50,7 +51,7 @@ says_go (group ∷ groups) start lines m given e =
 
 by_roster : (groups : List GroupSpec) (program : Programs_line) (lines : List Line) (m : Model) (given : List Order) (whole : Bool)
     → ((g : List Order) → walked (Named (placed (group_of program) groups)) lines ≡ Reaches (Running m) g → SaysPrograms (placed (group_of program) groups) lines m g)
-    → walks_on (if whole then Stands (Named (placed (group_of program) groups)) [] else Misplaced) (λ n. walked n lines) ≡ Reaches (Running m) given
+    → walks_on (if whole then Stands (Named (placed (group_of program) groups)) [] else BadLine) (λ n. walked n lines) ≡ Reaches (Running m) given
     → SaysPrograms groups (Head (header_is.Program program) ∷ lines) m given
 by_roster groups program lines m given true later e =
     let rest = later given (quiet (walked (Named (placed (group_of program) groups)) lines) (Running m) given e) in
@@ -133,6 +134,12 @@ says_journal (Head (header_is.Size file size) ∷ lines) m given e = cc
 says_journal (Head (header_is.Conf text) ∷ lines) m given e = cc
 says_journal (Head (header_is.Include name more) ∷ lines) m given e = cc
 says_journal (Head (header_is.Go start) ∷ lines) m given e = cc
+
+pub tells_deeds : (lines : List Line) (at : Stage) (given : List Order) → walked Fresh lines ≡ Reaches at given → TellsDeeds lines at given
+tells_deeds lines Fresh given e = (quiet_until lines Fresh Fresh given e tt).1
+tells_deeds lines (Named groups) given e = (quiet_until lines Fresh (Named groups) given e tt).1
+tells_deeds lines (Long place) given e = (quiet_until lines Fresh (Long place) given e tt).1
+tells_deeds lines (Running m) given e = says_journal lines m given e
 
 pub writes_deeds : (left left_after old new : Option (List ℕ)) → Done left left_after old new → WritesDeeds left left_after old new
 writes_deeds left left_after old new done =

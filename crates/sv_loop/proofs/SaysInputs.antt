@@ -1,4 +1,4 @@
--- Lines behind `go` are inputs and orders, and what they give are the deeds of the inputs.
+-- Lines after `go` are inputs and orders, and what they give are the deeds of the inputs.
 use Rattle.std.proofs.Common.{◌≡◌, List, [], ◌∷◌, ◌++◌, Bool, true, false, refl, sym, ap, ◌∙◌, if◌then◌else◌}
 use Rattle.sv_core.specs.Deeds.{after, deeds}
 use Rattle.sv_core.specs.MachineState.{Model, accepts, next, orders}
@@ -6,7 +6,7 @@ use Rattle.sv_journal.specs.declared.header.Header.TheVariants as header_is
 use Rattle.sv_loop.specs.JournalPlaces.{Line, Stage, Walked, behind, walks_on, walked}
 use Rattle.sv_loop.specs.JournalPlaces.Line.{Head, Said, Noted}
 use Rattle.sv_loop.specs.JournalPlaces.Stage.{Running}
-use Rattle.sv_loop.specs.JournalPlaces.Verdict.{Stands, Refused}
+use Rattle.sv_loop.specs.JournalPlaces.Verdict.{Stands, NotAccepted}
 use Rattle.sv_loop.specs.JournalPlaces.Walked.{Reaches, Stops}
 use Rattle.sv_loop.specs.WholeJournal.{Entry, entry_lines, inputs_in, AllAccepted}
 use Rattle.sv_loop.specs.WholeJournal.Entry.{Told, Given}
@@ -39,7 +39,7 @@ one_more m input lines at given Stops later taken e = cc
 by_test : (m : Model) (input : Input) (lines : List Line) (at : Stage) (given : List Order) (accepted : Bool)
     → ((t : Stage) (g : List Order) → walked (Running (next m input)) lines ≡ Reaches t g → SaysInputs (next m input) lines t g)
     → accepts m input ≡ accepted
-    → walks_on (if accepted then Stands (Running (next m input)) (orders m input) else Refused) (λ n. walked n lines) ≡ Reaches at given
+    → walks_on (if accepted then Stands (Running (next m input)) (orders m input) else NotAccepted) (λ n. walked n lines) ≡ Reaches at given
     → SaysInputs m (Said input ∷ lines) at given
 by_test m input lines at given true later taken e = one_more m input lines at given (walked (Running (next m input)) lines) later taken e
 by_test m input lines at given false later taken e = cc

@@ -1,4 +1,4 @@
--- Lines that lead from the title of a long header behind `go` are the header's lines, and inputs with orders that are passed over.
+-- Lines that lead from the title of a long header after `go` are the header's lines, and inputs with orders that are passed over.
 use Rattle.std.proofs.Common.{◌≡◌, ℕ, List, [], ◌∷◌, ◌++◌, Bool, true, false, refl, sym, ap, subst, append_assoc, append-nil, Result, Ok, Err}
 use Rattle.sv_base.specs.declared.config.Config.{Config}
 use Rattle.sv_base.specs.declared.config.Host.{Host}
@@ -18,7 +18,7 @@ use Rattle.sv_loop.specs.declared.long.LongPlace.TheVariants.{Titled, Hosted, Lo
 use Rattle.sv_out.specs.declared.input.Input.{Input}
 use Rattle.sv_out.specs.declared.order.Order.{Order}
 
--- what the lines behind `go` say from a first state on
+-- what the lines after `go` say from a first state on
 record SaysFrom (first : Model) (inputs : List Input) (m : Model) (given : List Order) : Type 0 where
   accepted : AllAccepted first inputs
   state : m ≡ after first inputs
@@ -103,7 +103,7 @@ record SaysSizes (host : Host) (sizes : List (List ℕ × ℕ)) (lines : List Li
   spelled : lines ≡ size_lines more ++ Head (header_is.Conf conf) ∷ (include_lines included ++ go_lines start entries)
   says : SaysFrom first (inputs_in entries) m given
 
--- the configuration's text, behind these sizes
+-- the configuration's text, after these sizes
 says_conf : (host : Host) (sizes : List (List ℕ × ℕ)) (conf : List ℕ) (lines : List Line) (m : Model) (given : List Order)
     → walked (Long (Configured host sizes conf [])) lines ≡ Reaches (Running m) given → SaysSizes host sizes (Head (header_is.Conf conf) ∷ lines) m given
 says_conf host sizes conf lines m given e =

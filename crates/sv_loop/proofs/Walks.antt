@@ -4,7 +4,7 @@ use Rattle.std.proofs.lemmas.Grind.{flat_map-append}
 use Rattle.sv_journal.specs.JournalLine.{order_line}
 use Rattle.sv_journal.specs.Limits.{line_limit}
 use Rattle.sv_loop.specs.JournalPlaces.{Line, line_text, FitsLine, Stage, Verdict, judged, Walked, behind, walks_on, walked, journal_text, order_text, AllFit}
-use Rattle.sv_loop.specs.JournalPlaces.Verdict.{Stands, Misplaced, Refused, Faulty}
+use Rattle.sv_loop.specs.JournalPlaces.Verdict.{Stands, BadLine, NotAccepted, NotConfigured}
 use Rattle.sv_loop.specs.JournalPlaces.Walked.{Reaches, Stops}
 use Rattle.sv_out.specs.declared.order.Order.{Order}
 
@@ -36,9 +36,9 @@ step_more : (verdict : Verdict) (onward onward_more : Stage → Walked) (to next
     → walks_on verdict onward_more ≡ Reaches next (given ++ more)
 step_more (Stands n os) onward onward_more to next given more later e =
     behind_more os (onward n) (onward_more n) to next given more (later n) e
-step_more Misplaced onward onward_more to next given more later e = cc
-step_more Refused onward onward_more to next given more later e = cc
-step_more (Faulty fault) onward onward_more to next given more later e = cc
+step_more BadLine onward onward_more to next given more later e = cc
+step_more NotAccepted onward onward_more to next given more later e = cc
+step_more (NotConfigured fault) onward onward_more to next given more later e = cc
 
 last_step : (at to next : Stage) (line : Line) (given more : List Order)
     → Reaches at [] ≡ Reaches to given → judged to line ≡ Stands next more → walked at (line ∷ []) ≡ Reaches next (given ++ more)

@@ -39,8 +39,8 @@ FitsLine (Head header) = FitsHeader header
 FitsLine (Said input) = FitsInput input
 FitsLine (Noted order) = FitsOrder order
 
--- where in the journal a line stands: at its beginning, behind the title and some programs, in a long header, or
--- behind `go`
+-- where in the journal a line stands: at its beginning, after the title and some programs, in a long header, or
+-- after `go`
 pub data Stage : Type 0 where
   Fresh : Stage
   Named : List GroupSpec → Stage
@@ -51,19 +51,19 @@ pub data Stage : Type 0 where
 -- accepted; or the configuration has a fault
 pub data Verdict : Type 0 where
   Stands : Stage → List Order → Verdict
-  Misplaced : Verdict
-  Refused : Verdict
-  Faulty : ConfFault → Verdict
+  BadLine : Verdict
+  NotAccepted : Verdict
+  NotConfigured : ConfFault → Verdict
 
 -- a program is one more group, if a configuration can hold it: at most 256 groups, each name once
 abbrev pub adds : List GroupSpec → Verdict
-adds groups = if is_roster groups then Stands (Named groups) [] else Misplaced
+adds groups = if is_roster groups then Stands (Named groups) [] else BadLine
 
 -- version 0 has a short header, version 1 a long one
 abbrev pub titles : ℕ → Verdict
 titles zero = Stands (Named []) []
 titles (suc zero) = Stands (Long Titled) []
-titles (suc (suc version)) = Misplaced
+titles (suc (suc version)) = BadLine
 
 -- the lines of a long header before `go`, in their one order: `host`, `here`, `pid`, any `env`, any `size`, `conf`, any
 -- `include`
@@ -71,7 +71,7 @@ abbrev pub described : Bool → Host → List (List ℕ × ℕ) → Option LongP
 described true host sizes = Some (Described host sizes)
 described false host sizes = None
 
--- the place behind this line of a long header; none where the line has no place there
+-- the place after this line of a long header; none where the line has no place there
 abbrev pub goes_on : LongPlace → Header → Option LongPlace
 goes_on Titled (header_is.Host name) = Some (Hosted name)
 goes_on (Hosted name) (header_is.Here here) = Some (Located name here)
@@ -88,12 +88,12 @@ goes_on place header = None
 -- what is to be said of a line that leads there, or has no place
 abbrev pub moved : Option LongPlace → Verdict
 moved (Some place) = Stands (Long place) []
-moved None = Misplaced
+moved None = BadLine
 
 -- at `go` the daemon begins, if the configuration is accepted
 abbrev pub begins : Host → List (List ℕ × ℕ) → Result Config ConfFault → Verdict
 begins host sizes (Ok config) = Stands (Running (opening config sizes host)) []
-begins host sizes (Err fault) = Faulty fault
+begins host sizes (Err fault) = NotConfigured fault
 
 -- what is to be said of a line of a long header
 abbrev pub long_heads : LongPlace → Header → Verdict
@@ -108,17 +108,17 @@ heads (Named groups) (header_is.Program program) = adds (placed (group_of progra
 heads (Named (group ∷ groups)) (header_is.Go start) =
     Stands (Running (opening (config_of (group ∷ groups)) [] (host_at start))) []
 heads (Long place) header = long_heads place header
-heads stage header = Misplaced
+heads stage header = BadLine
 
 -- what is to be said of an input: it is taken where the machine accepts it
 abbrev pub says : Stage → Input → Verdict
-says (Running m) input = if accepts m input then Stands (Running (next m input)) (orders m input) else Refused
-says stage input = Misplaced
+says (Running m) input = if accepts m input then Stands (Running (next m input)) (orders m input) else NotAccepted
+says stage input = BadLine
 
--- what is to be said of an order's line: behind `go` it is passed over
+-- what is to be said of an order's line: after `go` it is passed over
 abbrev pub passes_over : Stage → Verdict
 passes_over (Running m) = Stands (Running m) []
-passes_over stage = Misplaced
+passes_over stage = BadLine
 
 -- what is to be said of a line
 abbrev pub judged : Stage → Line → Verdict
@@ -127,18 +127,19 @@ judged stage (Said input) = says stage input
 judged stage (Noted order) = passes_over stage
 
 -- no line that stands at this place has the text
-abbrev pub IsMisplaced : Stage → List ℕ → Type 0
-IsMisplaced stage text = (line : Line) → FitsLine line → line_text line ≡ text → length text ≤ line_limit → judged stage line ≡ Misplaced
+abbrev pub IsBadLine : Stage → List ℕ → Type 0
+IsBadLine stage text = (line : Line) → FitsLine line → line_text line ≡ text → length text ≤ line_limit → judged stage line ≡ BadLine
 
 -- the text is an input that isn't accepted
-pub record IsRefused (stage : Stage) (text : List ℕ) : Type 0 where
+pub record IsNotAccepted (stage : Stage) (text : List ℕ) : Type 0 where
   pub input : Input
   pub fits : FitsInput input
   pub spelled : input_line input ≡ text
-  pub refused : judged stage (Said input) ≡ Refused
+  pub short : length text ≤ line_limit
+  pub refused : judged stage (Said input) ≡ NotAccepted
 
 -- the text is a header line at which the configuration is judged so
-pub record IsUnconfigured (stage : Stage) (text : List ℕ) (verdict : Verdict) : Type 0 where
+pub record IsNotConfigured (stage : Stage) (text : List ℕ) (verdict : Verdict) : Type 0 where
   pub header : Header
   pub fits : FitsHeader header
   pub spelled : header_line header ≡ text
@@ -162,7 +163,7 @@ pub data Walked : Type 0 where
   Reaches : Stage → List Order → Walked
   Stops : Walked
 
--- where a walk leads, behind these orders
+-- where a walk leads, after these orders
 abbrev pub behind : List Order → Walked → Walked
 behind given (Reaches at more) = Reaches at (given ++ more)
 behind given Stops = Stops

@@ -1,12 +1,12 @@
 -- What the reader of a journal knows of the place that it has come to, and what it answers of a line there.
 use Rattle.std.specs.Prelude.{◌≡◌, ℕ, List}
 use Rattle.sv_core.specs.StandsFor.{StandsFor}
-use Rattle.sv_loop.specs.JournalPlaces.{Stage, Verdict, Leads, IsMisplaced, IsRefused, IsUnconfigured}
-use Rattle.sv_loop.specs.JournalPlaces.Verdict.{Stands as As_stands, Misplaced as As_misplaced, Faulty as As_faulty}
+use Rattle.sv_loop.specs.JournalPlaces.{Stage, Verdict, Leads, IsBadLine, IsNotAccepted, IsNotConfigured}
+use Rattle.sv_loop.specs.JournalPlaces.Verdict.{Stands as As_stands, BadLine as As_bad_line, NotConfigured as As_not_configured}
 use Rattle.sv_loop.specs.JournalPlaces.Stage.{Fresh as At_title, Named as At_programs, Long as At_long, Running as At_inputs}
 use Rattle.sv_out.specs.declared.order.Order.{Order}
 use Rattle.sv_loop.specs.declared.judge.Judged.{Judged}
-use Rattle.sv_loop.specs.declared.judge.Judged.TheVariants.{Stands, Misplaced, Refused, Faulty, NoMemory}
+use Rattle.sv_loop.specs.declared.judge.Judged.TheVariants.{Stands, BadLine, NotAccepted, NotConfigured, NoMemory}
 use Rattle.sv_loop.specs.declared.judge.Place.{Place}
 use Rattle.sv_loop.specs.declared.judge.Place.TheVariants.{Fresh, Named, Long, Running}
 
@@ -27,15 +27,15 @@ pub record LeadsTo (at : Stage) (text : List ℕ) (place : Place) (orders : List
 -- what the answer says of a header at a place where only headers stand
 abbrev pub JudgedHead : Judged → Verdict → Type 0
 JudgedHead (Stands place orders) verdict = (to : Stage) × (verdict ≡ As_stands to orders.items) × IsPlace place to
-JudgedHead Misplaced verdict = verdict ≡ As_misplaced
-JudgedHead Refused verdict = ⊥
-JudgedHead (Faulty fault) verdict = verdict ≡ As_faulty fault
+JudgedHead BadLine verdict = verdict ≡ As_bad_line
+JudgedHead NotAccepted verdict = ⊥
+JudgedHead (NotConfigured fault) verdict = verdict ≡ As_not_configured fault
 JudgedHead NoMemory verdict = Unit {0}
 
 -- what the answer says of a line
 abbrev pub JudgedAs : Judged → Stage → List ℕ → Type 0
 JudgedAs (Stands place orders) at text = LeadsTo at text place orders.items
-JudgedAs Misplaced at text = IsMisplaced at text
-JudgedAs Refused at text = IsRefused at text
-JudgedAs (Faulty fault) at text = IsUnconfigured at text (As_faulty fault)
+JudgedAs BadLine at text = IsBadLine at text
+JudgedAs NotAccepted at text = IsNotAccepted at text
+JudgedAs (NotConfigured fault) at text = IsNotConfigured at text (As_not_configured fault)
 JudgedAs NoMemory at text = Unit {0}

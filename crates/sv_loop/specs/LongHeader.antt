@@ -5,7 +5,7 @@ use Rattle.std.specs.Cmp.Lexicographic.{slice_cmp}
 use Rattle.std.specs.Ordering.{nat_cmp, is_lt}
 use Rattle.sv_base.specs.declared.config.Host.{Host}
 
--- the name stands behind that of the last entry, if there is one
+-- the name stands after that of the last entry, if there is one
 abbrev pub is_behind : {A : Type 0} → List ℕ → List (List ℕ × A) → Bool
 is_behind name [] = true
 is_behind name (entry ∷ []) = is_lt (slice_cmp nat_cmp entry.0 name)

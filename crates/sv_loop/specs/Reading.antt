@@ -1,15 +1,15 @@
--- How far a journal was read: its whole lines, each of which stood at its place, and what is behind them.
+-- How far a journal was read: its whole lines, each of which stood at its place, and what is after them.
 use Rattle.std.specs.Prelude.{◌≡◌, ℕ, List, [], ◌∷◌, ◌++◌, Bool, false, ◌==◌, ◌≤◌, ◌<◌, ◌⊎◌, length, Option}
 use Rattle.std.specs.Io.KnownBytes.{Appends}
 use Rattle.std.specs.List.{list_any}
 use Rattle.sv_journal.specs.Limits.{line_limit}
-use Rattle.sv_loop.specs.JournalPlaces.{Line, Stage, Verdict, walked, journal_text, order_text, AllFit, IsMisplaced, IsRefused, IsUnconfigured}
+use Rattle.sv_loop.specs.JournalPlaces.{Line, Stage, Verdict, walked, journal_text, order_text, AllFit, IsBadLine, IsNotAccepted, IsNotConfigured}
 use Rattle.sv_loop.specs.JournalPlaces.Stage.{Fresh}
-use Rattle.sv_loop.specs.JournalPlaces.Verdict.{Faulty as As_faulty}
+use Rattle.sv_loop.specs.JournalPlaces.Verdict.{NotConfigured as As_not_configured}
 use Rattle.sv_loop.specs.JournalPlaces.Walked.{Reaches}
 use Rattle.sv_loop.specs.Judging.{IsPlace}
 use Rattle.sv_loop.specs.declared.run.End.{End}
-use Rattle.sv_loop.specs.declared.run.End.TheVariants.{Misplaced, Refused, Faulty, NoMemory, Unwritten}
+use Rattle.sv_loop.specs.declared.run.End.TheVariants.{BadLine, NotAccepted, NotConfigured, NoMemory, SinkFailed}
 use Rattle.sv_loop.specs.declared.run.Run.{Run}
 use Rattle.sv_out.specs.Written.{AppendsFront}
 use Rattle.sv_out.specs.declared.order.Order.{Order}
@@ -70,15 +70,15 @@ pub record IsWhole (rest : List ℕ) : Type 0 where
 
 -- the rest is outside the grammar: a line has no place, or is too long
 abbrev pub OutsideGrammar : Stage → List ℕ → List ℕ → Type 0
-OutsideGrammar at text rest = (IsWhole rest × IsMisplaced at text) ⊎ (line_limit < length text)
+OutsideGrammar at text rest = (IsWhole rest × IsBadLine at text) ⊎ (line_limit < length text)
 
 -- it is an input that the machine does not accept
-abbrev pub NotAccepted : Stage → List ℕ → List ℕ → Type 0
-NotAccepted at text rest = IsWhole rest × IsRefused at text
+abbrev pub UnacceptedLine : Stage → List ℕ → List ℕ → Type 0
+UnacceptedLine at text rest = IsWhole rest × IsNotAccepted at text
 
 -- its configuration is refused, and so is what is said of it
-abbrev pub NotConfigured : Verdict → Stage → List ℕ → List ℕ → Type 0
-NotConfigured verdict at text rest = IsWhole rest × IsUnconfigured at text verdict
+abbrev pub UnconfiguredLine : Verdict → Stage → List ℕ → List ℕ → Type 0
+UnconfiguredLine verdict at text rest = IsWhole rest × IsNotConfigured at text verdict
 
 -- nothing is claimed
 abbrev pub Anything : Stage → List ℕ → List ℕ → Type 0
@@ -95,14 +95,14 @@ pub record HalfWritten (bytes : List ℕ) (earlier : List Order) (old new : Opti
 
 -- why the reading stopped at a line
 abbrev pub StopsAt : End → Run → List ℕ → List Order → Option (List ℕ) → Option (List ℕ) → Type 0
-StopsAt Misplaced run bytes earlier old new = AtFault run OutsideGrammar bytes earlier old new
-StopsAt Refused run bytes earlier old new = AtFault run NotAccepted bytes earlier old new
-StopsAt (Faulty fault) run bytes earlier old new = AtFault run (NotConfigured (As_faulty fault)) bytes earlier old new
+StopsAt BadLine run bytes earlier old new = AtFault run OutsideGrammar bytes earlier old new
+StopsAt NotAccepted run bytes earlier old new = AtFault run UnacceptedLine bytes earlier old new
+StopsAt (NotConfigured fault) run bytes earlier old new = AtFault run (UnconfiguredLine (As_not_configured fault)) bytes earlier old new
 StopsAt NoMemory run bytes earlier old new = AtFault run Anything bytes earlier old new
-StopsAt Unwritten run bytes earlier old new = HalfWritten bytes earlier old new
+StopsAt SinkFailed run bytes earlier old new = HalfWritten bytes earlier old new
 
 -- what a write of orders that failed has left
 abbrev pub Unwrote : End → List ℕ → Option (List ℕ) → Option (List ℕ) → Type 0
 Unwrote NoMemory text old new = Appends old new []
-Unwrote Unwritten text old new = AppendsFront old new text
+Unwrote SinkFailed text old new = AppendsFront old new text
 Unwrote end text old new = ⊥

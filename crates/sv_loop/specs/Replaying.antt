@@ -5,10 +5,11 @@ use Rattle.std.specs.Io.KnownBytes.{Appends, Consumes, IsAtEnd, Keeps}
 use Rattle.sv_conf.specs.FaultTexts.{fault_text}
 use Rattle.sv_conf.specs.declared.fault.ConfFault.{ConfFault}
 use Rattle.sv_core.specs.MachineState.{Model}
+use Rattle.sv_journal.specs.Limits.{line_limit}
 use Rattle.sv_loop.specs.JournalPlaces.{Line, Stage, Verdict, order_text}
 use Rattle.sv_loop.specs.JournalPlaces.Stage.{Fresh, Named, Long, Running}
-use Rattle.sv_loop.specs.JournalPlaces.Verdict.{Faulty}
-use Rattle.sv_loop.specs.Reading.{IsRead, OutsideGrammar, NotAccepted, NotConfigured, GoesOn, StopsAt}
+use Rattle.sv_loop.specs.JournalPlaces.Verdict.{NotConfigured}
+use Rattle.sv_loop.specs.Reading.{IsRead, OutsideGrammar, UnacceptedLine, UnconfiguredLine, GoesOn, StopsAt}
 use Rattle.sv_loop.specs.declared.replaying.Ending.{Ending}
 use Rattle.sv_loop.specs.declared.replaying.Ending.TheVariants as ending
 use Rattle.sv_loop.specs.declared.replaying.Status.{Status}
@@ -67,7 +68,7 @@ configuration_fault fault = codes "fault 6 conf " ++ fault_text fault ++ 10 ∷ 
 
 -- the line that tells why the configuration isn't run
 abbrev pub TellsWhy : Verdict → List ℕ → Type 0
-TellsWhy (Faulty fault) line = line ≡ configuration_fault fault
+TellsWhy (NotConfigured fault) line = line ≡ configuration_fault fault
 TellsWhy verdict line = ⊥
 
 -- the place is before `go`
@@ -82,6 +83,11 @@ pub record EndsTooEarly (left : Option (List ℕ)) (at : Stage) (text rest : Lis
   pub at_end : IsAtEnd left
   pub nothing_behind : rest ≡ []
   pub cause : (0 < length text) ⊎ IsBeforeGo at
+
+-- nothing was read after the text, which is no longer than a line
+pub record EndsInLine (at : Stage) (text rest : List ℕ) : Type 0 where
+  pub nothing_behind : rest ≡ []
+  pub short : length text ≤ line_limit
 
 -- these bytes were taken, at most as many as a journal may have
 pub record Taken (left left_after : Option (List ℕ)) (bytes : List ℕ) : Type 0 where
@@ -99,8 +105,12 @@ pub record Done (left left_after written written_after : Option (List ℕ)) : Ty
   pub read : IsRead bytes given lines (Running model) [] []
   pub wrote : Appends written written_after (order_text given)
 
--- the whole lines were worked off, and behind their orders stands this closing line
-pub record Closed (left left_after written written_after : Option (List ℕ)) (closing : List Line → List ℕ)
+-- a closing line with the number of the line after these
+abbrev pub line_behind : (ℕ → List ℕ) → List Line → List ℕ
+line_behind closing lines = closing (length lines + 1)
+
+-- the whole lines were worked off, and their orders with this closing line after them are the text
+pub record Closed (left left_after : Option (List ℕ)) (Wrote : List ℕ → Type 0) (closing : List Line → List ℕ)
     (Cause : Stage → List ℕ → List ℕ → Type 0) : Type 0 where
   pub bytes : List ℕ
   pub taken : Taken left left_after bytes
@@ -111,10 +121,10 @@ pub record Closed (left left_after written written_after : Option (List ℕ)) (c
   pub rest : List ℕ
   pub read : IsRead bytes given lines at text rest
   pub cause : Cause at text rest
-  pub wrote : Appends written written_after (order_text given ++ closing lines)
+  pub wrote : Wrote (order_text given ++ closing lines)
 
 -- the header is whole and its configuration isn't run: this is told, and nothing else
-pub record Unconfigured (left left_after written written_after : Option (List ℕ)) : Type 0 where
+pub record Unconfigured (left left_after : Option (List ℕ)) (Wrote : List ℕ → Type 0) : Type 0 where
   pub bytes : List ℕ
   pub taken : Taken left left_after bytes
   pub lines : List Line
@@ -123,13 +133,13 @@ pub record Unconfigured (left left_after written written_after : Option (List �
   pub rest : List ℕ
   pub read : IsRead bytes [] lines at text rest
   pub verdict : Verdict
-  pub cause : NotConfigured verdict at text rest
+  pub cause : UnconfiguredLine verdict at text rest
   pub closing : List ℕ
   pub why : TellsWhy verdict closing
-  pub wrote : Appends written written_after closing
+  pub wrote : Wrote closing
 
 -- a journal of which more bytes are there than one may have: the orders are those of the whole lines within the limit
-pub record Overfull (left left_after written written_after : Option (List ℕ)) : Type 0 where
+pub record Overfull (left left_after : Option (List ℕ)) (Wrote : List ℕ → Type 0) : Type 0 where
   pub bytes : List ℕ
   pub one_more : ℕ
   pub consumed : Consumes left left_after (bytes ++ one_more ∷ [])
@@ -138,52 +148,34 @@ pub record Overfull (left left_after written written_after : Option (List ℕ)) 
   pub at : Stage
   pub given : List Order
   pub text : List ℕ
+  pub short : length text ≤ line_limit
   pub read : IsRead bytes given lines at text []
-  pub wrote : Appends written written_after (order_text given ++ too_long)
+  pub wrote : Wrote (order_text given ++ too_long)
 
--- what a closing line may be
-pub data IsClosing : List Line → List ℕ → Type 0 where
-  Nothing_more : (lines : List Line) → IsClosing lines []
-  Of_source : (lines : List Line) → IsClosing lines source_failed
-  Of_length : (lines : List Line) → IsClosing lines too_long
-  Of_line : (lines : List Line) → IsClosing lines (bad_line (length lines + 1))
-  Of_input : (lines : List Line) → IsClosing lines (not_accepted (length lines + 1))
-  Of_configuration : (lines : List Line) (verdict : Verdict) (line : List ℕ) → TellsWhy verdict line → IsClosing lines line
+-- the rows of the statuses at which a journal isn't replayed to its end, where this was done with the text
+abbrev pub BreaksOff : Status → Option (List ℕ) → Option (List ℕ) → (List ℕ → Type 0) → Type 0
+BreaksOff status.SourceFailed left left_after Wrote = Closed left left_after Wrote (λ lines. source_failed) EndsInLine
+BreaksOff status.NoMemory left left_after Wrote = Closed left left_after Wrote (λ lines. []) (λ at text rest. Unit {0})
+BreaksOff status.BadLine left left_after Wrote =
+    Closed left left_after Wrote (line_behind bad_line)
+    (λ at text rest. OutsideGrammar at text rest ⊎ EndsTooEarly left_after at text rest)
+BreaksOff status.NotConfigured left left_after Wrote = Unconfigured left left_after Wrote
+BreaksOff status.NotAccepted left left_after Wrote =
+    Closed left left_after Wrote (line_behind not_accepted) UnacceptedLine
+BreaksOff status.TooLong left left_after Wrote = Overfull left left_after Wrote
+BreaksOff other left left_after Wrote = ⊥
 
--- a front of the orders of the whole lines, and of a closing line, was written
+-- the sink failed: the row of another status holds, but that a prefix of its text alone was written; while orders were
+-- written it is that of 3, which has no closing line
 pub record HalfTold (left left_after written written_after : Option (List ℕ)) : Type 0 where
-  pub bytes : List ℕ
-  pub consumed : Consumes left left_after bytes
-  pub lines : List Line
-  pub at : Stage
-  pub given : List Order
-  pub text : List ℕ
-  pub rest : List ℕ
-  pub read : IsRead bytes given lines at text rest
-  pub closing : List ℕ
-  pub is_closing : IsClosing lines closing
-  pub wrote : AppendsFront written written_after (order_text given ++ closing)
+  pub other : Status
+  pub row : BreaksOff other left left_after (AppendsFront written written_after)
 
--- a closing line with the number of the line behind these
-abbrev pub line_behind : (ℕ → List ℕ) → List Line → List ℕ
-line_behind closing lines = closing (length lines + 1)
-
--- the table of statuses
+-- the table of statuses where the word is `run`, so that 2 isn't among them
 abbrev pub Replays : Status → Option (List ℕ) → Option (List ℕ) → Option (List ℕ) → Option (List ℕ) → Type 0
 Replays status.Done left left_after old new = Done left left_after old new
-Replays status.SourceFailed left left_after old new =
-    Closed left left_after old new (λ lines. source_failed) (λ at text rest. rest ≡ [])
-Replays status.WordsRefused left left_after old new = Keeps left left_after × Appends old new usage
-Replays status.NoMemory left left_after old new =
-    Closed left left_after old new (λ lines. []) (λ at text rest. Unit {0})
 Replays status.SinkFailed left left_after old new = HalfTold left left_after old new
-Replays status.BadLine left left_after old new =
-    Closed left left_after old new (line_behind bad_line)
-    (λ at text rest. OutsideGrammar at text rest ⊎ EndsTooEarly left_after at text rest)
-Replays status.NotConfigured left left_after old new = Unconfigured left left_after old new
-Replays status.NotAccepted left left_after old new =
-    Closed left left_after old new (line_behind not_accepted) NotAccepted
-Replays status.TooLong left left_after old new = Overfull left left_after old new
+Replays other left left_after old new = BreaksOff other left left_after (Appends old new)
 
 -- ---- how the reading ended
 
@@ -209,7 +201,7 @@ Ended ending.Full run left left_after old new =
 Ended (ending.Stopped end) run left left_after old new =
     (bytes : List ℕ) × Taken left left_after bytes × StopsAt end run bytes [] old new
 
--- the words were refused: nothing was read, and the usage line was written, or a front of it where the sink failed
+-- the words were refused: nothing was read, and the usage line was written, or a prefix of it where the sink failed
 abbrev pub Refuses : ℕ → Option (List ℕ) → Option (List ℕ) → Option (List ℕ) → Option (List ℕ) → Type 0
 Refuses got left left_after old new =
     Keeps left left_after × (((got ≡ 2) × Appends old new usage) ⊎ ((got ≡ 4) × AppendsFront old new usage))

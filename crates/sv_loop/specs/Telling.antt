@@ -9,7 +9,7 @@ use Rattle.sv_loop.specs.declared.replaying.Ending.TheVariants.{Whole, Broken, F
 use Rattle.sv_loop.specs.declared.replaying.Status.{Status}
 use Rattle.sv_loop.specs.declared.replaying.Status.TheVariants as status
 use Rattle.sv_loop.specs.declared.run.End.{End}
-use Rattle.sv_loop.specs.declared.run.End.TheVariants.{Misplaced, Refused, Faulty, NoMemory, Unwritten}
+use Rattle.sv_loop.specs.declared.run.End.TheVariants.{BadLine, NotAccepted, NotConfigured, NoMemory, SinkFailed}
 use Rattle.sv_loop.specs.declared.run.Run.{Run}
 use Rattle.sv_out.specs.Written.{AppendsFront}
 
@@ -18,7 +18,7 @@ abbrev pub IsRunning : Place → Type 0
 IsRunning (place.Running machine) = Unit {0}
 IsRunning other = ⊥
 
--- the text was told, or a front of it
+-- the text was told, or a prefix of it
 abbrev pub Tells : List ℕ → Status → Option (List ℕ) → Option (List ℕ) → Status → Type 0
 Tells text want old new got =
     ((got ≡ want) × Appends old new text) ⊎ ((got ≡ status.SinkFailed) × AppendsFront old new text)
@@ -42,11 +42,11 @@ TellsOfWhole run old new got =
 
 -- what the end of the reading at a line is told by
 abbrev pub TellsOfLine : End → Run → Option (List ℕ) → Option (List ℕ) → Status → Type 0
-TellsOfLine Misplaced run old new got = TellsLine (bad_line (run.lines + 1)) status.BadLine old new got
-TellsOfLine Refused run old new got = TellsLine (not_accepted (run.lines + 1)) status.NotAccepted old new got
-TellsOfLine (Faulty fault) run old new got = TellsLine (configuration_fault fault) status.NotConfigured old new got
+TellsOfLine BadLine run old new got = TellsLine (bad_line (run.lines + 1)) status.BadLine old new got
+TellsOfLine NotAccepted run old new got = TellsLine (not_accepted (run.lines + 1)) status.NotAccepted old new got
+TellsOfLine (NotConfigured fault) run old new got = TellsLine (configuration_fault fault) status.NotConfigured old new got
 TellsOfLine NoMemory run old new got = (got ≡ status.NoMemory) × Appends old new []
-TellsOfLine Unwritten run old new got = (got ≡ status.SinkFailed) × Appends old new []
+TellsOfLine SinkFailed run old new got = (got ≡ status.SinkFailed) × Appends old new []
 
 -- what the end of the reading is told by
 abbrev pub TellsOf : Ending → Run → Option (List ℕ) → Option (List ℕ) → Status → Type 0

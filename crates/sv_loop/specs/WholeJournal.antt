@@ -1,4 +1,4 @@
--- A whole journal as what it says: how the daemon begins, and what stands behind `go`.
+-- A whole journal as what it says: how the daemon begins, and what stands after `go`.
 use Rattle.std.specs.Prelude.{◌≡◌, ◌≤◌, ◌+◌, ℕ, List, [], ◌∷◌, ◌++◌, true, Option, Some, Ok, length}
 use Rattle.std.specs.Io.KnownBytes.{Appends, Consumes, IsAtEnd}
 use Rattle.sv_base.specs.declared.config.Config.{Config}
@@ -47,7 +47,7 @@ abbrev pub include_lines : List (List ℕ × List ℕ) → List Line
 include_lines [] = []
 include_lines (text ∷ more) = Head (header.Include text.0 text.1) ∷ include_lines more
 
--- what stands behind `go`: an input, or an order that a daemon has given
+-- what stands after `go`: an input, or an order that a daemon has given
 pub data Entry : Type 0 where
   Told : Input → Entry
   Given : Order → Entry
@@ -107,6 +107,11 @@ pub record SaysJournal (lines : List Line) (m : Model) (given : List Order) : Ty
   pub state : m ≡ after first (inputs_in entries)
   pub orders : given ≡ deeds first (inputs_in entries)
 
+-- lines that lead after `go` are a journal, and their orders are the deeds of its inputs; before `go` there are no orders
+abbrev pub TellsDeeds : List Line → Stage → List Order → Type 0
+TellsDeeds lines (Running m) given = SaysJournal lines m given
+TellsDeeds lines at given = given ≡ []
+
 -- the source was read to its end, and gave a journal whose inputs are each accepted; the sink was written the lines of
 -- the deeds of these inputs, and nothing else
 pub record WritesDeeds (left left_after written written_after : Option (List ℕ)) : Type 0 where
@@ -120,7 +125,7 @@ pub record WritesDeeds (left left_after written written_after : Option (List ℕ
   pub accepted : AllAccepted first (inputs_in entries)
   pub wrote : Appends written written_after (order_text (deeds first (inputs_in entries)))
 
--- the source holds a good journal: each line is in the grammar of its place, they lead behind `go`, each input is accepted,
+-- the source holds a good journal: each line is in the grammar of its place, they lead after `go`, each input is accepted,
 -- and it has no more bytes than a journal may have
 pub record HoldsGoodJournal (left : Option (List ℕ)) : Type 0 where
   pub lines : List Line
@@ -131,15 +136,14 @@ pub record HoldsGoodJournal (left : Option (List ℕ)) : Type 0 where
   pub short : length (journal_text lines) ≤ journal_limit
   pub held : left ≡ Some (journal_text lines)
 
--- the replay was done, or it was hindered: by its source, its words, want of memory or its sink
+-- the replay was done, or it was hindered: by its source, by running out of memory or by its sink
 pub data IsDoneOrHindered : ℕ → Type 0 where
   Is_done : IsDoneOrHindered 0
   Source_failed : IsDoneOrHindered 1
-  Words_refused : IsDoneOrHindered 2
   No_memory : IsDoneOrHindered 3
   Sink_failed : IsDoneOrHindered 4
 
--- the source holds a header whose configuration isn't run, with anything behind it: each line before its last one is in
+-- the source holds a header whose configuration isn't run, with anything after it: each line before its last one is in
 -- the grammar of its place, and at the last one the configuration is refused
 pub record HoldsUnconfigured (left : Option (List ℕ)) : Type 0 where
   pub lines : List Line
@@ -162,6 +166,5 @@ pub record HoldsUnconfigured (left : Option (List ℕ)) : Type 0 where
 pub data IsUnconfiguredOrHindered : ℕ → Type 0 where
   Is_unconfigured : IsUnconfiguredOrHindered 6
   Source_failed : IsUnconfiguredOrHindered 1
-  Words_refused : IsUnconfiguredOrHindered 2
   No_memory : IsUnconfiguredOrHindered 3
   Sink_failed : IsUnconfiguredOrHindered 4

@@ -21,7 +21,9 @@ use sv_base::state::Autorestart;
 use sv_base::text::Text;
 use sv_core::machine::Machine;
 use sv_generated::{line_of_run, program_name};
+use sv_journal::code_list::ExitCodes;
 use sv_journal::header::Program;
+use sv_journal::program_name::ProgramName;
 use sv_out::sink::Sink;
 
 /// How many programs the run has.
@@ -76,17 +78,18 @@ fn is_spelled(word: &Text, number: u64) -> bool
 }
 
 /// The program of a number.
+#[tactic(auto, using(crate::proofs::ProgramNames::named))]
 fn program(alloc: Global, number: u32) -> Result<Program, AllocError>
     ensures { IfOk result (λ program. program ≡ program_of number) }
 {
     let mut exitcodes = Items::new(alloc);
     exitcodes.push(0)?;
     Ok(Program {
-        name: program_name(alloc, number)?,
+        name: ProgramName::new(program_name(alloc, number)?).unwrap(),
         startsecs: Seconds::new(1).unwrap(),
         startretries: Retries::new(3).unwrap(),
         autorestart: Autorestart::Always,
-        exitcodes,
+        exitcodes: ExitCodes::new(exitcodes).unwrap(),
         stopsignal: Signal::Term,
         stopwaitsecs: Seconds::new(10).unwrap(),
     })

@@ -6,9 +6,10 @@ ghost use Rattle.sv_core.specs.StandsFor.{StandsFor};
 ghost use Rattle.sv_journal.specs.declared.header.Header.TheVariants.{Go};
 ghost use Rattle.sv_loop.specs.JournalPlaces.{Stage, adds, heads, titles};
 ghost use Rattle.sv_loop.specs.ShortHeader.{group_of, placed};
-ghost use Rattle.sv_loop.specs.JournalPlaces.Stage.{Fresh, Named, Long, Running};
+ghost use Rattle.sv_loop.specs.JournalPlaces.Stage.{Fresh, Named, Running};
 ghost use Rattle.sv_loop.specs.JournalPlaces.Verdict.{Stands};
 ghost use Rattle.sv_loop.specs.Judging.{IsPlace, JudgedAs, JudgedHead};
+ghost use Rattle.sv_loop.specs.Telling.{IsRunning};
 
 use crate::long::{LongPlace, judge_long};
 use crate::short::{config_of, group_of, host_at, place};
@@ -18,7 +19,7 @@ use sv_base::moment::Moment;
 use sv_conf::fault::ConfFault;
 use sv_core::machine::Machine;
 use sv_journal::fault::LineFault;
-use sv_journal::header::{Header, Program};
+use sv_journal::header::{Header, Program, Version};
 use sv_journal::read::{LINE_LIMIT, read_header, read_input};
 use sv_journal::reading_orders::read_order;
 use sv_out::order::Order;
@@ -26,8 +27,8 @@ use sv_out::order::Order;
 /// The length of the mark that stands before an order's line in a daemon's journal.
 const MARK_LENGTH: usize = 2;
 
-/// Where in a journal the next line stands: at the beginning, behind the title and some programs, in a long header, or
-/// behind `go`.
+/// Where in a journal the next line stands: at the beginning, after the title and some programs, in a long header, or
+/// after `go`.
 #[derive(Drop)]
 pub enum Place {
     Fresh,
@@ -36,93 +37,94 @@ pub enum Place {
     Running(Box<Machine>),
 }
 
+impl Place {
+    /// Whether the machine runs.
+    pub(crate) fn is_running(&self) -> bool
+        ensures { IsTrue result ↔ IsRunning self.now }
+    {
+        matches!(self, Place::Running(_))
+    }
+}
+
 /// What is to be said of a line at its place.
 #[derive(Drop)]
 pub enum Judged {
     /// It stands, leads to this place and gives these orders.
     Stands(Place, Vec<Order>),
     /// It is outside the grammar of its place.
-    Misplaced,
+    BadLine,
     /// Its input isn't accepted.
-    Refused,
+    NotAccepted,
     /// The header is whole, and its configuration has this fault.
-    Faulty(ConfFault),
+    NotConfigured(ConfFault),
     /// Memory was refused.
     NoMemory,
 }
 
-/// Judges the line at this place.
+/// Judges the line at this place, where the machine takes the line's input.
 pub(crate) fn judge(alloc: Global, place: Place, line: &[u8]) -> Judged
     ensures { (at : Stage) → IsPlace place at → JudgedAs result at line.now }
 {
     match place {
-        Place::Fresh => judge_title(alloc, line),
-        Place::Named(groups) => judge_header(alloc, groups, line),
-        Place::Long(long) => judge_long_line(alloc, long, line),
         Place::Running(machine) => judge_input(alloc, machine, line),
+        place => judge_header(alloc, place, line),
     }
 }
 
-#[tactic(auto, using(crate::proofs::Judged::judged_by_head))]
-fn judge_title(alloc: Global, line: &[u8]) -> Judged
-    ensures { JudgedAs result Fresh line.now }
+/// Before `go` stand lines of the header alone.
+fn judge_header(alloc: Global, place: Place, line: &[u8]) -> Judged
+    requires { IsRunning place → ⊥ }
+    ensures { (at : Stage) → IsPlace place at → JudgedAs result at line.now }
 {
     match read_header(alloc, line) {
-        Ok(header) => judge_first(alloc, &header),
-        Err(LineFault::BadLine(_)) => Judged::Misplaced,
+        Ok(header) => judge_head(alloc, place, header),
+        Err(LineFault::BadLine(_)) => Judged::BadLine,
         Err(LineFault::OutOfMemory) => Judged::NoMemory,
+    }
+}
+
+#[tactic(auto, using(crate::proofs::OneReading::no_header_behind_go))]
+fn judge_head(alloc: Global, place: Place, header: Header) -> Judged
+    ensures { (at : Stage) → IsPlace place at → JudgedHead result (heads at header) }
+{
+    match place {
+        Place::Fresh => judge_first(alloc, &header),
+        Place::Named(groups) => judge_short(alloc, groups, header),
+        Place::Long(long) => judge_long(alloc, long, header),
+        Place::Running(_) => Judged::BadLine,
     }
 }
 
 fn judge_first(alloc: Global, header: &Header) -> Judged
-    ensures { JudgedHead result (heads Fresh header.now) }
+    ensures judged { JudgedHead result (heads Fresh header.now) }
+    ensures memory { result ≢ Judged.NoMemory }
 {
     match header {
         Header::Journal(version) => judge_version(alloc, *version),
-        _ => Judged::Misplaced,
+        _ => Judged::BadLine,
     }
 }
 
 /// Version 0 has a short header, version 1 a long one.
-fn judge_version(alloc: Global, version: u8) -> Judged
-    ensures { JudgedHead result (titles version) }
+fn judge_version(alloc: Global, version: Version) -> Judged
+    ensures judged { JudgedHead result (titles version) }
+    ensures memory { result ≢ Judged.NoMemory }
 {
-    match version {
+    match version.get() {
         0 => Judged::Stands(Place::Named(Groups::none(alloc)), Vec::new(alloc)),
         1 => Judged::Stands(Place::Long(LongPlace::Titled), Vec::new(alloc)),
-        _ => Judged::Misplaced,
+        _ => Judged::BadLine,
     }
 }
 
-#[tactic(auto, using(crate::proofs::Judged::judged_by_head))]
-fn judge_header(alloc: Global, groups: Groups, line: &[u8]) -> Judged
-    ensures { JudgedAs result (Named groups) line.now }
-{
-    match read_header(alloc, line) {
-        Ok(header) => judge_head(alloc, groups, header),
-        Err(LineFault::BadLine(_)) => Judged::Misplaced,
-        Err(LineFault::OutOfMemory) => Judged::NoMemory,
-    }
-}
-
-fn judge_head(alloc: Global, groups: Groups, header: Header) -> Judged
+/// A line of a short header after the title.
+fn judge_short(alloc: Global, groups: Groups, header: Header) -> Judged
     ensures { JudgedHead result (heads (Named groups) header) }
 {
     match header {
         Header::Program(program) => judge_program(alloc, groups, program),
         Header::Go(start) => judge_go(alloc, groups, start),
-        _ => Judged::Misplaced,
-    }
-}
-
-#[tactic(auto, using(crate::proofs::Judged::judged_by_head))]
-fn judge_long_line(alloc: Global, place: LongPlace, line: &[u8]) -> Judged
-    ensures { JudgedAs result (Long place) line.now }
-{
-    match read_header(alloc, line) {
-        Ok(header) => judge_long(alloc, place, header),
-        Err(LineFault::BadLine(_)) => Judged::Misplaced,
-        Err(LineFault::OutOfMemory) => Judged::NoMemory,
+        _ => Judged::BadLine,
     }
 }
 
@@ -131,7 +133,7 @@ fn judge_program(alloc: Global, groups: Groups, program: Program) -> Judged
 {
     match with_program(alloc, groups, program) {
         Ok(Some(groups)) => Judged::Stands(Place::Named(groups), Vec::new(alloc)),
-        Ok(None) => Judged::Misplaced,
+        Ok(None) => Judged::BadLine,
         Err(AllocError) => Judged::NoMemory,
     }
 }
@@ -156,7 +158,7 @@ fn judge_go(alloc: Global, groups: Groups, start: Moment) -> Judged
     ensures { JudgedHead result (heads (Named groups) (Go start)) }
 {
     if groups.as_slice().is_empty() {
-        return Judged::Misplaced;
+        return Judged::BadLine;
     }
     match Machine::new(
         alloc,
@@ -179,7 +181,7 @@ pub(crate) fn running(alloc: Global, machine: Machine) -> Judged
     }
 }
 
-/// Behind `go` stand inputs, and orders behind a mark, which are passed over.
+/// After `go` stand inputs, and orders after a mark, which are passed over.
 fn judge_input(alloc: Global, machine: Box<Machine>, line: &[u8]) -> Judged
     ensures { (m : Model) → StandsFor machine.value m → JudgedAs result (Running m) line.now }
 {
@@ -189,7 +191,7 @@ fn judge_input(alloc: Global, machine: Box<Machine>, line: &[u8]) -> Judged
     }
 }
 
-/// What stands behind the mark of an order's line, if the line begins with it.
+/// What stands after the mark of an order's line, if the line begins with it.
 fn behind_mark(line: &[u8]) -> Option<&[u8]>
     ensures { MatchOption result ((rest : List ℕ) → line.now ≢ codes "> " ++ rest)
         (λ order. line.now ≡ codes "> " ++ order.now) }
@@ -200,17 +202,17 @@ fn behind_mark(line: &[u8]) -> Option<&[u8]>
     }
 }
 
-/// The order that stands behind the mark was given by a daemon; this machine gives its own.
+/// The order that stands after the mark was given by a daemon; this machine gives its own.
 fn judge_noted(alloc: Global, machine: Box<Machine>, order: &[u8]) -> Judged
     ensures { (m : Model) → StandsFor machine.value m
         → JudgedAs result (Running m) (codes "> " ++ order.now) }
 {
     if order.len() > LINE_LIMIT - MARK_LENGTH {
-        return Judged::Misplaced;
+        return Judged::BadLine;
     }
     match read_order(alloc, order) {
         Ok(_) => Judged::Stands(Place::Running(machine), Vec::new(alloc)),
-        Err(LineFault::BadLine(_)) => Judged::Misplaced,
+        Err(LineFault::BadLine(_)) => Judged::BadLine,
         Err(LineFault::OutOfMemory) => Judged::NoMemory,
     }
 }
@@ -224,14 +226,14 @@ fn judge_said(alloc: Global, machine: Box<Machine>, line: &[u8]) -> Judged
     match read_input(alloc, line) {
         Ok(input) => {
             if !machine.accepts(&input) {
-                return Judged::Refused;
+                return Judged::NotAccepted;
             }
             match machine.step(alloc, input) {
                 Ok(orders) => Judged::Stands(Place::Running(machine), orders),
                 Err(AllocError) => Judged::NoMemory,
             }
         }
-        Err(LineFault::BadLine(_)) => Judged::Misplaced,
+        Err(LineFault::BadLine(_)) => Judged::BadLine,
         Err(LineFault::OutOfMemory) => Judged::NoMemory,
     }
 }

@@ -4,6 +4,7 @@
 mod cutting;
 mod generating;
 mod judge;
+mod laws;
 mod long;
 mod orders;
 mod replaying;
@@ -11,4 +12,5 @@ mod run;
 mod short;
 mod sizes;
 
+pub use laws::each_row_tells_deeds;
 pub use replaying::{JOURNAL_LIMIT, replay};

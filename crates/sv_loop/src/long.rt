@@ -1,5 +1,5 @@
 //! The long header: its lines in their order, and the configuration that it holds.
-ghost use Rattle.std.specs.Prelude.{◌≡◌, ◌↔◌, ◌++◌, ◌∷◌, [], IsTrue, IsSome, IfOk, IfSome, length};
+ghost use Rattle.std.specs.Prelude.{◌≡◌, ◌↔◌, ◌++◌, ◌∷◌, [], IsTrue, IsSome, IfOk, IfSome, OnErr, ◌≢◌, length};
 ghost use Rattle.sv_conf.specs.Configuration.{configuration_of};
 ghost use Rattle.sv_files.specs.Sizes.{rise};
 ghost use Rattle.sv_journal.specs.declared.header.Header.{Header};
@@ -23,15 +23,15 @@ use sv_journal::header::Header;
 /// How far a long header is read.
 #[derive(Debug, Drop)]
 pub enum LongPlace {
-    /// Behind the title.
+    /// After the title.
     Titled,
-    /// Behind the host's name.
+    /// After the host's name.
     Hosted(Text),
-    /// Behind the host's name and the directory of the configuration's file.
+    /// After the host's name and the directory of the configuration's file.
     Located(Text, Text),
-    /// Behind the number of the daemon's process, some variables of its environment and some sizes.
+    /// After the number of the daemon's process, some variables of its environment and some sizes.
     Described(Host, Sizes),
-    /// Behind the text of the configuration and some that it includes.
+    /// After the text of the configuration and some that it includes.
     Configured(Host, Sizes, Bytes, Items<(Text, Bytes)>),
 }
 
@@ -55,11 +55,12 @@ pub(crate) fn judge_long(alloc: Global, place: LongPlace, header: Header) -> Jud
 
 /// The header goes on at this place, or the line is out of place.
 fn moved(alloc: Global, next: Option<LongPlace>) -> Judged
-    ensures { JudgedHead result (moved next) }
+    ensures judged { JudgedHead result (moved next) }
+    ensures memory { result ≢ Judged.NoMemory }
 {
     match next {
         Some(place) => Judged::Stands(Place::Long(place), Vec::new(alloc)),
-        None => Judged::Misplaced,
+        None => Judged::BadLine,
     }
 }
 
@@ -112,7 +113,8 @@ fn behind_pid(
     sizes: Sizes,
     header: Header,
 ) -> Result<Option<LongPlace>, AllocError>
-    ensures { IfOk result (λ next. next ≡ goes_on (LongPlace.Described host sizes) header) }
+    ensures next { IfOk result (λ next. next ≡ goes_on (LongPlace.Described host sizes) header) }
+    ensures memory { OnErr result (IsSome (goes_on (LongPlace.Described host sizes) header)) }
 {
     match header {
         Header::Env(name, value) => with_variable(host, sizes, name, value),
@@ -128,8 +130,10 @@ fn with_variable(
     name: Text,
     value: Text,
 ) -> Result<Option<LongPlace>, AllocError>
-    ensures { IfOk result (λ next. next ≡ goes_on (LongPlace.Described host sizes)
+    ensures next { IfOk result (λ next. next ≡ goes_on (LongPlace.Described host sizes)
         (Header.Env name value)) }
+    ensures memory { OnErr result (IsSome (goes_on (LongPlace.Described host sizes)
+        (Header.Env name value))) }
 {
     if !sizes.as_slice().is_empty() || !is_behind(&name, host.environment.as_slice()) {
         return Ok(None);
@@ -145,8 +149,10 @@ fn with_size(
     file: Text,
     size: u64,
 ) -> Result<Option<LongPlace>, AllocError>
-    ensures { IfOk result (λ next. next ≡ goes_on (LongPlace.Described host sizes)
+    ensures next { IfOk result (λ next. next ≡ goes_on (LongPlace.Described host sizes)
         (Header.Size file size)) }
+    ensures memory { OnErr result (IsSome (goes_on (LongPlace.Described host sizes)
+        (Header.Size file size))) }
 {
     if !is_behind(&file, sizes.as_slice()) {
         return Ok(None);
@@ -184,7 +190,7 @@ fn judge_configured(
             text.as_slice(),
             included.as_slice(),
         ),
-        _ => Judged::Misplaced,
+        _ => Judged::BadLine,
     }
 }
 
@@ -209,7 +215,7 @@ fn judge_start(
     match config(alloc, text, included, &host) {
         Ok(config) => begin(alloc, &host, sizes, config),
         Err(ConfFault::OutOfMemory) => Judged::NoMemory,
-        Err(fault) => Judged::Faulty(fault),
+        Err(fault) => Judged::NotConfigured(fault),
     }
 }
 

@@ -22,14 +22,14 @@ pub(crate) fn write_orders<K: Sink>(
     ensures err { IfErr result (λ end. Unwrote end (order_text orders.now) (K.written sink.old)
         (K.written sink.new)) }
     ensures later { K.faults sink.old ≤ K.faults sink.new }
-    ensures failed { result ≡ Err End.Unwritten → Rose (K.faults sink.old) (K.faults sink.new) }
+    ensures failed { result ≡ Err End.SinkFailed → Rose (K.faults sink.old) (K.faults sink.new) }
 {
     let Ok(text) = text_of(alloc, orders) else {
         return Err(End::NoMemory);
     };
     match write_all(sink, text.as_slice()) {
         Ok(()) => Ok(()),
-        Err(_) => Err(End::Unwritten),
+        Err(_) => Err(End::SinkFailed),
     }
 }
 

@@ -6,13 +6,12 @@ ghost use Rattle.sv_loop.specs.Generating.{AreGen, Generates};
 ghost use Rattle.sv_loop.specs.JournalPlaces.Stage.{Fresh};
 ghost use Rattle.sv_loop.specs.Reading.{IsAt};
 ghost use Rattle.sv_loop.specs.Replaying.{AreRun, Ended, Refuses, Replays, ReplaysAs, bad_line, configuration_fault, fault_line, status_number};
-ghost use Rattle.sv_loop.specs.Telling.{IsBehind, IsRunning, Tells, TellsLine, TellsOf, TellsOfLine, TellsOfWhole};
+ghost use Rattle.sv_loop.specs.Telling.{IsBehind, Tells, TellsLine, TellsOf, TellsOfLine, TellsOfWhole};
 ghost use Rattle.sv_loop.specs.WholeJournal.{HoldsGoodJournal, HoldsUnconfigured, IsDoneOrHindered, IsUnconfiguredOrHindered, WritesDeeds};
 ghost use Rattle.sv_loop.specs.declared.replaying.Status.{Status};
 ghost use Rattle.sv_out.specs.Faults.{HasCause, Rose};
 
 use crate::generating::{generate, number_in};
-use crate::judge::Place;
 use crate::run::{End, Run};
 use std::alloc::{AllocError, Global};
 use sv_base::text::Text;
@@ -130,7 +129,7 @@ fn read_all<R: Source, K: Sink>(
     ensures sink_later { K.faults sink.old ≤ K.faults sink.new }
     ensures source_failed { result ≡ Ending.Broken
         → Rose (R.faults source.old) (R.faults source.new) }
-    ensures sink_failed { result ≡ Ending.Stopped End.Unwritten
+    ensures sink_failed { result ≡ Ending.Stopped End.SinkFailed
         → Rose (K.faults sink.old) (K.faults sink.new) }
 {
     let mut buffer = [0u8; PIECE];
@@ -167,29 +166,12 @@ fn look_behind<R: Source>(source: &mut R) -> Ending
     }
 }
 
-impl Run {
-    /// Whether the journal may end here: behind `go`, and behind a line feed.
-    fn is_whole(&self) -> bool
-        ensures { IsTrue result ↔ ((self.now.line.items ≡ []) × IsRunning self.now.place) }
-    {
-        self.line.as_slice().is_empty() && self.place.is_running()
-    }
-}
-
-impl Place {
-    fn is_running(&self) -> bool
-        ensures { IsTrue result ↔ IsRunning self.now }
-    {
-        matches!(self, Place::Running(_))
-    }
-}
-
 /// Tells what ended the journal.
 fn close<K: Sink>(alloc: Global, run: &Run, ending: Ending, sink: &mut K) -> Status
     requires { run.now.lines ≤ 67108864 }
     ensures tells { TellsOf ending run.now (K.written sink.old) (K.written sink.new) result }
     ensures later { K.faults sink.old ≤ K.faults sink.new }
-    ensures failed { ending ≢ Ending.Stopped End.Unwritten → result ≡ Status.SinkFailed
+    ensures failed { ending ≢ Ending.Stopped End.SinkFailed → result ≡ Status.SinkFailed
         → Rose (K.faults sink.old) (K.faults sink.new) }
 {
     match ending {
@@ -218,21 +200,21 @@ fn close_line<K: Sink>(alloc: Global, run: &Run, end: End, sink: &mut K) -> Stat
     requires { run.now.lines ≤ 67108864 }
     ensures tells { TellsOfLine end run.now (K.written sink.old) (K.written sink.new) result }
     ensures later { K.faults sink.old ≤ K.faults sink.new }
-    ensures failed { end ≢ End.Unwritten → result ≡ Status.SinkFailed
+    ensures failed { end ≢ End.SinkFailed → result ≡ Status.SinkFailed
         → Rose (K.faults sink.old) (K.faults sink.new) }
 {
     match end {
-        End::Misplaced => tell_bad_line(alloc, run.lines + 1, sink),
-        End::Refused => tell_line(
+        End::BadLine => tell_bad_line(alloc, run.lines + 1, sink),
+        End::NotAccepted => tell_line(
             alloc,
             "fault 7 line ",
             run.lines + 1,
             Status::NotAccepted,
             sink,
         ),
-        End::Faulty(fault) => tell_configuration_fault(alloc, &fault, sink),
+        End::NotConfigured(fault) => tell_configuration_fault(alloc, &fault, sink),
         End::NoMemory => Status::NoMemory,
-        End::Unwritten => Status::SinkFailed,
+        End::SinkFailed => Status::SinkFailed,
     }
 }
 
@@ -313,8 +295,8 @@ fn run<R: Source, K: Sink>(alloc: Global, source: &mut R, sink: &mut K) -> Statu
 /// `inputs N spawns A kills B edges C` is written, which tells how many spawns, signals and reports of an edge the machine
 /// gave.
 ///
-/// The answer is 0 where the journal was read to its end, behind `go`, and each of its lines stood at its place, or the
-/// line of the generated run was written; 1 where the source failed; 2 where the words are refused; 3 for want of memory;
+/// The answer is 0 where the journal was read to its end, after `go`, and each of its lines stood at its place, or the
+/// line of the generated run was written; 1 where the source failed; 2 where the words are refused; 3 when out of memory;
 /// 4 where the sink failed; 5 where a line is outside the grammar of its place, or the journal ends before `go`; 6 where
 /// the header's configuration is refused; 7 where an input isn't accepted; 8 where the source has more than 67,108,864
 /// bytes. A line that tells of it was then written, but at 0, 3 and 4.

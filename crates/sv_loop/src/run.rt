@@ -1,9 +1,10 @@
 //! The lines of a journal, piece by piece.
-ghost use Rattle.std.specs.Prelude.{◌≡◌, ◌≤◌, ◌<◌, ◌+◌, ◌^◌, ◌∷◌, ◌++◌, [], List, ℕ, OnOk, IfErr, Err, Option, false, ◌≢◌, length};
+ghost use Rattle.std.specs.Prelude.{◌≡◌, ◌↔◌, IsTrue, ◌≤◌, ◌<◌, ◌+◌, ◌^◌, ◌∷◌, ◌++◌, [], List, ℕ, OnOk, IfErr, Err, Option, false, ◌≢◌, length};
 ghost use Rattle.sv_loop.specs.JournalPlaces.{Line, Stage};
 ghost use Rattle.sv_loop.specs.JournalPlaces.Stage.{Fresh};
 ghost use Rattle.sv_loop.specs.Judging.{JudgedAs};
 ghost use Rattle.sv_loop.specs.Reading.{Holds, has_feed};
+ghost use Rattle.sv_loop.specs.Telling.{IsRunning};
 ghost use Rattle.sv_out.specs.Faults.{Rose};
 ghost use Rattle.sv_out.specs.declared.order.Order.{Order};
 
@@ -20,15 +21,15 @@ use sv_out::sink::Sink;
 #[derive(Debug, Drop)]
 pub enum End {
     /// The line is outside the grammar of its place.
-    Misplaced,
+    BadLine,
     /// Its input isn't accepted.
-    Refused,
+    NotAccepted,
     /// The configuration has this fault.
-    Faulty(ConfFault),
+    NotConfigured(ConfFault),
     /// Memory was refused.
     NoMemory,
     /// Its orders couldn't be written.
-    Unwritten,
+    SinkFailed,
 }
 
 /// A journal that is read: the place of the line in hand, how many lines stand before it, and what has come of it.
@@ -54,6 +55,13 @@ impl Run {
         }
     }
 
+    /// Whether the journal may end here: after `go`, and after a line feed.
+    pub(crate) fn is_whole(&self) -> bool
+        ensures { IsTrue result ↔ ((self.now.line.items ≡ []) × IsRunning self.now.place) }
+    {
+        self.line.as_slice().is_empty() && self.place.is_running()
+    }
+
     /// Takes the next piece of the journal: the orders of each line are written before the next line is judged.
     pub(crate) fn take_piece<K: Sink>(
         &mut self,
@@ -64,7 +72,7 @@ impl Run {
         requires { self.old.lines + length piece.now < 2 ^ 32 }
         ensures few { self.new.lines ≤ self.old.lines + length piece.now }
         ensures later { K.faults sink.old ≤ K.faults sink.new }
-        ensures failed { result ≡ Err End.Unwritten → Rose (K.faults sink.old) (K.faults sink.new) }
+        ensures failed { result ≡ Err End.SinkFailed → Rose (K.faults sink.old) (K.faults sink.new) }
         ensures goes_on { OnOk result ((lines : List Line) (at : Stage) (given : List Order)
             (bytes : List ℕ) →
             IsAt self.old lines at given bytes →
@@ -90,7 +98,7 @@ impl Run {
         requires unbroken { has_feed line.now ≡ false }
         ensures few { self.new.lines ≤ self.old.lines + 1 }
         ensures later { K.faults sink.old ≤ K.faults sink.new }
-        ensures failed { result ≡ Err End.Unwritten → Rose (K.faults sink.old) (K.faults sink.new) }
+        ensures failed { result ≡ Err End.SinkFailed → Rose (K.faults sink.old) (K.faults sink.new) }
         ensures goes_on { OnOk result ((lines : List Line) (at : Stage) (given : List Order)
             (bytes : List ℕ) →
             IsAt self.old lines at given bytes →
@@ -121,10 +129,10 @@ impl Run {
             (bytes : List ℕ) (written : Option (List ℕ)) →
             IsAt self.old lines at given bytes →
             StopsAt end self.new (bytes ++ more.now) given written written) }
-        ensures written { result ≢ Err End.Unwritten }
+        ensures written { result ≢ Err End.SinkFailed }
     {
         if self.line.len() + more.len() > LINE_LIMIT {
-            return Err(End::Misplaced);
+            return Err(End::BadLine);
         }
         match self.line.extend_from_slice(more) {
             Ok(()) => Ok(()),
@@ -139,7 +147,7 @@ impl Run {
         requires unbroken { has_feed line.now ≡ false }
         ensures few { self.new.lines ≤ self.old.lines + 1 }
         ensures later { K.faults sink.old ≤ K.faults sink.new }
-        ensures failed { result ≡ Err End.Unwritten → Rose (K.faults sink.old) (K.faults sink.new) }
+        ensures failed { result ≡ Err End.SinkFailed → Rose (K.faults sink.old) (K.faults sink.new) }
         ensures goes_on { OnOk result ((lines : List Line) (at : Stage) (given : List Order)
             (bytes : List ℕ) →
             IsAt self.old lines at given bytes →
@@ -152,7 +160,7 @@ impl Run {
             (K.written sink.new)) }
     {
         if line.len() > LINE_LIMIT {
-            return Err(End::Misplaced);
+            return Err(End::BadLine);
         }
         let place = mem::replace(&mut self.place, Place::Fresh);
         let judged = judge(alloc, place, line);
@@ -164,7 +172,7 @@ impl Run {
         requires { self.old.lines < 2 ^ 32 }
         ensures few { self.new.lines ≤ self.old.lines + 1 }
         ensures later { K.faults sink.old ≤ K.faults sink.new }
-        ensures failed { result ≡ Err End.Unwritten → Rose (K.faults sink.old) (K.faults sink.new) }
+        ensures failed { result ≡ Err End.SinkFailed → Rose (K.faults sink.old) (K.faults sink.new) }
         ensures goes_on { OnOk result ((lines : List Line) (at : Stage) (given : List Order)
             (bytes : List ℕ) →
             IsAt self.old lines at given bytes →
@@ -185,7 +193,7 @@ impl Run {
         requires { self.old.lines < 2 ^ 32 }
         ensures few { self.new.lines ≤ self.old.lines + 1 }
         ensures later { K.faults sink.old ≤ K.faults sink.new }
-        ensures failed { result ≡ Err End.Unwritten → Rose (K.faults sink.old) (K.faults sink.new) }
+        ensures failed { result ≡ Err End.SinkFailed → Rose (K.faults sink.old) (K.faults sink.new) }
         ensures goes_on { OnOk result ((lines : List Line) (at : Stage) (given : List Order)
             (bytes text : List ℕ) →
             Holds self.old.lines lines at given bytes text → JudgedAs judged at text →
@@ -208,9 +216,9 @@ impl Run {
                     Err(end) => Err(end),
                 }
             }
-            Judged::Misplaced => Err(End::Misplaced),
-            Judged::Refused => Err(End::Refused),
-            Judged::Faulty(fault) => Err(End::Faulty(fault)),
+            Judged::BadLine => Err(End::BadLine),
+            Judged::NotAccepted => Err(End::NotAccepted),
+            Judged::NotConfigured(fault) => Err(End::NotConfigured(fault)),
             Judged::NoMemory => Err(End::NoMemory),
         }
     }

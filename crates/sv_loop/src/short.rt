@@ -44,18 +44,18 @@ fn spec_of(alloc: Global, program: Program) -> Result<Spec, AllocError>
     ensures { IfOk result (λ spec. spec ≡ spec_of program) }
 {
     let mut words = Items::new(alloc);
-    words.push(program.name.clone()?)?;
+    words.push(program.name.as_text().clone()?)?;
     Ok(Spec {
-        group: program.name.clone()?,
-        environment: environment(alloc, &program.name)?,
-        name: program.name,
+        group: program.name.as_text().clone()?,
+        environment: environment(alloc, program.name.as_text())?,
+        name: program.name.into_text(),
         words,
         priority: 999,
         autostart: true,
         startsecs: program.startsecs,
         startretries: program.startretries,
         autorestart: program.autorestart,
-        exitcodes: program.exitcodes,
+        exitcodes: program.exitcodes.into_items(),
         stopsignal: program.stopsignal,
         stopwaitsecs: program.stopwaitsecs,
         stopasgroup: false,
@@ -73,7 +73,7 @@ fn spec_of(alloc: Global, program: Program) -> Result<Spec, AllocError>
 pub(crate) fn group_of(alloc: Global, program: Program) -> Result<GroupSpec, AllocError>
     ensures { IfOk result (λ group. group ≡ group_of program) }
 {
-    let name = program.name.clone()?;
+    let name = program.name.as_text().clone()?;
     let mut members = Items::new(alloc);
     members.push(spec_of(alloc, program)?)?;
     Ok(GroupSpec {

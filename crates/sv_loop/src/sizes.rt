@@ -34,7 +34,7 @@ impl Sizes {
         }
     }
 
-    /// These sizes and that of one more file, whose name stands behind the others.
+    /// These sizes and that of one more file, whose name stands after the others.
     pub(crate) fn with(self, file: Text, size: u64) -> Result<Sizes, AllocError>
         requires { IsTrue (is_behind file self) }
         ensures { IfOk result (λ more. more ≡ self ++ (file, size) ∷ []) }
@@ -62,7 +62,7 @@ impl Sizes {
     }
 }
 
-/// Whether the name stands behind that of the last entry, if there is one.
+/// Whether the name stands after that of the last entry, if there is one.
 pub(crate) fn is_behind<V>(name: &Text, entries: &[(Text, V)]) -> bool
     ensures { result ≡ is_behind name.now entries.now }
 {

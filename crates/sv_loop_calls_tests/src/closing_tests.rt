@@ -366,7 +366,7 @@ pid 13
 > halt
 ",
     },
-    // Link 1 has started the process again, in vain, when link 2 is looked at; the stop plan comes behind.
+    // Link 1 has started the process again, in vain, when link 2 is looked at; the stop plan comes after.
     Script {
         name: "a_wait_that_the_halt_leaves_without_a_reply",
         lines: "\

@@ -1,11 +1,11 @@
 //! Journals in a short form, in which a call, its reply, a spawn and an event are a line of words each, and what is written
-//! stands behind the input that gives it.
+//! stands after the input that gives it.
 //!
 //! Before `go` a line is a section of the configuration, `KIND NAME KEY=VALUE ..`, or `size FILE NUMBER`. The daemon has a
 //! server at a port, the interface of methods unless a line `bare` takes it away, and no main log unless a `daemon` line names
 //! one; a program's command is its name, and it has no log files unless its line names them.
 //!
-//! Behind `go` a line that begins with `> ` is written, and each other one is an input. These are spelled out:
+//! After `go` a line that begins with `> ` is written, and each other one is an input. These are spelled out:
 //!
 //! - `M call LINK METHOD VALUE ..` is a piece of a link that calls the method; with ` | ` between them, several calls in one
 //!   piece. `M last LINK ..` is a call that closes the link.
@@ -104,7 +104,7 @@ fn put_scalar(out: &mut String, word: &str) -> Result<(), AllocError> {
     out.push_str("</string></value>")
 }
 
-/// What stands behind a value that is in these arrays (`false`) and structs (`true`).
+/// What stands after a value that is in these arrays (`false`) and structs (`true`).
 fn put_end(out: &mut String, inside: &[bool]) -> Result<(), AllocError> {
     match inside.last() {
         None => out.push_str("</param>"),
@@ -377,7 +377,7 @@ impl Spelled {
         }
     }
 
-    /// A line behind the header.
+    /// A line after the header.
     fn put_line(&mut self, alloc: Global, line: &str) -> Result<(), AllocError> {
         if let Some(order) = line.strip_prefix("> ") {
             return put_written(alloc, &mut self.written, order);

@@ -134,7 +134,7 @@ go 0
     },
 ];
 
-/// Each part is begun when the one before has its answer, in the same turn; there is one reply, behind the last.
+/// Each part is begun when the one before has its answer, in the same turn; there is one reply, after the last.
 const WAITS: [Script; 8] = [
     Script {
         name: "a_wait_in_the_middle",
@@ -529,7 +529,7 @@ const REQUEST: &str =
 const OPENED: &str =
     "supervisor-journal 1\nhost h\nhere /\npid 1\nconf [supervisord]%0Alogfile=NONE%0A[inet_http_server]%0Aport=9001%0A[rpcinterface:supervisor]%0A[program:x]%0Acommand=x%0Astdout_logfile=NONE%0Astderr_logfile=NONE%0Aautostart=false%0A\ngo 0\n0 open 1 inet\n";
 
-/// What stands behind it.
+/// What stands after it.
 const STARTED: &str = "pid 12\n1000 tick\n";
 
 /// What is written once the request is whole.
@@ -594,7 +594,7 @@ fn four_calls_in_the_short_form(rt: HostRuntime) {
     assert_eq!(rt; spelled.written.as_str(), written.as_str());
 }
 
-/// The request cut behind so many bytes: the link is read on once more, and nothing else is other.
+/// The request cut after so many bytes: the link is read on once more, and nothing else is other.
 fn cut_behind(rt: &impl Abort, alloc: Global, at: usize) {
     if at >= REQUEST.len() {
         return;

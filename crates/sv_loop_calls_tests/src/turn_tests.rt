@@ -96,7 +96,7 @@ pid 12
     },
 ];
 
-/// A question of a call stops the turn for all links; behind its answer the turn goes on where it was.
+/// A question of a call stops the turn for all links; after its answer the turn goes on where it was.
 const QUESTIONS: [Script; 7] = [
     Script {
         name: "a_spawn_of_each_link_in_one_turn",

@@ -3,7 +3,7 @@
 
 use crate::scripts::{Script, perform};
 
-/// A call waits over turns. What its link brings meanwhile is kept, and is served behind it; More is given when nothing is left
+/// A call waits over turns. What its link brings meanwhile is kept, and is served after it; More is given when nothing is left
 /// to answer.
 const ONE_LINK: [Script; 9] = [
     // A piece names a link whose last order is More: the call that waits has given the link no order since.
@@ -476,7 +476,7 @@ nofile
     },
 ];
 
-/// A link that ended or failed while its call waits: the call goes on to its end without a reply, and what is behind it isn't
+/// A link that ended or failed while its call waits: the call goes on to its end without a reply, and what is after it isn't
 /// begun.
 const GONE_LINKS: [Script; 8] = [
     Script {

@@ -3,7 +3,7 @@
 
 use crate::tests::{Case, play};
 
-/// One call in three spellings, whole and cut; a link that is cut gets More behind each piece, and one reply.
+/// One call in three spellings, whole and cut; a link that is cut gets More after each piece, and one reply.
 const SPELLINGS: [Case; 7] = [
     Case {
         name: "a_call",
@@ -49,7 +49,7 @@ const SPELLINGS: [Case; 7] = [
     },
 ];
 
-/// Requests of one link are answered in their order, those of several links in rising number; what closes a link, and what stands behind that.
+/// Requests of one link are answered in their order, those of several links in rising number; what closes a link, and what stands after that.
 const ORDERS: [Case; 9] = [
     Case {
         name: "two_links",

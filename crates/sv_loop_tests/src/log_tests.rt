@@ -4,7 +4,7 @@
 use crate::tests::{Case, play};
 
 /// Log files of processes that become full, with 0, 1 and 3 backups, and with sizes that were known before. A log is full where
-/// its size is at least the limit, and is looked at behind an append alone.
+/// its size is at least the limit, and is looked at after an append alone.
 const ROTATIONS: [Case; 12] = [
     Case {
         name: "no_backups",
@@ -151,7 +151,7 @@ const SHARED: [Case; 11] = [
     },
 ];
 
-/// Both streams of a run, with redirect_stderr and without: a piece behind its own end is no stimulus, and a joined stream ends
+/// Both streams of a run, with redirect_stderr and without: a piece after its own end is no stimulus, and a joined stream ends
 /// when both pipes have ended, in either order.
 const STREAMS: [Case; 13] = [
     Case {
@@ -310,7 +310,7 @@ const TAILS: [Case; 7] = [
 ];
 
 /// Empty messages, several parts of one piece, messages of stderr and of streams without a file. The report and the line of an
-/// overflow stand where the message is, between what is logged before it and behind it.
+/// overflow stand where the message is, between what is logged before it and after it.
 const MESSAGES: [Case; 7] = [
     Case {
         name: "an_empty_message_and_the_next",
@@ -356,7 +356,7 @@ const MESSAGES: [Case; 7] = [
     },
 ];
 
-/// Each part that is logged gives its event where the stream's events are enabled, behind its append and what that rotates, and
+/// Each part that is logged gives its event where the stream's events are enabled, after its append and what that rotates, and
 /// also where the stream has no file.
 const LOG_EVENTS: [Case; 8] = [
     Case {
@@ -409,7 +409,7 @@ const LOG_EVENTS: [Case; 8] = [
     },
 ];
 
-/// A run writes on behind its exit, and behind the start of the next run too: each piece is its own run's, with that run's pid.
+/// A run writes on after its exit, and after the start of the next run too: each piece is its own run's, with that run's pid.
 const OLD_RUNS: [Case; 7] = [
     Case {
         name: "a_part_of_an_ended_run",
@@ -455,7 +455,7 @@ const OLD_RUNS: [Case; 7] = [
     },
 ];
 
-/// What a listener writes is logged whole, without capture, and before its words are taken; behind its exit it is only logged. Its
+/// What a listener writes is logged whole, without capture, and before its words are taken; after its exit it is only logged. Its
 /// stderr may be captured.
 const LISTENERS: [Case; 9] = [
     Case {

@@ -1,10 +1,10 @@
-//! Journals with a main log: each of its lines, their levels and moments, what stands before and behind them, and its rotation.
+//! Journals with a main log: each of its lines, their levels and moments, what stands before and after them, and its rotation.
 //! There are several tables, since one of all journals takes more steps to prove than a proof may take.
 
 use crate::tests::{Case, play};
 
 /// Each line of the main log once, at its level: a spawn, a start that counts, an early exit, an exit that is expected and one
-/// that isn't, a stop, a kill by deadline. An exit at a reached deadline gives two lines, each behind its report.
+/// that isn't, a stop, a kill by deadline. An exit at a reached deadline gives two lines, each after its report.
 const LINES: [Case; 10] = [
     Case {
         name: "a_spawn_and_a_piece",
@@ -202,7 +202,7 @@ const MOMENTS: [Case; 6] = [
     },
 ];
 
-/// A spawn that fails says why, behind the report and before the event. Of a failed order it is said at the moment of the last
+/// A spawn that fails says why, after the report and before the event. Of a failed order it is said at the moment of the last
 /// turn. Neither the next try nor a stop from BACKOFF has a line; FATAL has one.
 const SPAWN_FAILURES: [Case; 9] = [
     Case {
@@ -308,7 +308,7 @@ const ORDERS: [Case; 7] = [
     },
 ];
 
-/// Lines of overflows: of several pools, with the event's number among all events, and behind a write that failed.
+/// Lines of overflows: of several pools, with the event's number among all events, and after a write that failed.
 const OVERFLOWS: [Case; 3] = [
     Case {
         name: "two_full_pools_have_a_line_each",
@@ -330,7 +330,7 @@ const OVERFLOWS: [Case; 3] = [
     },
 ];
 
-/// The main log is rotated as any other, in the middle of an edge too: behind its line and before the event, the spawn or the
+/// The main log is rotated as any other, in the middle of an edge too: after its line and before the event, the spawn or the
 /// kill. Its known size may come from the header.
 const MAIN_ROTATIONS: [Case; 8] = [
     Case {

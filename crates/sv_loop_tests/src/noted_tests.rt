@@ -1,4 +1,4 @@
-//! Journals of daemons: orders behind a mark, which are passed over.
+//! Journals of daemons: orders after a mark, which are passed over.
 
 use crate::tests::{Case, play};
 

@@ -302,7 +302,7 @@ pub(crate) fn play(rt: &impl Abort, alloc: Global, case: &Case, most: usize) {
     assert!(rt; sink.written() == case.written.as_bytes(), "{}", case.name);
 }
 
-/// The source fails at one of its calls: what was written is a front of the orders, and `fault 1`.
+/// The source fails at one of its calls: what was written is a prefix of the orders, and `fault 1`.
 fn break_source(rt: &impl Abort, alloc: Global, case: &Case, failing: u64) {
     let words = words(rt, alloc, "run");
     let mut source = source(rt, alloc, case.journal.as_bytes(), 16, failing);
@@ -316,7 +316,7 @@ fn break_source(rt: &impl Abort, alloc: Global, case: &Case, failing: u64) {
     }
 }
 
-/// The sink fails at one of its writes: what was written is a front of what would have been.
+/// The sink fails at one of its writes: what was written is a prefix of what would have been.
 fn break_sink(rt: &impl Abort, alloc: Global, case: &Case, failing: u64) {
     let words = words(rt, alloc, "run");
     let mut source = source(rt, alloc, case.journal.as_bytes(), 4_096, 0);
@@ -367,7 +367,7 @@ fn refuse(
 
 pub(crate) const USAGE: &[u8] = b"Error: usage: sv_replay run or sv_replay gen N\n";
 
-/// A journal cut after each byte: whole behind the line feed of `go` or of a later line, else at fault.
+/// A journal cut after each byte: whole after the line feed of `go` or of a later line, else at fault.
 fn cut(rt: &impl Abort, alloc: Global, journal: &[u8], at: usize, go: usize) {
     if at > journal.len() {
         return;

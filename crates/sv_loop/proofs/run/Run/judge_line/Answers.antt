@@ -2,13 +2,13 @@ use Rattle.std.proofs.Common.{◌∷◌, ◌++◌, [], List, ℕ, append_assoc, 
 use Rattle.std.proofs.lemmas.Result.{IfErr-weaker, on_ok_weaker}
 use Rattle.sv_loop.proofs.RunSteps.{holds_line, stops_in_line, too_long}
 use Rattle.sv_loop.specs.Reading.{GoesOn, StopsAt}
-use Rattle.sv_loop.specs.declared.run.End.TheVariants.{Misplaced}
+use Rattle.sv_loop.specs.declared.run.End.TheVariants.{BadLine}
 use Rattle.sv_loop.proofs.run.Run.judge_line.Goals as goal
 
 pub returns-then-line-gt-LINE_LIMIT-clause-stops : goal.returns-then-line-gt-LINE_LIMIT-clause-stops
 returns-then-line-gt-LINE_LIMIT-clause-stops g c = λ lines at given bytes is.
     let run = c.args.self.now in
-    stops_in_line Misplaced run run lines at given bytes c.args.line.now _ is
+    stops_in_line BadLine run run lines at given bytes c.args.line.now _ is
     (λ l a o b s. too_long run l a o b c.args.line.now _ s (omega (arith, c.if-line-gt-LINE_LIMIT.true)) c.requires.unbroken)
 
 pub returns-clause-goes_on : goal.returns-clause-goes_on
