@@ -6,7 +6,7 @@ ghost use Rattle.sv_record.specs.Header.{env_text, header_text, include_text, li
 
 use std::alloc::{AllocError, Global};
 use sv_base::{Bytes, Host, Text};
-use sv_journal::{Header, write_header};
+use sv_journal::{Header, Version, write_header};
 
 /// The text of a daemon's long header: of its host, of the sizes of log files in bytes, by rising names, and of its configuration,
 /// the main text and the included ones with their names, in the order in which they were read.
@@ -36,7 +36,7 @@ fn put_host(alloc: Global, text: &mut Vec<u8>, host: &Host) -> Result<(), AllocE
         ++ (line_text (Header.Journal 1) ++ line_text (Header.Host host.now.name)
         ++ line_text (Header.Here host.now.here) ++ line_text (Header.Pid host.now.pid))) }
 {
-    put_line(alloc, text, &Header::Journal(1))?;
+    put_line(alloc, text, &Header::Journal(Version::new(1).unwrap()))?;
     put_line(alloc, text, &Header::Host(host.name.clone()?))?;
     put_line(alloc, text, &Header::Here(host.here.clone()?))?;
     put_line(alloc, text, &Header::Pid(host.pid))
