@@ -1,5 +1,5 @@
 //! Measures how often threads read the states of eight processes while one thread reports: from a board, and beside it
-//! from a list behind a lock. `bench/board` runs it.
+//! from a list after a lock. `bench/board` runs it.
 #![tactic(auto)]
 
 ghost use Rattle.std.specs.Prelude.{◌≤◌};
@@ -104,7 +104,7 @@ fn read_often<R: Wait>(rt: &R, reader: BoardReader) -> usize {
     rows
 }
 
-/// So many threads read a list behind a lock while this one reports.
+/// So many threads read a list after a lock while this one reports.
 fn read_lock<R: Threads + Wait + Copy + Send + 'static>(
     rt: &R,
     alloc: Global,

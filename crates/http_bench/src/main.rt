@@ -20,7 +20,7 @@ const LARGE: &[u8] = b"POST /RPC2 HTTP/1.1\r\nHost: x\r\nContent-Length: 1048576
 
 const HALF: &[u8] = b"POST /RPC2 HTTP/1.1\r\nHost: x\r\nContent-Length: 524288\r\n\r\n";
 
-/// What stands before and behind a long field.
+/// What stands before and after a long field.
 const BEFORE: &[u8] = b"POST /RPC2 HTTP/1.1\r\nHost: x\r\nContent-Length: 0\r\nX: ";
 
 const BEHIND: &[u8] = b"\r\n\r\n";

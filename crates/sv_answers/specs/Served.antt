@@ -40,7 +40,7 @@ faulty fault subject = Faults (pos (fault_number fault)) (fault_text fault subje
 
 -- ---- a request
 
--- a request is refused, or it is a call, behind whose reply the link closes or not
+-- a request is refused, or it is a call, after whose reply the link closes or not
 pub data Request : Type 0 where
   Refuses : Sent → Request
   Calls : CallTree → Bool → Request

@@ -15,7 +15,7 @@ use sv_xmlcall::{Call, CallFault, Value, read_call};
 pub enum Heard {
     /// It is refused by this.
     Refuses(Sent),
-    /// It is this call, behind whose reply the link closes or not.
+    /// It is this call, after whose reply the link closes or not.
     Calls(Call, bool),
 }
 

@@ -15,11 +15,11 @@ use sv_xmlcall::{Answered, write_fault, write_reply};
 #[derive(Debug, Drop)]
 pub struct Sent {
     pub text: Bytes,
-    /// Whether the link closes behind it.
+    /// Whether the link closes after it.
     pub closes: bool,
 }
 
-/// The reply that tells what a call is answered (RFC 9112; the XML-RPC specification). Behind it the link closes, or not.
+/// The reply that tells what a call is answered (RFC 9112; the XML-RPC specification). After it the link closes, or not.
 pub fn say(alloc: Global, close: bool, answered: &Answered) -> Result<Sent, AllocError>
     ensures { IfOk result (λ sent. sent ≡ said close (reply_view answered.now)) }
 {

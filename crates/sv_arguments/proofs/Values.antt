@@ -15,7 +15,7 @@ refused_by : (kind : ErrorKind) (kinds : Kinds) (rows : List Row) → IsAmong ki
 refused_by kind [] rows among = absurd among
 refused_by kind (first ∷ kinds) rows among = refl
 
--- an error of another kind than want of memory comes only where the command line refuses the words
+-- an error of another kind than out of memory comes only where the command line refuses the words
 pub refused : (words all : List (List ℕ)) (error : Error) → all ≡ with_name words → kind_of error ≢ kind.OutOfMemory
     → HasKind (fault_of command_line all) error → arguments_of words ≡ None
 refused words all error is known fails =

@@ -18,7 +18,7 @@ pub struct Arguments {
 }
 
 /// What the words after the program's name say; none exactly where the command line refuses them: without a configuration file,
-/// with an unknown word, with an option that stands twice or has no value, and with one that asks for help. `-n` and
+/// with an unknown word, with an option that is given twice or has no value, and with one that asks for help. `-n` and
 /// `--nodaemon` are taken and say nothing.
 pub fn arguments_of(alloc: Global, words: &[Text]) -> Result<Option<Arguments>, AllocError>
     ensures { IfOk result (λ arguments. arguments ≡ arguments_of words.now) }

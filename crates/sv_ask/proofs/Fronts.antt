@@ -1,4 +1,4 @@
--- What follows a front of a text.
+-- What follows a prefix of a text.
 use Rattle.std.proofs.Common.{◌≡◌, ◌≢◌, ◌++◌, ◌⊎◌, inl, inr, ℕ, List, [], ◌∷◌, Bool, Option, None, Some, true, false, if◌then◌else◌, eqb, refl, sym, ap, ◌∙◌, option_map, Bor}
 use Rattle.std.specs.Option.{MatchOption}
 use Rattle.std.specs.Str.Pattern.{FindsTextPrefix, StripsPrefix}
@@ -9,7 +9,7 @@ pub behind_front : (front rest : List ℕ) → behind front (front ++ rest) ≡ 
 behind_front [] rest = refl
 behind_front (byte ∷ front) rest = rw (eq-eqb byte byte refl) (behind_front front rest)
 
--- a text that doesn't begin with the front: what is left doesn't, or the first byte differs
+-- a text that doesn't begin with the prefix: what is left doesn't, or the first byte differs
 lacks_by : (front text : List ℕ) (byte other : ℕ) (same : Bool) → eqb other byte ≡ same
     → ((rest : List ℕ) → other ∷ text ≢ (byte ∷ front) ++ rest) → ((rest : List ℕ) → text ≢ front ++ rest) ⊎ (same ≡ false)
 lacks_by front text byte other true is lacks = inl (λ rest e. lacks rest (cc (e, eqb-true other byte is)))
@@ -28,11 +28,11 @@ behind_none (byte ∷ front) (other ∷ text) lacks =
       | inr differs ↦ rw differs refl
     ]
 
--- what was found behind a front
+-- what was found after a prefix
 pub found_behind : (front text rest : List ℕ) → text ≡ front ++ rest → behind front text ≡ Some rest
 found_behind front text rest is = rw is (behind_front front rest)
 
--- what std's search for a front gives
+-- what std's search for a prefix gives
 pub stripped : (front text : List ℕ) (result : Option (Bor (List ℕ)))
     → MatchOption result (FindsTextPrefix front text None) (λ x. StripsPrefix (FindsTextPrefix front) text x.now)
     → option_map (λ rest. rest.now) result ≡ behind front text

@@ -157,7 +157,7 @@ asks_broken old new request front = record {
   told = heard_nothing new ∙ ap (λ t. option_map (having_heard [] false) t) front.sent;
 }
 
--- what is heard behind a request that was sent
+-- what is heard after a request that was sent
 sends_all : (request : List ℕ) (heard : List ℕ) (ended : Bool) (result : Result Answered AskFault) → Hears heard ended result → Sends request request result
 sends_all request heard ended (Ok answered) hears = refl
 sends_all request heard ended (Err LinkFailed) hears = record { rest = []; parts = sym (append-nil request) }

@@ -24,7 +24,7 @@ unfoldable pub request_of : ClientSpec → CallTree → List ℕ
 request_of client call =
     request_text (written_call call) (host_of client.url) client.username client.password
 
--- these bytes were sent: the request, or a front of it where the link failed or memory was refused
+-- these bytes were sent: the request, or a prefix of it where the link failed or memory was refused
 pub record IsFront (text front : List ℕ) : Type 0 where
   pub rest : List ℕ
   pub parts : text ≡ front ++ rest
@@ -57,7 +57,7 @@ Hears heard ended (Err Refused) = ⊥
 Hears heard ended (Err LinkFailed) = Unit {0}
 Hears heard ended (Err OutOfMemory) = Unit {0}
 
--- bytes were heard behind others, and the end where it came
+-- bytes were heard after others, and the end where it came
 abbrev pub having_heard : List ℕ → Bool → Exchange → Exchange
 having_heard heard ended exchange =
     record exchange { heard = exchange.heard ++ heard; ended = exchange.ended || ended }
@@ -89,14 +89,14 @@ pub record IsExchange (place : Place) (request : List ℕ) (exchange : Exchange)
   pub sends : Sends request exchange.sent result
   pub hears : Hears exchange.heard exchange.ended result
 
--- a dial tells the exchange of a call behind those before
+-- a dial tells the exchange of a call after those before
 abbrev pub AddsOne : List Exchange → Option (List Exchange) → Place → List ℕ
     → Result Answered AskFault → Type 0
 AddsOne before after place request result =
     (exchange : Exchange) × (after ≡ Some (before ++ exchange ∷ []))
     × IsExchange place request exchange result
 
--- what a dial tells of a call, behind what it told before; where memory was refused, its exchange or
+-- what a dial tells of a call, after what it told before; where memory was refused, its exchange or
 -- nothing
 abbrev pub Calls : List Exchange → Option (List Exchange) → Place → List ℕ → Result Answered AskFault → Type 0
 Calls before after place request (Err Refused) = after ≡ Some before

@@ -1,11 +1,11 @@
--- Where a server's URL leads: `http://HOST:PORT`, behind which one slash may stand, or `unix://PATH`.
+-- Where a server's URL leads: `http://HOST:PORT`, after which one slash may stand, or `unix://PATH`.
 use Rattle.std.specs.Prelude.{◌==◌, ◌&&◌, ◌+◌, ◌-◌, ◌*◌, ◌∷◌, ℕ, List, [], Bool, not, Option, Some, None, codes, length, take, nat_le, nat_lt, slice_index, if◌then◌else◌}
 use Rattle.std.specs.Char.{is_ascii_digit}
 use Rattle.std.specs.List.{list_any, before_first, after_first, position_or_len}
 use Rattle.sv_base.specs.declared.config.Place.{Place}
 use Rattle.sv_base.specs.declared.config.Place.TheVariants.{Inet, Unix}
 
--- what follows a front, where the text begins with it
+-- what follows a prefix, where the text begins with it
 abbrev pub behind : List ℕ → List ℕ → Option (List ℕ)
 behind [] text = Some text
 behind (byte ∷ front) [] = None
@@ -25,13 +25,13 @@ without_slash text =
     if nat_lt 0 (length text) && is_slash (slice_index text (length text - 1))
     then take (length text - 1) text else text
 
--- what stands before and behind the first colon, where there is one
+-- what stands before and after the first colon, where there is one
 abbrev pub parted : List ℕ → Option (List ℕ × List ℕ)
 parted text =
     if nat_lt (position_or_len is_colon text) (length text)
     then Some (before_first is_colon text, after_first is_colon text) else None
 
--- the number that further decimal digits write behind a number, where it is at most 65,535
+-- the number that further decimal digits write after a number, where it is at most 65,535
 abbrev pub digits_from : ℕ → List ℕ → Option ℕ
 digits_from number [] = Some number
 digits_from number (digit ∷ digits) =
@@ -66,7 +66,7 @@ inet_of (Some parts) = inet_at parts.0 (port_of parts.1)
 abbrev pub unix_of : List ℕ → Option Place
 unix_of path = if length path == 0 then None else Some (Unix path)
 
--- the place, by what stands behind `http://` and behind `unix://`
+-- the place, by what stands after `http://` and after `unix://`
 abbrev pub place_behind : Option (List ℕ) → Option (List ℕ) → Option Place
 place_behind (Some rest) other = inet_of (parted (without_slash rest))
 place_behind None (Some path) = unix_of path
@@ -76,7 +76,7 @@ place_behind None None = None
 abbrev pub place_of : List ℕ → Option Place
 place_of url = place_behind (behind (codes "http://") url) (behind (codes "unix://") url)
 
--- the Host of a request, by what stands behind `http://`
+-- the Host of a request, by what stands after `http://`
 abbrev pub host_behind : Option (List ℕ) → List ℕ
 host_behind (Some rest) = without_slash rest
 host_behind None = codes "localhost"

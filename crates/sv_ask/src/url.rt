@@ -8,7 +8,7 @@ ghost use Rattle.sv_ask.specs.ServerUrl.{behind, without_slash, parted, port_of,
 use std::alloc::{AllocError, Global};
 use sv_base::{Place, Text};
 
-/// The place of a URL of the form `http://HOST:PORT`, behind which one slash may stand, or `unix://PATH`; none exactly
+/// The place of a URL of the form `http://HOST:PORT`, after which one slash may stand, or `unix://PATH`; none exactly
 /// where it has neither form. A host isn't empty and has no colon and no slash, a port is a number from 1 to 65,535, and
 /// a path isn't empty.
 pub fn place_of(alloc: Global, url: &str) -> Result<Option<Place>, AllocError>
@@ -33,7 +33,7 @@ pub fn host_of(url: &str) -> &str
     }
 }
 
-/// What follows a front, where the text begins with it.
+/// What follows a prefix, where the text begins with it.
 fn behind<'a>(front: &str, text: &'a str) -> Option<&'a str>
     ensures { option_map (λ rest. rest.now) result ≡ behind front.now text.now }
 {
@@ -51,7 +51,7 @@ fn without_slash(text: &str) -> &str
     }
 }
 
-/// What stands before and behind the first colon.
+/// What stands before and after the first colon.
 fn parted(text: &str) -> Option<(&str, &str)>
     ensures { option_map (λ parts. (parts.0.now, parts.1.now)) result ≡ parted text.now }
 {

@@ -16,7 +16,7 @@ abbrev pub is_before : {A : Type 0} → (A → ℤ) → (A → List ℕ) → A �
 is_before priority name x [] = true
 is_before priority name x (y ∷ ys) = is_lt (start_order priority name x y)
 
--- each starts before the one behind it
+-- each starts before the one after it
 abbrev pub is_rising : {A : Type 0} → (A → ℤ) → (A → List ℕ) → List A → Bool
 is_rising priority name [] = true
 is_rising priority name (x ∷ xs) = is_before priority name x xs && is_rising priority name xs

@@ -4,7 +4,7 @@ use Rattle.std.specs.List.{prefix_len}
 use Rattle.std.specs.Char.{is_ascii_digit}
 use Rattle.std.specs.Str.{bytes_eq, str_to_ascii_lowercase}
 
--- the number that these digits write behind a number
+-- the number that these digits write after a number
 abbrev pub number_of : ℕ → List ℕ → ℕ
 number_of number [] = number
 number_of number (digit ∷ digits) = number_of (10 * number + (digit - 48)) digits

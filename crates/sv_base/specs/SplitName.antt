@@ -7,7 +7,7 @@ use Rattle.std.specs.Str.{bytes_eq}
 abbrev pub is_colon : ℕ → Bool
 is_colon byte = nat_eq byte 58
 
--- the process that the part behind the colon names: none is the whole group
+-- the process that the part after the colon names: none is the whole group
 abbrev pub member_of : List ℕ → Option (List ℕ)
 member_of [] = None
 member_of (byte ∷ bytes) = if bytes_eq (byte ∷ bytes) (codes "*") then None else Some (byte ∷ bytes)

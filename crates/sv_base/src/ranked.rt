@@ -29,7 +29,7 @@ pub fn start_order<T: Ranked>(one: &T, other: &T) -> Ordering
         .then(one.name().cmp(other.name()))
 }
 
-/// Whether each starts before the one behind it.
+/// Whether each starts before the one after it.
 pub fn are_rising<T: Ranked>(items: &[T]) -> bool
     ensures { result ≡ is_rising T.priority_of T.name_of items.now }
 {

@@ -1,4 +1,4 @@
--- Fronts of lists of reports.
+-- Prefixes of lists of reports.
 use Rattle.std.proofs.Common.{◌≡◌, ℕ, ◌≤◌, List, [], ◌∷◌, ◌++◌, length, take, drop, sym, refl, ap, ◌∙◌, append_assoc, append-nil, length-append, take-append-drop, arith, subst}
 use Rattle.std.proofs.lemmas.List.{take-append-le, take_all}
 use Rattle.sv_board.specs.Board.{IsFront}
@@ -19,7 +19,7 @@ front_on xs ys zs a b = (a.0 ++ b.0, b.1 ∙ ap (λ (l : List Report). l ++ b.0)
 pub front_length : (xs ys : List Report) → IsFront xs ys → length xs ≤ length ys
 front_length xs ys front = let l = length-append xs front.0 in let e = ap length front.1 in omega arith
 
--- so many of the first reports are those of a front that is long enough
+-- so many of the first reports are those of a prefix that is long enough
 pub front_take : (n : ℕ) (xs ys : List Report) → n ≤ length xs → IsFront xs ys → take n ys ≡ take n xs
 front_take n xs ys short front = ap (take n) front.1 ∙ take-append-le n xs front.0 short
 
@@ -29,6 +29,6 @@ take_front n xs = (drop n xs, sym (take-append-drop n xs))
 pub take_whole : (n : ℕ) (xs : List Report) → n ≡ length xs → take n xs ≡ xs
 take_whole n xs is = take_all n xs (omega arith)
 
--- what was seen of a list is a front of what is seen of a longer one
+-- what was seen of a list is a prefix of what is seen of a longer one
 pub seen_front : (n m : ℕ) (xs ys : List Report) → IsFront xs ys → m ≡ length ys → IsFront (take n xs) (take m ys)
 seen_front n m xs ys front whole = subst (λ (l : List Report). IsFront (take n xs) l) (sym (take_whole m ys whole)) (front_on (take n xs) xs ys (take_front n xs) front)

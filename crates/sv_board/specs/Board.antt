@@ -22,7 +22,7 @@ put_row rows row (Some place) = slice_set rows place row
 abbrev pub after : List Row → Report → List Row
 after rows report = put_row rows (row_of report) (position (is_of report) rows)
 
--- the first list is a front of the second
+-- the first list is a prefix of the second
 abbrev pub IsFront : List Report → List Report → Type 0
 IsFront front whole = (later : List Report) × (whole ≡ front ++ later)
 

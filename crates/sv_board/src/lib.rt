@@ -1,5 +1,5 @@
 //! The board of states: one thread reports the states of processes, others read them without a lock. Each read is the
-//! board of a front of what was reported, no shorter than each earlier read of its reader or a ticket that it learnt.
+//! board of a prefix of what was reported, no shorter than each earlier read of its reader or a ticket that it learnt.
 #![tactic(auto)]
 
 mod home;

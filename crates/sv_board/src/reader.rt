@@ -47,7 +47,7 @@ impl BoardReader {
         }
     }
 
-    /// The rows after a front of what was reported, no shorter than that of each earlier read and each ticket that was
+    /// The rows after a prefix of what was reported, no shorter than that of each earlier read and each ticket that was
     /// learnt. Refused where memory runs out, or the writer is gone; the reader is then as it was.
     pub fn read<R: Wait>(&mut self, rt: &R) -> Result<Vec<Row>, AllocError>
         ensures rows { IfOk result (λ rows. rows.items ≡ board (seen self.new)) }

@@ -23,7 +23,7 @@ pub record SeveralRecord : Type 0 where
   pub results : List Tree
   pub parts : List PartTree
 
--- a call in hand: whether its link closes behind the reply, whether it is several calls in one, and what the call that was
+-- a call in hand: whether its link closes after the reply, whether it is several calls in one, and what the call that was
 -- begun last still has to do
 pub record CallRecord : Type 0 where
   pub close : Bool
@@ -173,7 +173,7 @@ faulted setback place (Some asked) rows =
 abbrev pub rows_faulted : Setback → ℕ → List Asked → List Asked
 rows_faulted setback place rows = faulted setback place (slice_get rows place) rows
 
--- each request has its row, in their order: behind that of the request that was begun last are those of the others
+-- each request has its row, in their order: after that of the request that was begun last are those of the others
 abbrev pub row_place : TaskRecord → ℕ
 row_place task = length task.waiting.rows - length task.requests - 1
 
@@ -204,7 +204,7 @@ waiting_of (Some task) = Some task.waiting
 abbrev pub waiting_at : LinkId → CallBook → Option Waiting
 waiting_at link book = waiting_of (task_of (call_at link book))
 
--- what is replied, and whether the link closes behind it
+-- what is replied, and whether the link closes after it
 pub record AnswerTree : Type 0 where
   pub close : Bool
   pub reply : Reply

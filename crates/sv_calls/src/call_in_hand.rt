@@ -19,7 +19,7 @@ use sv_xmlcall::Answered;
 /// A call in hand.
 #[derive(Drop)]
 pub(crate) struct CallInHand {
-    /// Whether its link closes behind the reply.
+    /// Whether its link closes after the reply.
     pub(crate) close: bool,
     /// Whether it is several calls in one.
     pub(crate) several: Option<Several>,

@@ -37,7 +37,7 @@ impl Calls {
         }
     }
 
-    /// A call of a link is begun, behind whose reply the link closes or not.
+    /// A call of a link is begun, after whose reply the link closes or not.
     pub fn begin(&mut self, link: LinkId, close: bool) -> Result<(), AllocError>
         ensures { OnOk result ((book : CallBook) → StandsFor self.old book
             → StandsFor self.new (begun link (new_call close) book)) }

@@ -54,7 +54,7 @@ pub walk_of : (spec : Spec) (child : Child) (happening : Happening) → Walks ch
 walk_of spec child (Stimulated stimulus mood now) = walk_row stimulus child.state spec child mood now refl
 walk_of spec child (Rewound now) = refl
 
--- two walks, one behind the other
+-- two walks, one after the other
 pub walk_append : (from by to : State) (one other : List (Option Edge)) → IsWalk from one by → IsWalk by other to → IsWalk from (one ++ other) to
 walk_append from by to [] other e w = let P : State → Type 0 = λ s. IsWalk s other to in subst P (sym e) w
 walk_append from by to (None ∷ one) other v w = walk_append from by to one other v w

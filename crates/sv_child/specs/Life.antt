@@ -20,7 +20,7 @@ abbrev pub befalls : Spec → Child → Happening → Answer
 befalls spec child (Stimulated stimulus mood now) = happens spec child stimulus mood now
 befalls spec child (Rewound now) = record { child = rewound spec child now; step = stays None }
 
--- the child behind all of them
+-- the child after all of them
 abbrev pub child_after : Spec → Child → List Happening → Child
 child_after spec child [] = child
 child_after spec child (h ∷ hs) = child_after spec (befalls spec child h).child hs

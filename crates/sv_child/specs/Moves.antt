@@ -19,7 +19,7 @@ use Rattle.sv_child.specs.declared.step.ChildDeed.{ChildDeed}
 use Rattle.sv_child.specs.declared.step.ChildDeed.TheVariants.{Spawn, Kill}
 use Rattle.sv_child.specs.declared.step.Step.{Step}
 
--- what comes of a stimulus: the child behind it, and the step that it took
+-- what comes of a stimulus: the child after it, and the step that it took
 pub record Answer : Type 0 where
   pub child : Child
   pub step : Step
@@ -85,7 +85,7 @@ stays deed = record { edges = None ∷ None ∷ []; deed = deed }
 abbrev pub leads : State → State → Option ChildDeed → Step
 leads from to deed = record { edges = Some (record { from = from; to = to }) ∷ None ∷ []; deed = deed }
 
--- two edges, one behind the other
+-- two edges, one after the other
 abbrev pub leads_over : State → State → State → Step
 leads_over from by to = record {
   edges = Some (record { from = from; to = by }) ∷ Some (record { from = by; to = to }) ∷ [];

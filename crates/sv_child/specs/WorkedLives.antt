@@ -1,5 +1,5 @@
 -- Lives that were worked out by hand, one line for each time that the daemon looks at the child.
--- Moments are in milliseconds; startsecs, startretries, autorestart and stopwaitsecs stand behind `program spec`.
+-- Moments are in milliseconds; startsecs, startretries, autorestart and stopwaitsecs stand after `program spec`.
 use Rattle.std.specs.Prelude.{◌≡◌, [], ◌∷◌, ◌++◌, codes}
 use Rattle.sv_base.specs.declared.signal.Signal.TheVariants as signal_is
 use Rattle.sv_base.specs.declared.spec.Spec.{Spec}

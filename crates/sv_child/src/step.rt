@@ -28,7 +28,7 @@ pub enum ChildDeed {
 pub struct Step {
     /// The edges, in order.
     pub edges: [Option<Edge>; 2],
-    /// The deed, which comes behind the edges.
+    /// The deed, which comes after the edges.
     pub deed: Option<ChildDeed>,
 }
 
@@ -63,7 +63,7 @@ impl Step {
         }
     }
 
-    /// Two edges, one behind the other.
+    /// Two edges, one after the other.
     pub(crate) fn leads_over(from: State, by: State, to: State) -> Step
         ensures { result ≡ leads_over from by to }
     {

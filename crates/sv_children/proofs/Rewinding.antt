@@ -43,7 +43,7 @@ all_joined at [] ps cs = ap (all_rewound at ps) (sym (none_rewound at cs))
 all_joined at (m ∷ ms) ps [] = refl
 all_joined at (m ∷ ms) ps (c ∷ cs) = ap (λ (xs : List Child). rewound m c at ∷ xs) (all_joined at ms ps cs)
 
--- first by these processes, and then by those behind them
+-- first by these processes, and then by those after them
 pub rewound_joined : (at n : ℕ) (ms ps : List Spec) (cs : List Child)
     → rewound_from at (ms ++ ps) n cs ≡ rewound_from at ps (n + length ms) (rewound_from at ms n cs)
 rewound_joined at zero ms ps cs = let e : 0 + length ms ≡ length ms = omega arith in rw e (all_joined at ms ps cs)

@@ -12,7 +12,7 @@ all_rewound at ss [] = []
 all_rewound at [] (c ∷ cs) = c ∷ cs
 all_rewound at (s ∷ ss) (c ∷ cs) = rewound s c at ∷ all_rewound at ss cs
 
--- the children behind so many, by these processes
+-- the children after so many, by these processes
 abbrev pub rewound_from : ℕ → List Spec → ℕ → List Child → List Child
 rewound_from at ss zero cs = all_rewound at ss cs
 rewound_from at ss (suc n) [] = []

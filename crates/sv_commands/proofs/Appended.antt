@@ -1,4 +1,4 @@
--- Texts that are put behind others part by part.
+-- Texts that are put after others part by part.
 use Rattle.std.proofs.Common.{◌≡◌, ◌<◌, ◌-◌, ℕ, zero, suc, List, [], ◌∷◌, ◌++◌, append_assoc, refl, sym, ap, ◌∙◌, arith, sub-one}
 use Rattle.std.specs.List.{repeat}
 

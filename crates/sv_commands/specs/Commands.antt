@@ -77,7 +77,7 @@ abbrev pub has_groups : Act → Bool
 has_groups Clear = false
 has_groups act = true
 
--- the signal, where there is one, behind the other parameters
+-- the signal, where there is one, after the other parameters
 abbrev pub signal_param : Option (List ℕ) → Trees
 signal_param None = no_tree
 signal_param (Some signal) = tree (text signal) no_tree
@@ -131,7 +131,7 @@ pid_of (name ∷ []) =
     Some (asked (codes "supervisor.getProcessInfo") (tree (text (sent_name name)) no_tree) (Some name) Pid true ∷ [])
 pid_of (name ∷ other ∷ more) = None
 
--- the number that further decimal digits write behind a number, where it is at most 2,147,483,647
+-- the number that further decimal digits write after a number, where it is at most 2,147,483,647
 abbrev pub digits_from : ℕ → List ℕ → Option ℕ
 digits_from number [] = Some number
 digits_from number (digit ∷ digits) =
@@ -167,7 +167,7 @@ abbrev pub is_option : List ℕ → Bool
 is_option [] = false
 is_option (byte ∷ bytes) = byte == 45
 
--- the words behind `-K`, a count of bytes: a name, and a stream where it is told
+-- the words after `-K`, a count of bytes: a name, and a stream where it is told
 abbrev pub tail_by : Option ℕ → List (List ℕ) → Option (List Asked)
 tail_by count [] = None
 tail_by count (name ∷ []) = log_end name count (reading (codes "stdout"))

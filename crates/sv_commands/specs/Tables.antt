@@ -67,7 +67,7 @@ abbrev pub longest : ℕ → List Process → ℕ
 longest most [] = most
 longest most (process ∷ processes) = longest (max most (width (title process))) processes
 
--- a text with spaces behind it, to so many characters
+-- a text with spaces after it, to so many characters
 abbrev pub padded : ℕ → List ℕ → List ℕ
 padded size text = text ++ repeat (size - width text) (32 ∷ [])
 

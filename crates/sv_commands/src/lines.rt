@@ -243,7 +243,7 @@ fn name_or_none(alloc: Global, name: &Option<Text>) -> Result<Text, AllocError>
     }
 }
 
-/// A text, with these bytes behind it.
+/// A text, with these bytes after it.
 fn text_shown(alloc: Global, behind: &[u8], value: &Value) -> Result<Option<Shown>, AllocError>
     ensures { IfOk result (λ shown. shown ≡ text_shown behind.now (view value.now)) }
 {

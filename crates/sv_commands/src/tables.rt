@@ -404,7 +404,7 @@ fn put_process(
     out.extend_from_slice(b"\n")
 }
 
-/// Writes a text with spaces behind it, to so many characters.
+/// Writes a text with spaces after it, to so many characters.
 fn put_padded(out: &mut Vec<u8>, size: usize, text: &str) -> Result<(), AllocError>
     ensures { OnOk result (out.new.items ≡ out.old.items ++ padded size text.now) }
 {

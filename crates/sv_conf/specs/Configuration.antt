@@ -41,7 +41,7 @@ abbrev pub with_all_keys : Keys → Keys → Keys
 with_all_keys keys [] = keys
 with_all_keys keys (entry ∷ more) = with_all_keys (with_key entry.0 entry.1 keys) more
 
--- a section joins the one of its name, or stands behind the others
+-- a section joins the one of its name, or stands after the others
 unfoldable pub with_section : List Section → Section → List Section
 with_section sections section =
     let place = place_of_section section.name sections in
@@ -186,7 +186,7 @@ groups_by sections names section parts None = Ok parts
 groups_by sections names section parts (Some group) =
     and_then (group_at sections names section.name group section.keys parts) (λ made. Ok (made ∷ []))
 
--- the groups of the sections in turn, behind those before them
+-- the groups of the sections in turn, after those before them
 abbrev pub groups_from : List Section → Names → List GroupSpec → List Section → List (List GroupSpec) → Result (List GroupSpec) ConfFault
 groups_from sections names groups [] parts = Ok groups
 groups_from sections names groups (section ∷ more) [] = Ok groups
@@ -198,7 +198,7 @@ groups_from sections names groups (section ∷ more) (first ∷ parts) =
 unfoldable pub all_groups : Host → List Section → List (List GroupSpec) → Result (List GroupSpec) ConfFault
 all_groups host sections parts = groups_from sections (host_names host) [] sections parts
 
--- 8. Names that stand twice: a group's among the groups before it, then those of its processes among themselves.
+-- 8. Duplicate names: a group's among the groups before it, then those of its processes among themselves.
 unfoldable pub twice_at : List Spec → Spec → Option (List ℕ)
 twice_at before member =
     if list_any (λ (other : Spec). bytes_eq other.name member.name) before then Some member.name else None
@@ -208,18 +208,18 @@ abbrev pub first_twice : List Spec → List Spec → Option (List ℕ)
 first_twice before [] = None
 first_twice before (member ∷ members) = or_else (twice_at before member) (first_twice (before ++ member ∷ []) members)
 
--- a name of this group that stands twice: its own among the groups before it, or one of its processes
+-- a duplicate name of this group: its own among the groups before it, or one of its processes
 unfoldable pub twice_in : List GroupSpec → GroupSpec → Option (List ℕ)
 twice_in before group =
     if list_any (λ (other : GroupSpec). bytes_eq other.name group.name) before then Some group.name
     else first_twice [] group.members
 
--- the fault of a name that stands twice
+-- the fault of a duplicate name
 abbrev pub or_twice : Option (List ℕ) → Result Bool ConfFault
 or_twice None = Ok true
 or_twice (Some name) = Err (TwiceNamed name)
 
--- each name stands once, or the fault of the first that stands twice
+-- each name stands once, or the fault of the first duplicate
 abbrev pub each_once : List GroupSpec → List GroupSpec → Result Bool ConfFault
 each_once before [] = Ok true
 each_once before (group ∷ groups) =

@@ -6,7 +6,7 @@ use Rattle.sv_conf.specs.declared.fault.ConfFault.TheVariants.{Ini, Missing, Bad
 use Rattle.sv_ini.specs.declared.fault.IniFault.{IniFault}
 use Rattle.sv_ini.specs.declared.fault.IniFault.TheVariants as ini
 
--- the number of a fault; want of memory has none
+-- the number of a fault; out of memory has none
 abbrev pub fault_number : ConfFault → Option ℕ
 fault_number (Ini fault) = Some 1
 fault_number (Missing section key) = Some 2
@@ -48,7 +48,7 @@ fault_text (TwiceNamed name) = with_one (codes "8 TwiceNamed") name
 fault_text TooMany = codes "9 TooMany"
 fault_text OutOfMemory = codes "out of memory"
 
--- a fault is the one that the definition gives; want of memory may always come
+-- a fault is the one that the definition gives; running out of memory is always allowed
 abbrev pub IsFault : {A : Type 0} → ConfFault → Result A ConfFault → Type 0
 IsFault OutOfMemory given = ⊤
 IsFault fault given = given ≡ Err fault

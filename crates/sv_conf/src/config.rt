@@ -24,7 +24,7 @@ use sv_keys::server_keys::Daemon;
 
 /// The configuration that a text tells, with the texts that it includes, each with the name of its file, on a host.
 /// Refused with the first fault: the text itself, its `include` section, the included texts, sections that aren't
-/// supported, programs and listeners, servers and the daemon's and client's sections, groups, names that stand twice,
+/// supported, programs and listeners, servers and the daemon's and client's sections, groups, duplicate names,
 /// too many groups or processes.
 #[tactic(auto, unfolding(crate::specs::Configuration::configuration_of))]
 pub fn config(

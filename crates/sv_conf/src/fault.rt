@@ -13,7 +13,7 @@ use thiserror::Error;
 /// Why a configuration is refused: its first fault.
 #[derive(Debug, Drop, Error)]
 pub enum ConfFault {
-    /// The text, or an included one, has no sections; never for want of memory.
+    /// The text, or an included one, has no sections; never when out of memory.
     #[error("1 Ini {0}")]
     Ini(IniFault),
     /// The section lacks a key that it must have.
@@ -49,7 +49,7 @@ pub enum ConfFault {
 impl ConfFault {
     ghost use Rattle.sv_conf.specs.FaultTexts.{fault_number, fault_text};
 
-    /// The number by which the fault is printed; want of memory has none.
+    /// The number by which the fault is printed; out of memory has none.
     pub fn number(&self) -> Option<u32>
         ensures { result ≡ fault_number self.now }
     {

@@ -209,7 +209,7 @@ fn group_at(
     })
 }
 
-/// The groups that a section makes, behind those of the sections before it.
+/// The groups that a section makes, after those of the sections before it.
 #[tactic(auto, unfolding(crate::specs::Configuration::groups_by))]
 fn groups_by(
     alloc: Global,
@@ -326,7 +326,7 @@ fn twice_in<'a>(before: &[GroupSpec], group: &'a GroupSpec) -> Option<&'a Text>
     first_twice(group.members.as_slice())
 }
 
-/// Nothing where each name stands once, else the first that stands twice as a fault.
+/// Nothing where each name stands once, else the first duplicate as a fault.
 #[tactic(auto, using(crate::proofs::Folds::taken_more, crate::proofs::Folds::dropped_more))]
 pub fn each_once(groups: &[GroupSpec]) -> Result<(), ConfFault>
     ensures good { IfOk result (λ _. each_once [] groups.now ≡ Ok true) }

@@ -10,7 +10,7 @@ ghost use Rattle.sv_conf.specs.Limits.{AreTooMany};
 ghost use Rattle.sv_conf.specs.declared.fault.ConfFault.TheVariants.{TooMany};
 ghost use Rattle.sv_conf.specs.declared.server.Others.{Others};
 
-/// A law: where no name stands twice, a configuration has too many groups or processes exactly past 256 groups or
+/// A law: where no name is a duplicate, a configuration has too many groups or processes exactly past 256 groups or
 /// past 1,024 processes, and is accepted otherwise.
 #[tactic(auto, using(crate::proofs::FewEnough::too_many_past_the_limits))]
 pub fn too_many_exactly_past_the_limits()

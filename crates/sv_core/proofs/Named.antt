@@ -9,7 +9,7 @@ use Rattle.sv_core.specs.StandsFor.{Names, is_above}
 use Rattle.sv_core.specs.declared.numbers.Numbers.{Numbers}
 use Rattle.sv_out.specs.declared.order.Order.{Order}
 
--- an input that isn't a failed order: only its own orders can be named behind it
+-- an input that isn't a failed order: only its own orders can be named after it
 pub names_fresh : (x y : Numbers) (since : ℕ) (named : List ℕ) (behind : ℕ) (older given : List Order)
     → Names x since named older
     → behind ≡ length older
@@ -40,7 +40,7 @@ still_above None number other is = with_true (nat_lt number other) where
   with_true false = refl
 still_above (Some last) number other is = lower last number other is
 
--- a failed order: only what is above it can be named behind it
+-- a failed order: only what is above it can be named after it
 pub names_failed : (x y : Numbers) (since : ℕ) (named : List ℕ) (number : ℕ) (older given : List Order)
     → Names x since named older
     → is_above x.last number ≡ true

@@ -41,7 +41,7 @@ scene_of w = record {
 
 -- ---- replies
 
--- behind a reply that closes its link stands the Close
+-- after a reply that closes its link stands the Close
 abbrev pub closes_behind : Bool → LinkId → World → World
 closes_behind true link w = gives (order.Close link) w
 closes_behind false link w = w
@@ -170,7 +170,7 @@ calls_parts link w k = calls_left (parts_left link w.calls) link w k
 abbrev pub goes_on : LinkId → World → (World → Turn) → Turn
 goes_on link w k = calls_parts link (checks_wait link w) k
 
--- one call is begun; nothing is left of it behind its answer
+-- one call is begun; nothing is left of it after its answer
 abbrev pub begins_one : LinkId → Bool → CallTree → World → (World → Turn) → Turn
 begins_one link close call w k =
     calls link call (record w { calls = begun link (new_call close) w.calls }) (λ v. calls_left zero link v k)

@@ -46,7 +46,7 @@ unfoldable pub acting : LinkId → Option Acting → (World → Turn) → World 
 acting link None k w = k w
 acting link (Some p) k w = wanting link (Some p.wanting) (λ v. does_all p.left link v k) w
 
--- the same of a call whose wait is looked at behind them
+-- the same of a call whose wait is looked at after them
 unfoldable pub acting_of : LinkId → Option Acting → (World → Turn) → World → Turn
 acting_of link None k w = k w
 acting_of link (Some p) k w = acting link (Some p) (λ v. k (checks_wait link v)) w
@@ -67,7 +67,7 @@ unfoldable pub going : LinkId → Option Going → (World → Turn) → World �
 going link None k w = k w
 going link (Some p) k w = calling link (Some p.calling) (λ v. calls_all p.left link v k) w
 
--- the same, which are answered behind them
+-- the same, which are answered after them
 unfoldable pub going_of : LinkId → Option Going → (World → Turn) → World → Turn
 going_of link None k w = k w
 going_of link (Some p) k w = going link (Some p) (λ v. k (ends_call link v)) w
@@ -77,7 +77,7 @@ unfoldable pub asking : LinkId → Option Asking → (World → Turn) → World 
 asking link None k w = k w
 asking link (Some p) k w = going_of link (Some p.going) (λ v. serves_asks p.left link v k) w
 
--- the same of a link, which gets More behind them
+-- the same of a link, which gets More after them
 unfoldable pub asking_of : LinkId → Option Asking → (World → Turn) → World → Turn
 asking_of link None k w = k w
 asking_of link (Some p) k w = asking link (Some p) (λ v. k (gives_more link v)) w

@@ -32,7 +32,7 @@ abbrev pub drop_line : Order → Option Line
 drop_line (order.Dropped pool serial poolserial) = Some (overflow_line pool serial)
 drop_line other = None
 
--- such a report, with its line behind it
+-- such a report, with its line after it
 abbrev pub tells_drop : Order → World → World
 tells_drop report w = notes_if (drop_line report) (record w { given = w.given ++ report ∷ [] })
 

@@ -144,7 +144,7 @@ replies_both number (deed ∷ one) other book =
     ap (λ (rest : List Reply). reply_by number deed book ++ rest) (replies_both number one other (after_deed deed book))
     ∙ sym (append_assoc (reply_by number deed book) (replies number one (after_deed deed book)) (replies number other (after_all one (after_deed deed book))))
 
--- behind these deeds
+-- after these deeds
 abbrev IsClosedAfter : ℕ → List Deed → Type 0
 IsClosedAfter number deeds = IsClosedOf (replies_on number deeds) (link_at number (links_after deeds))
 

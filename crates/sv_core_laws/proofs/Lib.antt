@@ -1,27 +1,34 @@
+-- the walk through a turn, for any relation that its small steps keep
+mod Steps
+mod PlainSteps
+mod CallSteps
+pub mod Answering
+mod Moving
+mod Walk
+-- what is reported of a child
+pub mod Reported
+mod Told
+mod ToldEdges
+mod Stretches
+mod Tries
+mod Spawning
+-- event pools
 mod Account
 mod Accounts
-pub mod Answering
-mod CallHistory
-mod CallSteps
-mod Closings
-mod HaltReplies
-mod Halting
+-- files
+mod LogHistory
+-- links and their requests
 mod LinkHistory
 mod LinkKept
 mod LinkOrders
 mod LinkReplies
 mod LinkTells
-mod LogHistory
-mod Moving
 mod NextLink
-mod NumbersBegin
-mod PlainSteps
-pub mod Reported
+mod Closings
 pub mod Silent
-mod Spawning
-mod Steps
-mod Stretches
-mod Told
-mod ToldEdges
-mod Tries
-mod Walk
+-- calls, and the halt
+mod CallHistory
+mod HaltReplies
+mod Halting
+-- a journal that was worked out
+mod NumbersBegin

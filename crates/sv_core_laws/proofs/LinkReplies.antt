@@ -165,7 +165,7 @@ deed_bytes number (Take link) bytes told book a = refl
 deed_bytes number (Answer link closes) bytes told book a = answer_bytes number link closes bytes told book a
 deed_bytes number (GiveMore link) bytes told book a = no_more number link (more_is_due link book)
 
--- behind these deeds
+-- after these deeds
 pub all_bytes : (number : ℕ) (before : List Deed) (book : List LinkRecord) (entries : List LinkEntry) → book ≡ links_after before
     → sent_on number (all_link_orders entries book) ≡ bytes_in (all_sent number entries book)
 all_bytes number before book [] is = refl

@@ -5,12 +5,12 @@ use Rattle.sv_core.specs.Sweeps.{asks}
 use Rattle.sv_core_laws.specs.WorkedJournals.{OrderNumbersBeginAgain, Rest}
 use Rattle.sv_out.specs.declared.order.Order.{Order}
 
--- two orders behind these
+-- two orders after these
 two_behind : (older : List Order) (a b : Order) → drop (length older) ((older ++ a ∷ []) ++ b ∷ []) ≡ a ∷ b ∷ []
 two_behind older a b =
     ap (drop (length older)) (append_assoc older (a ∷ []) (b ∷ [])) ∙ drop-append_seam older (a ∷ b ∷ [])
 
--- and one behind these
+-- and one after these
 one_behind : (given : List Order) (a : Order) → drop (length given) (given ++ a ∷ []) ≡ a ∷ []
 one_behind given a = drop-append_seam given (a ∷ [])
 

@@ -26,7 +26,7 @@ pub record LinkEntry : Type 0 where
 abbrev pub next_link : List LinkRecord → LinkId
 next_link book = record { 0 = 1 + length book }
 
--- the orders of an answer that is sent: behind a reply that closes its link stands Close
+-- the orders of an answer that is sent: after a reply that closes its link stands Close
 abbrev pub reply_orders : LinkId → (closes : Bool) → List ℕ → List Order
 reply_orders link true bytes = order.Send link bytes ∷ order.Close link ∷ []
 reply_orders link false bytes = order.Send link bytes ∷ []
@@ -56,7 +56,7 @@ all_link_orders (entry ∷ entries) book =
 abbrev pub deeds_of : List LinkEntry → List Deed
 deeds_of entries = map (λ (entry : LinkEntry). entry.deed) entries
 
--- this was done with links, one thing after the other: the links are those behind it, and the orders to links are those of it, in
+-- this was done with links, one thing after the other: the links are those after it, and the orders to links are those of it, in
 -- order
 pub record LinksHaveAHistory (m : Model) (given : List Order) : Type 0 where
   pub all : List LinkEntry

@@ -39,7 +39,7 @@ pub record RequestsGetReplies (number : ℕ) (m : Model) (given : List Order) : 
   -- while it is open, to all that were begun but the one in hand
   pub all_begun : (r : LinkRecord) → link_at number (now m).links ≡ Some r → is_open r ≡ true
       → length (replies_in replies) + in_hand_of r ≡ r.begun
-  -- none stands behind one that closes it
+  -- none stands after one that closes it
   pub close : OnlyLastCloses (replies_in replies)
   -- and none is sent where no link has the number
   pub no_link : link_at number (now m).links ≡ None → sent_on number given ≡ []

@@ -15,7 +15,7 @@ is_of_logs (order.Fresh file) = true
 is_of_logs other = false
 
 -- pieces were logged and files made empty, one after the other: the orders about files are those of it, in order, and the
--- known sizes are those behind it
+-- known sizes are those after it
 pub record LogsHaveAHistory (config : Config) (told : List (List ℕ × ℕ)) (m : Model) (given : List Order) : Type 0 where
   pub all : List LogDeed
   pub sizes : (now m).sizes ≡ all_sizes all (opening_sizes config told)

@@ -1,5 +1,5 @@
 -- Journals of one program that were worked out by hand, one line for each input, and what the daemon then does.
--- Moments are in milliseconds; startsecs, startretries, autorestart and stopwaitsecs stand behind `program spec`.
+-- Moments are in milliseconds; startsecs, startretries, autorestart and stopwaitsecs stand after `program spec`.
 use Rattle.std.specs.Prelude.{◌≡◌, ℕ, List, [], ◌∷◌, None, true, codes, length}
 use Rattle.sv_base.specs.declared.config.Config.{Config}
 use Rattle.sv_base.specs.declared.config.Host.{Host}
@@ -194,7 +194,7 @@ ordered rest spec older =
     resting (record w { given = older; course = record w.course { announced = true } })
 
 -- one number of orders is left before they begin again: the report has the number 18446744073709551615 and can't fail, and
--- the spawn behind it has the number 0; the number 1 isn't given yet
+-- the spawn after it has the number 0; the number 1 isn't given yet
 abbrev pub OrderNumbersBeginAgain : Rest → Type 0
 OrderNumbersBeginAgain rest = (older : List Order) → length older ≡ 18446744073709551615 →
     let x = x_of rest 1 3 Unexpected 10 in

@@ -67,7 +67,7 @@ pub fn each_link_has_a_history()
 {}
 
 /// Whatever the machine is told, what it sends on a link are the replies to the first requests of the link, in order, one to
-/// each; while the link is open, to all that were begun but the one in hand. None is sent behind one that closes the link,
+/// each; while the link is open, to all that were begun but the one in hand. None is sent after one that closes the link,
 /// and none by a number that no link has.
 pub fn each_request_gets_one_reply()
     ensures { (config : Config) (sizes : List (List ℕ × ℕ)) (host : Host)

@@ -28,7 +28,7 @@ Converses server (word ∷ words) before after left left_after old new result =
     Comes server before after old new (command_said server.client.url (word ∷ words)) stops result
     × (left_after ≡ left)
 
--- a refusal was told, or a front of its line
+-- a refusal was told, or a prefix of its line
 abbrev pub Refuses : Refusal → Option (List ℕ) → Option (List ℕ) → Course → Type 0
 Refuses refusal old new NoMemory = Appends old new []
 Refuses refusal old new Unprinted = AppendsFront old new (refusal_told refusal).text

@@ -16,7 +16,7 @@ use sv_out::source::Source;
 use sv_out::{Dial, Shelf};
 use sv_talk::{Course, Server, run_command, say, talk};
 
-/// Does what the words of the client ask for, those behind the program's name: one command, or those of the lines of the
+/// Does what the words of the client ask for, those after the program's name: one command, or those of the lines of the
 /// input. Answers the status:
 ///
 /// | status | where |

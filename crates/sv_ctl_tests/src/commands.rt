@@ -1,6 +1,6 @@
 //! The table of commands.
 
-/// Words of a command, the replies (each behind a bar), the methods that are called, the status, and what is printed, in
+/// Words of a command, the replies (each after a bar), the methods that are called, the status, and what is printed, in
 /// which `~` stands for a line feed. The words begin with `-s http://h:1`.
 pub(crate) type Row = (&'static str, &'static str, &'static str, u8, &'static str);
 

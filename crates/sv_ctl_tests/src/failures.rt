@@ -203,7 +203,7 @@ pub(crate) type Session = (&'static str, &'static str, &'static str);
 /// A command whose line of 11 bytes is written in pieces of 4.
 pub(crate) const IN_PIECES: Session = ("-s http://h:1 start x", "", "true|");
 
-/// What is printed where the first write fails, the second and so on; behind them none does.
+/// What is printed where the first write fails, the second and so on; after them none does.
 pub(crate) const PRINTED: [(u8, &str); 4] = [
     (8, ""),
     (8, "x: s"),
@@ -214,7 +214,7 @@ pub(crate) const PRINTED: [(u8, &str); 4] = [
 /// A session over one line, which comes byte by byte.
 pub(crate) const BYTE_BY_BYTE: Session = ("-s http://h:1", "pid~", "#7|");
 
-/// What is printed where the first read of the input fails, the second and so on; behind them none does.
+/// What is printed where the first read of the input fails, the second and so on; after them none does.
 pub(crate) const HEARD: [(u8, &str); 6] = [
     (5, ">Error: the input failed~"),
     (5, ">Error: the input failed~"),

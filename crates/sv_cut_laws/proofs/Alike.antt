@@ -113,7 +113,7 @@ pub came_more : (t : Turn) (fs more : List Followed) → came t (fs ++ more) ≡
 came_more t [] more = refl
 came_more t (f ∷ fs) more = came_more (come t f) fs more
 
--- ---- how far behind a number is
+-- ---- how far after a number is
 
 further : (top since number : ℕ) → suc since < top → 0 < number → (number - 1) + (top - since) ≡ number + (top - suc since)
 further top since number within above = omega (arith, within, above)
@@ -127,7 +127,7 @@ behind_less since number within above =
     ∙ ap (λ (n : ℕ). n % 2 ^ 64) (further (2 ^ 64) since number within above)
     ∙ ap (λ (first : ℕ). behind first number) (sym (mod-eq_of_lt within))
 
--- the first of all orders can't be named behind others
+-- the first of all orders can't be named after others
 past_all : (top since given many : ℕ) → 0 < since → given < top → many ≡ given - since → many ≤ top - since
 past_all top since given many above within is = omega (arith, above, within, is)
 

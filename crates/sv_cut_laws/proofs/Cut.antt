@@ -149,7 +149,7 @@ module _ (m : Model) (at : ℕ) (link : LinkId) (p q : List ℕ)
   bare_followed (over left) = over left
   bare_followed (waits left is told rest) = waits left is told rest
 
-  -- the second piece behind the first
+  -- the second piece after the first
   second_bare : turn second at bare_done.0 ≡ after_pass (later given_more last)
   second_bare =
       two_are at link (bare w) p q bare_done.0 refl runs (bare_followed followed) takes

@@ -32,7 +32,7 @@ module _ (c : ℕ) (w : World) (pair : GroupSpec × Spec) (answer : Answer) (fir
   abbrev told : World
   told = record beyond { given = w.given ++ report ∷ [] }
 
-  -- what comes behind the report
+  -- what comes after the report
   abbrev behind_report : World → World
   behind_report x =
       goes_edges None c (pid_at w.children c) more

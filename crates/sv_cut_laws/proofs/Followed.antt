@@ -151,7 +151,7 @@ plan_followed w = by_mood (is_running w.course.mood) refl where
   by_mood true is = runs is
   by_mood false is = moves_followed w.course.left w refl
 
--- ---- what comes behind it
+-- ---- what comes after it
 
 one_handed : (run : Option Run) (c : ℕ) (w : World) → ((sends_to run c w).course ≡ w.course) × ((sends_to run c w).children ≡ w.children)
 one_handed None c w = (refl, refl)

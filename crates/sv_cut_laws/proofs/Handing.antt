@@ -113,7 +113,7 @@ more_handed left c w = (
       (ap (λ (v : World). hands_from left c v) (sym (bare_later w)) ∙ hands_from_past w.given as_they_are left c (bare w)),
 )
 
--- what comes later comes behind it
+-- what comes later comes after it
 pub speaks_still : (given now all : List Order) → Speaks given now → Starts now all → Speaks given all
 speaks_still given now all speaks more = record {
   first = speaks.first;

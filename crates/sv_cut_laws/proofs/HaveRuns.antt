@@ -138,7 +138,7 @@ pub record Awaits (c : ℕ) (crew : Crew) : Type 0 where
   pub starting : child.state ≡ Starting
   pub others : (next : Child) → HasRun next → HaveRuns (slice_set crew.all c next)
 
--- what comes to the child of a place: all have their runs behind it, and no spawn is to be done; or its spawn is
+-- what comes to the child of a place: all have their runs after it, and no spawn is to be done; or its spawn is
 pub data Comes (stimulus : Child → Option Stimulus) (c : ℕ) (crew : Crew) (answer : Option Answer) : Type 0 where
   stays : HaveRuns (moved c answer crew).all → has_spawn (deed_of (step_of answer)) ≡ false → Comes stimulus c crew answer
   waits : (child : Child) → may_start (stimulus child) ≡ true → Awaits c (moved c answer crew) → deed_of (step_of answer) ≡ Some Spawn

@@ -254,7 +254,7 @@ left_link link book ask is = by_link (link_at link.0 book) is where
 asks_natural : (left : ℕ) (link : LinkId) (k : World → Turn) → IsNatural k → IsNatural (λ v. serves_asks left link v k)
 asks_natural left link k goes a v = serves_asks_both a (IsLater a) (of_questions a) left link v k (goes a)
 
--- what comes behind the requests of a link
+-- what comes after the requests of a link
 more_natural : (link : LinkId) (k : World → Turn) → IsNatural k → IsNatural (λ v. k (gives_more link v))
 more_natural link k goes a v = serves_left_both a (IsLater a) (of_questions a) zero link v k (goes a)
 

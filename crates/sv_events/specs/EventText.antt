@@ -51,6 +51,6 @@ envelope_head server pool poolserial event =
     ++ codes " eventname:" ++ kind_name event.kind
     ++ codes " len:" ++ decimal (length event.body)
 
--- the head line, and the body behind it
+-- the head line, and the body after it
 abbrev pub envelope_of : List ℕ → List ℕ → ℕ → Event → List ℕ
 envelope_of server pool poolserial event = envelope_head server pool poolserial event ++ 10 ∷ event.body

@@ -60,7 +60,7 @@ fn envelope_head(
 }
 
 /// A law: where neither the daemon's name for itself nor the pool's has a line feed, the first line feed of an envelope
-/// ends its head, and all behind it is the body. The head ends with the number of the body's bytes, so a reader can
+/// ends its head, and all after it is the body. The head ends with the number of the body's bytes, so a reader can
 /// cut a stream of envelopes.
 pub fn first_line_feed_ends_the_head()
     ensures head { (server pool : List ℕ) (poolserial : ℕ) (event : Event)

@@ -253,7 +253,7 @@ open_no_words text has =
     ap (λ cs. closed (after_all cs at_start)) has.cut ∙ ap closed (parts_read has.front (Off []) has.rest has.are)
     ∙ open_none (after_parts has.front (Off [])) has.rest has.ending
 
--- the characters of the piece that is going on behind a spot
+-- the characters of the piece that is going on after a spot
 abbrev IsGoing : Spot → List ℕ → List (List ℕ) → List ℕ → Place → Type 0
 IsGoing spot going words word here.Between = (going ≡ []) × (spot ≡ Off words) × (word ≡ [])
 IsGoing spot going words word here.Bare = (going ≡ []) × (spot ≡ On words word)

@@ -124,7 +124,7 @@ plain_any names (c ∷ cs) at told name other start begin =
     (λ is. plain_any names cs (at + len_utf8 c) (told ++ encode_utf8 c) name other start begin
     ∙ sym (ap (λ (b : Bool). goes_on names (at + len_utf8 c) cs (if b then Ok (begun at (reached told other begin here.Plain)) else Ok (with_char c (reached told other begin here.Plain)))) is))
 
--- what an answer says of characters that begin at a place, behind what is told
+-- what an answer says of characters that begin at a place, after what is told
 abbrev Says : Names → ℕ → List ℕ → List ℕ → Result (List ℕ) ExpandFault → Type 0
 Says names base told all (Ok whole) =
     (parts : List Part) × (x : List ℕ) × (all ≡ written_all parts) × AreParts parts × (values names parts ≡ Some x) × (whole ≡ told ++ x)
@@ -286,7 +286,7 @@ name_more (d ∷ n) c is other =
 encodes_more : (n : List ℕ) (c : ℕ) → encode_utf8_all (n ++ c ∷ []) ≡ encode_utf8_all n ++ encode_utf8 c
 encodes_more n c = encodes-append n (c ∷ []) ∙ ap (λ back. encode_utf8_all n ++ back) (append-nil (encode_utf8 c))
 
--- behind a name one more character
+-- after a name one more character
 behind : (n form going : List ℕ) (c d : ℕ) → going ≡ 37 ∷ 40 ∷ (n ++ 41 ∷ form) → c ≡ d → 37 ∷ 40 ∷ (n ++ 41 ∷ (form ++ d ∷ [])) ≡ going ++ c ∷ []
 behind n form going c d is same =
     ap (λ back. 37 ∷ 40 ∷ back) (sym (append_assoc n (41 ∷ form) (d ∷ []))) ∙ ap (λ all. all ++ d ∷ []) (sym is) ∙ ap (λ e. going ++ e ∷ []) (sym same)

@@ -61,7 +61,7 @@ fourth false false false false v w x y z e f g h = cc
 pub no_letter : (c : ℕ) → is_width c ≡ true → ((c == 115) ≡ false) × ((c == 100) ≡ false) × ((c == 48) ≡ false)
 no_letter c e = (grind (arith, nat_tests), grind (arith, nat_tests), grind (arith, nat_tests))
 
--- behind a form's letter, where its name has this value
+-- after a form's letter, where its name has this value
 abbrev ends : Names → ℕ → List ℕ → List ℕ → List ℕ → ℕ → Place → Option (List ℕ) → Result (List ℕ) ExpandFault
 ends names at cs told name start at_place o =
     and_then (and_then (with_value o (reached told name start at_place)) (λ next. after_all names at cs next)) closed

@@ -197,7 +197,7 @@ no_pair_there white rest base p pairs blank place e = record {
       cc;
 }
 
--- what an answer says of characters that begin at a place, behind pairs that are told
+-- what an answer says of characters that begin at a place, after pairs that are told
 record BadAt (base : ℕ) (all : List ℕ) (place : ℕ) : Type 0 where
   front : List Pair
   white : List ℕ
@@ -603,7 +603,7 @@ step base before seen at c cs pairs name value gap start here.Closed was =
     (λ none. λ e. bad_named base before seen at pairs name value gap start here.Closed (c ∷ cs) s.0 (61 ∷ (s.1 ∷ (s.2 ++ s.1 ∷ s.3))) was s.4 s.6
     (ap (goes_on (at + len_utf8 c) cs) e)))
 
--- where the characters end behind a value
+-- where the characters end after a value
 over : (base : ℕ) (before : Told) (seen : List ℕ) (at : ℕ) (pairs : Told) (name value gap : List ℕ) (start : ℕ) (place : Place) (n : List ℕ) (v : Value)
     → (was : Stands base before seen at pairs name value gap start place) → IsNamed (base + size (listed was.front ++ was.white)) start n name → IsValue v
     → was.going ≡ n ++ 61 ∷ value_written v → value ≡ value_told v → Says base before (seen ++ []) (Ok (pairs ++ (name, value) ∷ []))

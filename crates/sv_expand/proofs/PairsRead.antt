@@ -37,7 +37,7 @@ name_not c is = (grind (arith, nat_tests), grind (arith, nat_tests))
 pub white_not : (c : ℕ) → is_white c ≡ true → ((c == 34) ≡ false) × ((c == 39) ≡ false) × ((c == 44) ≡ false) × (is_quote c ≡ false)
 white_not c is = (grind (arith, nat_tests), grind (arith, nat_tests), grind (arith, nat_tests), grind (arith, nat_tests))
 
--- a place behind one more character
+-- a place after one more character
 pub one_more : (at c : ℕ) (cs : List ℕ) → at + len_utf8 c + size cs ≡ at + size (c ∷ cs)
 one_more at c cs = omega (arith, size_cons c (len_utf8 c) cs refl)
 

@@ -16,7 +16,7 @@ size_one c = length-append (encode_utf8 c) [] ∙ omega (arith, length-encode c)
 pub size_cons : (c width : ℕ) (cs : List ℕ) → len_utf8 c ≡ width → size (c ∷ cs) ≡ width + size cs
 size_cons c width cs is = length-append (encode_utf8 c) (encode_utf8_all cs) ∙ ap (λ n. n + size cs) (length-encode c ∙ is)
 
--- a form behind its bracket and its name
+-- a form after its bracket and its name
 pub size_form : (n form : List ℕ) → size (37 ∷ 40 ∷ (n ++ 41 ∷ form)) ≡ 3 + (size n + size form)
 size_form n form =
     let one = size_cons 37 1 (40 ∷ (n ++ 41 ∷ form)) refl in

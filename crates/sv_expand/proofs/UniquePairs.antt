@@ -31,7 +31,7 @@ one_run p (a ∷ as') (b ∷ bs) more rest all all' stops stops' same =
     let on = one_run p as' bs more rest (and_parts (p a) (list_all p as') all).1 (and_parts (p b) (list_all p bs) all').1 stops stops' tails in
     (cc (heads, on.0), on.1)
 
--- behind a pair: nothing, or a comma
+-- after a pair: nothing, or a comma
 abbrev IsEnd : List ℕ → Type 0
 IsEnd [] = Unit {0}
 IsEnd (c ∷ cs) = c ≡ 44

@@ -23,7 +23,7 @@ one_name (c ∷ n) (d ∷ m) more rest is is' same =
     let on = one_name n m more rest (kept (c == 41) (is_name n) is).1 (kept (d == 41) (is_name m) is').1 tails in
     (cc (heads, on.0), on.1)
 
--- forms behind their brackets, that are one where they begin one rest
+-- forms after their brackets, that are one where they begin one rest
 one_form : (n m form other more rest : List ℕ) → is_name n ≡ true → is_name m ≡ true
     → (37 ∷ 40 ∷ (n ++ 41 ∷ form)) ++ more ≡ (37 ∷ 40 ∷ (m ++ 41 ∷ other)) ++ rest → (n ≡ m) × (form ++ more ≡ other ++ rest)
 one_form n m form other more rest is is' same =

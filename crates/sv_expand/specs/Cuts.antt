@@ -25,7 +25,7 @@ written (Number name) = 37 ∷ 40 ∷ (name ++ 41 ∷ 100 ∷ [])
 written (Spaced name digit) = 37 ∷ 40 ∷ (name ++ 41 ∷ digit ∷ 100 ∷ [])
 written (Zeroed name digit) = 37 ∷ 40 ∷ (name ++ 41 ∷ 48 ∷ digit ∷ 100 ∷ [])
 
--- how parts are written: one behind another
+-- how parts are written: one after another
 abbrev pub written_all : List Part → List ℕ
 written_all [] = []
 written_all (part ∷ parts) = written part ++ written_all parts
@@ -58,7 +58,7 @@ value names (Number name) = number_told names 32 0 (encode_utf8_all name)
 value names (Spaced name digit) = number_told names 32 (digit - 48) (encode_utf8_all name)
 value names (Zeroed name digit) = number_told names 48 (digit - 48) (encode_utf8_all name)
 
--- one value behind another, where both are there
+-- one value after another, where both are there
 abbrev pub joined : Option (List ℕ) → Option (List ℕ) → Option (List ℕ)
 joined (Some front) (Some back) = Some (front ++ back)
 joined front back = None
@@ -107,7 +107,7 @@ pub record HasFault (names : Names) (text : List ℕ) (fault : ExpandFault) : Ty
   pub told : values names front ≡ Some whole
   pub stands : StandsAt names (length (encode_utf8_all (written_all front))) rest fault
 
--- a fault is the leftmost one of the text; want of memory may always come
+-- a fault is the leftmost one of the text; running out of memory is always allowed
 abbrev pub IsLeftmost : Names → List ℕ → ExpandFault → Type 0
 IsLeftmost names text OutOfMemory = ⊤
 IsLeftmost names text fault = HasFault names text fault

@@ -115,7 +115,7 @@ closed reached = closed_at reached.place reached
 abbrev pub expansion_of : Names → List ℕ → Result (List ℕ) ExpandFault
 expansion_of names text = and_then (after_all names 0 (chars text) at_start) closed
 
--- a fault is the one that the text has; want of memory may always come
+-- a fault is the one that the text has; running out of memory is always allowed
 abbrev pub IsFault : {A : Type 0} → ExpandFault → Result A ExpandFault → Type 0
 IsFault OutOfMemory read = ⊤
 IsFault fault read = read ≡ Err fault

@@ -1,4 +1,4 @@
--- The numbers of faults; want of memory has none.
+-- The numbers of faults; out of memory has none.
 use Rattle.std.specs.Prelude.{ℕ, Option, Some, None}
 use Rattle.sv_expand.specs.declared.fault.WordFault.{WordFault}
 use Rattle.sv_expand.specs.declared.fault.WordFault.TheVariants as word

@@ -7,7 +7,7 @@ use Rattle.sv_expand.specs.Pairs.{is_white, is_name_char, is_quote}
 use Rattle.sv_expand.specs.declared.fault.PairFault.{PairFault}
 use Rattle.sv_expand.specs.declared.fault.PairFault.TheVariants.{BadPair, OutOfMemory}
 
--- a value: in quotes, with white space behind them, or bare, with white space before and behind it
+-- a value: in quotes, with white space after them, or bare, with white space before and after it
 pub data Value : Type 0 where
   Quoted : (quote : ℕ) (cs after : List ℕ) → Value
   Bare : (before cs after : List ℕ) → Value
@@ -18,7 +18,7 @@ pub record Pair : Type 0 where
   pub name : List ℕ
   pub value : Value
 
--- what stands behind the last comma: white space, or a pair
+-- what stands after the last comma: white space, or a pair
 pub data Last : Type 0 where
   Nothing : (white : List ℕ) → Last
   One : (pair : Pair) → Last
@@ -32,12 +32,12 @@ value_written (Bare before cs after) = before ++ (cs ++ after)
 abbrev pub written : Pair → List ℕ
 written pair = pair.before ++ (pair.name ++ 61 ∷ value_written pair.value)
 
--- what stands behind the last comma
+-- what stands after the last comma
 abbrev pub last_written : Last → List ℕ
 last_written (Nothing white) = white
 last_written (One pair) = written pair
 
--- pairs with the comma behind each
+-- pairs with the comma after each
 abbrev pub listed : List Pair → List ℕ
 listed pairs = flat_map (λ pair. written pair ++ 44 ∷ []) pairs
 
@@ -76,7 +76,7 @@ abbrev pub ArePairs : List Pair → Type 0
 ArePairs [] = ⊤
 ArePairs (pair ∷ pairs) = IsPair pair × ArePairs pairs
 
--- the same of what stands behind the last comma
+-- the same of what stands after the last comma
 abbrev pub IsLast : Last → Type 0
 IsLast (Nothing white) = is_blank white ≡ true
 IsLast (One pair) = IsPair pair
@@ -109,7 +109,7 @@ pub record BeginsNoPair (cs : List ℕ) : Type 0 where
   pub none : (pair : Pair) (more : List ℕ) → IsPair pair → cs ≡ written pair ++ 44 ∷ more → ⊥
   pub last : (last : Last) → IsLast last → cs ≡ last_written last → ⊥
 
--- the first bad pair of a text: behind pairs with their commas, and behind white space, stands none
+-- the first bad pair of a text: after pairs with their commas, and after white space, stands none
 pub record HasBadPair (text : List ℕ) (place : ℕ) : Type 0 where
   pub front : List Pair
   pub white : List ℕ
@@ -122,7 +122,7 @@ pub record HasBadPair (text : List ℕ) (place : ℕ) : Type 0 where
   pub bad : BeginsNoPair (white ++ rest)
   pub place_is : place ≡ length (encode_utf8_all (listed front ++ white))
 
--- a fault is the first bad pair of the text; want of memory may always come
+-- a fault is the first bad pair of the text; running out of memory is always allowed
 abbrev pub IsFirstBad : List ℕ → PairFault → Type 0
 IsFirstBad text (BadPair place) = HasBadPair text place
 IsFirstBad text OutOfMemory = ⊤

@@ -64,7 +64,7 @@ with_quoted c reached = record reached { value = reached.value ++ encode_utf8 c 
 abbrev pub with_gap : ℕ → Reached → Reached
 with_gap c reached = record reached { gap = reached.gap ++ encode_utf8 c }
 
--- a character of a bare value, behind the white space that now counts
+-- a character of a bare value, after the white space that now counts
 abbrev pub with_bare : ℕ → Reached → Reached
 with_bare c reached =
     record reached { value = (reached.value ++ reached.gap) ++ encode_utf8 c; gap = []; place = Bare }
@@ -139,7 +139,7 @@ closed reached = closed_at reached.place reached
 abbrev pub pairs_of : List ℕ → Result (List (List ℕ × List ℕ)) PairFault
 pairs_of text = and_then (after_all 0 (chars text) at_start) closed
 
--- a fault is the one that the text has; want of memory may always come
+-- a fault is the one that the text has; running out of memory is always allowed
 abbrev pub IsFault : {A : Type 0} → PairFault → Result A PairFault → Type 0
 IsFault OutOfMemory read = ⊤
 IsFault fault read = read ≡ Err fault

@@ -12,7 +12,7 @@ pub data Quoted : Type 0 where
   Escaped : (c : ℕ) → Quoted
   Both : (c : ℕ) → Quoted
 
--- a gap, and the pieces: a character, one behind a backslash, and what stands in single or in double
+-- a gap, and the pieces: a character, one after a backslash, and what stands in single or in double
 -- quotes
 pub data Part : Type 0 where
   Gap : (c : ℕ) → Part
@@ -35,7 +35,7 @@ written (Kept c) = 92 ∷ c ∷ []
 written (Single cs) = 39 ∷ (cs ++ 39 ∷ [])
 written (Double quoted) = 34 ∷ (flat_map quoted_written quoted ++ 34 ∷ [])
 
--- how parts are written: one behind another
+-- how parts are written: one after another
 abbrev pub written_all : List Part → List ℕ
 written_all parts = flat_map written parts
 
@@ -119,7 +119,7 @@ IsOpen rest =
     ⊎ ((quoted : List Quoted) × AreQuoted quoted
     × (rest ≡ 34 ∷ (flat_map quoted_written quoted ++ 92 ∷ [])))
 
--- a text has no words where it ends so behind whole parts
+-- a text has no words where it ends so after whole parts
 pub record HasOpenQuote (text : List ℕ) : Type 0 where
   pub front : List Part
   pub rest : List ℕ

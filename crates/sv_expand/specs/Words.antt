@@ -40,7 +40,7 @@ outside c reached =
     else if c == 92 then moved Kept reached
     else with_char Bare c reached
 
--- behind a backslash in double quotes: only the quote and the backslash drop it
+-- after a backslash in double quotes: only the quote and the backslash drop it
 abbrev pub kept_in_quotes : ℕ → Reached → Reached
 kept_in_quotes c reached =
     if (c == 34) || (c == 92) then with_char Double c reached
@@ -67,7 +67,7 @@ abbrev pub after_all : List ℕ → Reached → Reached
 after_all [] reached = reached
 after_all (c ∷ cs) reached = after_all cs (after c reached)
 
--- the words where the text ends: none in quotes, nor behind a backslash
+-- the words where the text ends: none in quotes, nor after a backslash
 abbrev pub closed_at : Place → Reached → Option (List (List ℕ))
 closed_at Between reached = Some reached.words
 closed_at Bare reached = Some (reached.words ++ reached.word ∷ [])

@@ -16,15 +16,15 @@ use sv_base::text::Text;
 pub enum Place {
     /// Outside forms, or at an end.
     Plain,
-    /// Behind a percent sign.
+    /// After a percent sign.
     Percent,
     /// In a name.
     Name,
-    /// Behind a name.
+    /// After a name.
     Behind,
-    /// Behind a name and a zero.
+    /// After a name and a zero.
     Zero,
-    /// Behind a name and a number of places, which are filled with spaces or zeros.
+    /// After a name and a number of places, which are filled with spaces or zeros.
     Wide(char, usize),
 }
 

@@ -22,7 +22,7 @@ pub enum WordFault {
 impl WordFault {
     ghost use Rattle.sv_expand.specs.Faults.{word_number};
 
-    /// The number of the fault; want of memory has none.
+    /// The number of the fault; out of memory has none.
     pub fn number(&self) -> Option<u32>
         ensures { result ≡ word_number self.now }
     {
@@ -63,7 +63,7 @@ pub enum PairFault {
 impl PairFault {
     ghost use Rattle.sv_expand.specs.Faults.{pair_number};
 
-    /// The number of the fault; want of memory has none.
+    /// The number of the fault; out of memory has none.
     pub fn number(&self) -> Option<u32>
         ensures { result ≡ pair_number self.now }
     {
@@ -107,7 +107,7 @@ pub enum ExpandFault {
 impl ExpandFault {
     ghost use Rattle.sv_expand.specs.Faults.{expand_number};
 
-    /// The number of the fault; want of memory has none.
+    /// The number of the fault; out of memory has none.
     pub fn number(&self) -> Option<u32>
         ensures { result ≡ expand_number self.now }
     {

@@ -51,7 +51,7 @@ pub fn each_list_of_pairs_has_a_cut()
         → (pairs_of text ≡ Ok pairs) ↔ HasPairs text pairs }
 {}
 
-/// A law: a text has a bad pair at a place exactly where, behind pairs with their commas and behind white
+/// A law: a text has a bad pair at a place exactly where, after pairs with their commas and after white
 /// space, it goes on there with no pair.
 pub fn each_bad_pair_is_the_first()
     ensures { (text : List ℕ) (place : ℕ)

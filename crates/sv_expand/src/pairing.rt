@@ -17,9 +17,9 @@ pub enum Place {
     Before,
     /// In a name.
     Name,
-    /// Right behind the `=`.
+    /// Right after the `=`.
     Equals,
-    /// Behind the `=` and white space.
+    /// After the `=` and white space.
     Led,
     /// In a bare value.
     Bare,
@@ -27,7 +27,7 @@ pub enum Place {
     Single,
     /// In double quotes.
     Double,
-    /// Behind a quoted value.
+    /// After a quoted value.
     Closed,
 }
 

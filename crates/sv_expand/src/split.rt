@@ -16,13 +16,13 @@ pub enum Place {
     Between,
     /// In a word, outside quotes.
     Bare,
-    /// Behind a backslash outside quotes.
+    /// After a backslash outside quotes.
     Kept,
     /// In single quotes.
     Single,
     /// In double quotes.
     Double,
-    /// Behind a backslash in double quotes.
+    /// After a backslash in double quotes.
     DoubleKept,
 }
 
@@ -123,7 +123,7 @@ impl Reading {
         self.add(Place::Double, c)
     }
 
-    /// The words, where the text ends here; none in quotes or behind a backslash.
+    /// The words, where the text ends here; none in quotes or after a backslash.
     pub fn close(self) -> Result<Vec<Text>, WordFault>
         ensures words { IfOk result (λ words. closed self ≡ Some words.items) }
         ensures fault { result ≡ Err OpenQuote → closed self ≡ None }

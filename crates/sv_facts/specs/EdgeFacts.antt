@@ -28,7 +28,7 @@ kind_of Unknown = ProcessStateUnknown
 abbrev pub is_expected : Spec → Child → Bool
 is_expected spec child = not (restarts_by Unexpected spec.exitcodes child.exit)
 
--- what the event of entering this state tells: of a process that had this number, of a child as it is behind its step
+-- what the event of entering this state tells: of a process that had this number, of a child as it is after its step
 abbrev pub entry_fact : State → ℕ → Member → State → Fact
 entry_fact Stopped pid m from = Living m.spec.name m.group.name from pid
 entry_fact Starting pid m from = Trying m.spec.name m.group.name from m.child.tries

@@ -29,7 +29,7 @@ pub fn kind_of(state: State) -> Kind
     }
 }
 
-/// What the event of an edge tells of the child of a place; `None` where no child is there. The child is as it is behind its
+/// What the event of an edge tells of the child of a place; `None` where no child is there. The child is as it is after its
 /// step, and `pid` is the number that its process had before it, 0 where it had none.
 pub fn fact_at(
     children: &Children,

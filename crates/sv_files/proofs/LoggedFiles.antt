@@ -40,7 +40,7 @@ done-all [] files = refl
 done-all (order ∷ orders) files =
     ap (done (map order_of orders)) (done_one order files) ∙ done-all orders (carried order files)
 
--- ---- a name with a number behind it
+-- ---- a name with a number after it
 
 abbrev NoPoint : List ℕ → Type 0
 NoPoint [] = ⊤
@@ -152,7 +152,7 @@ module _ (log : LogSpec) (name : List ℕ) (is : log.file ≡ Some name) (few : 
   Goes deeds = (sizes : Sizes) (files alone : Files) → IsSize name sizes files → Agree name log.backups files alone
       → HasLogged name log deeds sizes alone (all_done deeds sizes files)
 
-  -- what holds behind a piece of a log and further deeds, where this is the log's file, and is the one in question or not
+  -- what holds after a piece of a log and further deeds, where this is the log's file, and is the one in question or not
   record Ends (held : Option (List ℕ)) (tested : Bool) (other : LogSpec) (piece : List ℕ) (deeds : List LogDeed) (sizes : Sizes) (files before : Files) : Type 0 where
     alone : Files
     carried_out : AreCarriedOut name (if tested then Adds other piece ∷ deeds_of name deeds else deeds_of name deeds) before alone
@@ -226,7 +226,7 @@ module _ (log : LogSpec) (name : List ℕ) (is : log.file ≡ Some name) (few : 
       other_piece own other piece deeds sizes files before has
       (λ e. false≢true (sym test ∙ (bytes_eq-Decides own name).1 e)) beside goes known agree
 
-  -- what holds behind a clear and further deeds, where it is of the file in question or not
+  -- what holds after a clear and further deeds, where it is of the file in question or not
   record Clears (own : List ℕ) (tested : Bool) (deeds : List LogDeed) (sizes : Sizes) (files before : Files) : Type 0 where
     alone : Files
     carried_out : AreCarriedOut name (if tested then Empties own ∷ deeds_of name deeds else deeds_of name deeds) before alone

@@ -295,7 +295,7 @@ cleared_rises file (known ∷ sizes) rises =
     one_cleared_rises (bytes_eq known.0 file) file known sizes refl rises
     (cleared_rises file sizes (and_right (is_before_first known.0 sizes) (rise sizes) rises))
 
--- ---- what is known behind it
+-- ---- what is known after it
 
 -- of the file
 one_size_after : (tested : Bool) (file : List ℕ) (size : ℕ) (known : List ℕ × ℕ) (sizes : Sizes) → is_before known.0 file ≡ tested

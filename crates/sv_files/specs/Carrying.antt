@@ -60,7 +60,7 @@ is_of_file name (Empties own) = bytes_eq own name
 abbrev pub deeds_of : List ℕ → List LogDeed → List LogDeed
 deeds_of name deeds = filter (is_of_file name) deeds
 
--- the piece was appended to this file of the log, and what followed holds of the files behind it
+-- the piece was appended to this file of the log, and what followed holds of the files after it
 pub record IsFollowed (name : List ℕ) (log : LogSpec) (piece : List ℕ) (before : Files) (follows : Files → Type 0) : Type 0 where
   pub between : Files
   pub appended : IsAppended (plan_as name (length (bytes_of before name)) log) piece before between
@@ -78,7 +78,7 @@ AreCarriedOut name (Empties own ∷ deeds) before after = AreCarriedOut name dee
 abbrev pub IsSize : List ℕ → Sizes → Files → Type 0
 IsSize name sizes files = size_in name sizes ≡ min (length (bytes_of files name)) (2 ^ 64 - 1)
 
--- this name is none of the log's backups: its file with `.i` behind it, for i from 1 to their number
+-- this name is none of the log's backups: its file with `.i` after it, for i from 1 to their number
 abbrev pub IsNoBackup : List ℕ → LogSpec → Type 0
 IsNoBackup name log = (file : List ℕ) (number : ℕ) → log.file ≡ Some file → number < log.backups → name ≢ kept file (suc number)
 

@@ -10,7 +10,7 @@ pub data LogDeed : Type 0 where
   Adds : LogSpec → (piece : List ℕ) → LogDeed
   Empties : (file : List ℕ) → LogDeed
 
--- the sizes that are known behind it
+-- the sizes that are known after it
 abbrev pub sizes_after : LogDeed → Sizes → Sizes
 sizes_after (Adds log piece) sizes = logged log piece sizes
 sizes_after (Empties file) sizes = cleared file sizes
@@ -20,7 +20,7 @@ abbrev pub deed_orders : LogDeed → Sizes → List Order
 deed_orders (Adds log piece) sizes = log_orders log piece sizes
 deed_orders (Empties file) sizes = []
 
--- the sizes that are known behind all of them
+-- the sizes that are known after all of them
 abbrev pub all_sizes : List LogDeed → Sizes → Sizes
 all_sizes [] sizes = sizes
 all_sizes (deed ∷ deeds) sizes = all_sizes deeds (sizes_after deed sizes)

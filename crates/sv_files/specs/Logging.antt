@@ -23,7 +23,7 @@ order_of (file.Fresh name) = Fresh name
 abbrev pub orders_as : List ℕ → LogSpec → List ℕ → Sizes → List Order
 orders_as name log piece sizes = map order_of (orders_of (plan_as name (size_in name sizes) log) piece)
 
--- and the sizes behind it
+-- and the sizes after it
 abbrev pub logged_as : List ℕ → LogSpec → List ℕ → Sizes → Sizes
 logged_as name log piece sizes =
     sized name (after_append (plan_as name (size_in name sizes) log) piece).size sizes
@@ -33,7 +33,7 @@ abbrev pub orders_if : Option (List ℕ) → LogSpec → List ℕ → Sizes → 
 orders_if None log piece sizes = []
 orders_if (Some name) log piece sizes = orders_as name log piece sizes
 
--- and the sizes behind it
+-- and the sizes after it
 abbrev pub logged_if : Option (List ℕ) → LogSpec → List ℕ → Sizes → Sizes
 logged_if None log piece sizes = sizes
 logged_if (Some name) log piece sizes = logged_as name log piece sizes
@@ -42,6 +42,6 @@ logged_if (Some name) log piece sizes = logged_as name log piece sizes
 abbrev pub log_orders : LogSpec → List ℕ → Sizes → List Order
 log_orders log piece sizes = orders_if log.file log piece sizes
 
--- the sizes that are known behind them
+-- the sizes that are known after them
 abbrev pub logged : LogSpec → List ℕ → Sizes → Sizes
 logged log piece sizes = logged_if log.file log piece sizes

@@ -27,7 +27,7 @@ abbrev pub size_in : List ℕ → Sizes → ℕ
 size_in file [] = 0
 size_in file (known ∷ sizes) = if bytes_eq known.0 file then known.1 else size_in file sizes
 
--- the sizes behind the names up to this one
+-- the sizes after the names up to this one
 abbrev pub without_first : List ℕ → Sizes → Sizes
 without_first file [] = []
 without_first file (known ∷ sizes) = if bytes_eq known.0 file then sizes else known ∷ sizes

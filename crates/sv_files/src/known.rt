@@ -62,7 +62,7 @@ impl KnownSizes {
     }
 
     /// Adds a piece to a log. Where it has a file, the orders for that are added to those given: the append, and from its
-    /// greatest size on the rotation. The known size is then that behind these orders. Out of memory, no size changes.
+    /// greatest size on the rotation. The known size is then that after these orders. Out of memory, no size changes.
     pub fn append(
         &mut self,
         alloc: Global,

@@ -178,7 +178,7 @@ module _ (many : ℕ) (roster : List GroupSpec) where
       leads_meets (more left most) news place w (λ v. sweeps news left (place + 1) v k) plain
       (λ v still. leads_sweeps most news left (place + 1) v k still on)
 
-  -- ---- the steps behind the stimulus
+  -- ---- the steps after the stimulus
 
   no_links : (links : List LinkRecord) (w : World) → links ≡ []
       → serves_all (busy_links links) w after_links ≡ after_links w

@@ -63,7 +63,7 @@ deeds_both m (i ∷ one) other =
           ∙ sym (append_assoc (orders m i) (deeds (next m i) one) (deeds (after (next m i) one) other))
       by_acceptance false taken left = left
 
--- an accepted input behind others
+-- an accepted input after others
 pub after_one : (m : Model) (inputs : List Input) (i : Input) → accepts (after m inputs) i ≡ true
     → after m (inputs ++ i ∷ []) ≡ next (after m inputs) i
 after_one m inputs i accepted = after_both m inputs (i ∷ []) ∙ rw accepted refl
@@ -243,7 +243,7 @@ draws_from begins few number draws most inputs rest =
           (draw_asks begins.config.groups few m rest.world d rest.done rest.plain);
     }
 
--- the machine comes to rest behind each draw
+-- the machine comes to rest after each draw
 pub rests_after : (begins : Beginning) → length (processes begins.config.groups) ≤ 1024 → (number draws : ℕ)
     → AtRest (after (first_of begins) (inputs_after (first_of begins) number draws)) begins.config.groups (draws * 2050)
 rests_after begins few number zero = record {
@@ -284,7 +284,7 @@ rests_after begins few number (suc draws) =
       sum : (e d draws : ℕ) → e ≤ d + 2050 → d ≤ draws * 2050 → e ≤ suc draws * 2050
       sum e d draws one other = omega arith
 
--- few runs were issued behind so many draws
+-- few runs were issued after so many draws
 pub few_issued : (begins : Beginning) → length (processes begins.config.groups) ≤ 1024 → (number draws : ℕ)
     → spawns (deeds (first_of begins) (inputs_after (first_of begins) number draws)) ≤ draws * 2050
 few_issued begins few number draws =

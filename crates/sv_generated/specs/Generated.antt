@@ -39,7 +39,7 @@ answers (Ask w question onward) =
 abbrev pub answered : Model → List Input → List Input
 answered first inputs = inputs ++ answers (hand (after first inputs))
 
--- the inputs with one that is drawn behind them, where these runs were issued
+-- the inputs with one that is drawn after them, where these runs were issued
 abbrev pub with_draw : Model → ℕ → ℕ → List Input → List Input
 with_draw first number draws inputs =
     inputs ++ input_of (nth_draw number draws (spawns (deeds first inputs))) ∷ []

@@ -63,7 +63,7 @@ second_false : (a b : Bool) → b ≡ false → (a && b) ≡ false
 second_false true b e = e
 second_false false b e = refl
 
--- keys that are inserted, where no two are equal and none is there yet, are put behind the others
+-- keys that are inserted, where no two are equal and none is there yet, are put after the others
 module _ {X T : Type 0} (eq : T → T → Bool) (f : X → T) where
   abbrev pub are_apart : List X → Bool
   are_apart [] = true
@@ -115,7 +115,7 @@ none_in : (name own : List ℕ) (members : List Spec) → bytes_eq name own ≡ 
 none_in name own [] other = refl
 none_in name own (m ∷ ms) other = none_of _ _ other (none_in name own ms other)
 
--- the groups behind are still new then
+-- the groups after are still new then
 others_new : (g : GroupSpec) (gs : List GroupSpec) (done : List (List ℕ × List ℕ)) → list_any (λ (h : GroupSpec). bytes_eq h.name g.name) gs ≡ false
     → list_any (λ (h : GroupSpec). list_any (λ (k : List ℕ × List ℕ). bytes_eq h.name k.0) done) gs ≡ false
     → list_any (λ (h : GroupSpec). list_any (λ (k : List ℕ × List ℕ). bytes_eq h.name k.0) (done ++ names_in g)) gs ≡ false

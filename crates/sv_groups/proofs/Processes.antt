@@ -23,7 +23,7 @@ fits room (g ∷ gs) e =
     let rest : length (processes gs) ≤ room - length g.members = fits (room - length g.members) gs parts.1 in
     omega (arith, length-append g.members (processes gs))
 
--- ids of two lists, one behind the other
+-- ids of two lists, one after the other
 pub ids_append : (first : ℕ) (xs ys : List Spec) → ids_from first (xs ++ ys) ≡ ids_from first xs ++ ids_from (first + length xs) ys
 ids_append first [] ys = ap (λ n. ids_from n ys) (omega arith)
 ids_append first (x ∷ xs) ys =
@@ -54,7 +54,7 @@ group_within (suc place) (g ∷ gs) =
     let rest : first_of place gs + length (members_at place gs) ≤ length (processes gs) = group_within place gs in
     omega (arith, length-append g.members (processes gs), length-append g.members (processes (take place gs)))
 
--- what is left behind the first
+-- what is left after the first
 pub tail_of : (g : GroupSpec) (gs : List GroupSpec) → take (length (g ∷ gs) - 1) (drop 1 (g ∷ gs)) ≡ gs
 tail_of g gs = ap (λ n. take n gs) (omega arith) ∙ take-length gs
 
@@ -76,7 +76,7 @@ whole_loop next total (g ∷ gs) item members l e m i =
     ap (λ (t : List GroupSpec). next + length members + length (processes t)) (tail_of g gs)
     ∙ omega (arith, length-append g.members (processes gs))
 
--- all that stands behind a place
+-- all that stands after a place
 pub rest_is : {A : Type 0} (place : ℕ) (xs : List A) → take (length xs - place) (drop place xs) ≡ drop place xs
 rest_is place xs = ap (λ n. take n (drop place xs)) (sym (length-drop place xs)) ∙ take-length (drop place xs)
 

@@ -14,7 +14,7 @@ use Rattle.sv_groups.specs.StartOrder.{first_of, members_at}
 use Rattle.sv_groups.specs.declared.fault.GroupFault.{GroupFault}
 use Rattle.sv_groups.specs.declared.fault.GroupFault.TheVariants.{Unknown, StillRunning, Already, OutOfMemory}
 
--- the numbers of the faults; want of memory has none
+-- the numbers of the faults; out of memory has none
 abbrev pub fault_number : GroupFault → Option ℕ
 fault_number Unknown = Some 1
 fault_number (StillRunning child) = Some 2
@@ -30,7 +30,7 @@ abbrev pub starts_before : GroupSpec → GroupSpec → Bool
 starts_before group other =
     is_lt (order.start_order (λ (g : GroupSpec). g.priority) (λ (g : GroupSpec). g.name) other group)
 
--- the groups with one more, behind all that start before it
+-- the groups with one more, after all that start before it
 abbrev pub with_group : GroupSpec → List GroupSpec → List GroupSpec
 with_group group [] = group ∷ []
 with_group group (g ∷ gs) = if starts_before group g then g ∷ with_group group gs else group ∷ g ∷ gs

@@ -11,7 +11,7 @@ use Rattle.sv_groups.specs.declared.names.Names.{Names}
 abbrev pub group_names : List GroupSpec → List (List ℕ)
 group_names groups = map (λ (g : GroupSpec). g.name) groups
 
--- the names with those of these groups, each behind all others where it isn't among them
+-- the names with those of these groups, each after all others where it isn't among them
 abbrev pub with_names : List (List ℕ) → List GroupSpec → List (List ℕ)
 with_names names groups = fold (insert_key bytes_eq) names (group_names groups)
 

@@ -17,7 +17,7 @@ use sv_base::spec::GroupSpec;
 use sv_child::child::Child;
 
 impl Roster {
-    /// Adds a group, at its place in the start order; the processes behind it get new ids. `Already` exactly where
+    /// Adds a group, at its place in the start order; the processes after it get new ids. `Already` exactly where
     /// its name stands in the roster. A refusal, `OutOfMemory` too, leaves the roster as it was.
     #[tactic(auto, using(crate::proofs::Kept::roster_with, crate::proofs::Kept::with_at))]
     pub fn add_group(&mut self, group: GroupSpec) -> Result<(), GroupFault>
@@ -39,7 +39,7 @@ impl Roster {
         Ok(())
     }
 
-    /// Removes the group of this name and gives it back; the processes behind it get new ids. The children are those
+    /// Removes the group of this name and gives it back; the processes after it get new ids. The children are those
     /// of all processes, in start order. `Unknown` exactly where no group has the name, else `StillRunning` exactly
     /// where a child of the group isn't STOPPED, EXITED or FATAL, with the first such one in start order. A refusal
     /// leaves the roster as it was.

@@ -101,7 +101,7 @@ impl Names {
         }
     }
 
-    /// Adds the names of these groups and of their processes, behind the others.
+    /// Adds the names of these groups and of their processes, after the others.
     fn add_all(&mut self, groups: &[GroupSpec]) -> Result<(), AllocError>
         ensures groups { OnOk result (self.new.groups.keys
             ≡ with_names self.old.groups.keys groups.now) }
@@ -114,7 +114,7 @@ impl Names {
         Ok(())
     }
 
-    /// Adds the names of a group and of its processes, behind the others.
+    /// Adds the names of a group and of its processes, after the others.
     fn add(&mut self, group: &GroupSpec) -> Result<(), AllocError>
         ensures groups { OnOk result (self.new.groups.keys
             ≡ insert_key bytes_eq self.old.groups.keys group.now.name) }
@@ -153,7 +153,7 @@ impl Names {
     }
 }
 
-/// Adds the names of the processes of a group, behind the others.
+/// Adds the names of the processes of a group, after the others.
 fn add_processes(
     group: &GroupSpec,
     processes: &mut IndexSet<(Text, Text)>,

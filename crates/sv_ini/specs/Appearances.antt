@@ -37,7 +37,7 @@ opened_names [] = []
 opened_names (Opens name ∷ kinds) = name ∷ opened_names kinds
 opened_names (kind ∷ kinds) = opened_names kinds
 
--- the further lines of a value, each behind a line feed; a comment may stand between, other lines end it
+-- the further lines of a value, each after a line feed; a comment may stand between, other lines end it
 abbrev pub further_lines : List LineKind → List ℕ
 further_lines (Further text ∷ kinds) = 10 ∷ text ++ further_lines kinds
 further_lines (Comment ∷ kinds) = further_lines kinds

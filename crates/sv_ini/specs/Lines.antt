@@ -24,7 +24,7 @@ is_bracket b = b == 93
 abbrev pub is_separator : ℕ → Bool
 is_separator b = (b == 61) || (b == 58)
 
--- what begins a comment behind a value
+-- what begins a comment after a value
 abbrev pub is_semicolon : ℕ → Bool
 is_semicolon b = b == 59
 
@@ -46,7 +46,7 @@ begins_with p (b ∷ bs) = p b
 abbrev pub without_indent : List ℕ → List ℕ
 without_indent bs = drop (prefix_len is_blank bs) bs
 
--- without the spaces and tabs behind
+-- without the spaces and tabs after
 abbrev pub without_tail : List ℕ → List ℕ
 without_tail bs = take (length bs - suffix_len is_blank bs) bs
 
@@ -54,7 +54,7 @@ without_tail bs = take (length bs - suffix_len is_blank bs) bs
 abbrev pub trimmed : List ℕ → List ℕ
 trimmed bs = without_tail (without_indent bs)
 
--- what stands before the first such byte, and what behind it
+-- what stands before the first such byte, and what after it
 abbrev pub cut_at : (ℕ → Bool) → List ℕ → Option (List ℕ × List ℕ)
 cut_at p bs = option_map (λ at. (take at bs, drop (at + 1) bs)) (position p bs)
 
@@ -62,13 +62,13 @@ cut_at p bs = option_map (λ at. (take at bs, drop (at + 1) bs)) (position p bs)
 abbrev pub without_return : List ℕ → List ℕ
 without_return bs = if slice_index bs (length bs - 1) == 13 then take (length bs - 1) bs else bs
 
--- the lines without the CR that belongs to their ends; behind the last one stands no line feed
+-- the lines without the CR that belongs to their ends; after the last one stands no line feed
 abbrev pub whole_lines : List (List ℕ) → List (List ℕ)
 whole_lines [] = []
 whole_lines (last ∷ []) = last ∷ []
 whole_lines (line ∷ next ∷ lines) = without_return line ∷ whole_lines (next ∷ lines)
 
--- the lines of a text; what stands behind the last line feed is one too, a blank one where nothing stands there
+-- the lines of a text; what stands after the last line feed is one too, a blank one where nothing stands there
 abbrev pub lines_of : List ℕ → List (List ℕ)
 lines_of bs = whole_lines (slice_split is_feed bs)
 
@@ -90,7 +90,7 @@ pub data LineKind : Type 0 where
   Sets : (key : List ℕ) (value : List ℕ) → LineKind
   Bad : LineKind
 
--- behind the bracket of a section stand only spaces, tabs or a comment
+-- after the bracket of a section stand only spaces, tabs or a comment
 abbrev pub is_end : List ℕ → Bool
 is_end bs = is_empty (without_indent bs) || begins_with is_semicolon (without_indent bs)
 
@@ -99,11 +99,11 @@ abbrev pub name_between : Option (List ℕ × List ℕ) → Option (List ℕ)
 name_between None = None
 name_between (Some parts) = if not (is_empty parts.0) && is_end parts.1 then Some parts.0 else None
 
--- what stands behind an opening bracket
+-- what stands after an opening bracket
 abbrev pub behind_bracket : List ℕ → Option (List ℕ)
 behind_bracket bs = if begins_with is_opening bs then Some (drop 1 bs) else None
 
--- the name behind an opening bracket, where there is one
+-- the name after an opening bracket, where there is one
 abbrev pub name_inside : Option (List ℕ) → Option (List ℕ)
 name_inside None = None
 name_inside (Some bs) = name_between (cut_at is_bracket bs)

@@ -108,7 +108,7 @@ sections_of text =
     else if nat_lt (utf8_valid_len text) (length text) then Err (NotUtf8 (utf8_valid_len text))
     else and_then (after_lines 1 (lines_of text) nothing_read) (λ reading. Ok reading.sections)
 
--- a fault is the one that the text has; want of memory may always come
+-- a fault is the one that the text has; running out of memory is always allowed
 abbrev pub IsFault : {A : Type 0} → IniFault → Result A IniFault → Type 0
 IsFault OutOfMemory read = ⊤
 IsFault fault read = read ≡ Err fault

@@ -54,7 +54,7 @@ fn tail(bytes: &[u8]) -> usize
         .count()
 }
 
-/// What stands behind an opening bracket, where the text begins with one.
+/// What stands after an opening bracket, where the text begins with one.
 pub fn behind_bracket(text: &str) -> Option<&str>
     ensures { option_map (λ x. x.now) result ≡ behind_bracket text.now }
 {
@@ -74,7 +74,7 @@ fn begins_with_bracket(bytes: &[u8]) -> bool
     }
 }
 
-/// What stands before the first line feed, and what behind it.
+/// What stands before the first line feed, and what after it.
 pub fn cut_at_feed(text: &str) -> Option<(&str, &str)>
     ensures cut { option_map (λ x. (x.0.now, x.1.now)) result ≡ cut_at is_feed text.now }
     ensures text { IfSome result (λ x. IsUtf8 x.1.now) }
@@ -89,7 +89,7 @@ fn first_feed(bytes: &[u8]) -> Option<usize>
     bytes.iter().position(|byte| *byte == b'\n')
 }
 
-/// What stands before the first closing bracket, and what behind it.
+/// What stands before the first closing bracket, and what after it.
 pub fn cut_at_bracket(text: &str) -> Option<(&str, &str)>
     ensures { option_map (λ x. (x.0.now, x.1.now)) result ≡ cut_at is_bracket text.now }
 {
@@ -102,7 +102,7 @@ fn first_bracket(bytes: &[u8]) -> Option<usize>
     bytes.iter().position(|byte| *byte == b']')
 }
 
-/// What stands before the first `=` or `:`, and what behind it.
+/// What stands before the first `=` or `:`, and what after it.
 pub fn cut_at_separator(text: &str) -> Option<(&str, &str)>
     ensures { option_map (λ x. (x.0.now, x.1.now)) result ≡ cut_at is_separator text.now }
 {
@@ -115,7 +115,7 @@ fn first_separator(bytes: &[u8]) -> Option<usize>
     bytes.iter().position(|byte| *byte == b'=' || *byte == b':')
 }
 
-/// What stands before an ASCII byte, and what behind it.
+/// What stands before an ASCII byte, and what after it.
 fn cut_round(text: &str, at: Option<usize>) -> Option<(&str, &str)>
     requires { IfSome at (λ i. (i < length text.now) × (slice_index text.now i < 128)) }
     ensures cut { option_map (λ x. (x.0.now, x.1.now)) result

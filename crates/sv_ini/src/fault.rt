@@ -29,7 +29,7 @@ pub enum IniFault {
 impl IniFault {
     ghost use Rattle.sv_ini.specs.Sections.{fault_number};
 
-    /// The number by which the fault is printed; want of memory has none.
+    /// The number by which the fault is printed; out of memory has none.
     pub fn number(&self) -> Option<u32>
         ensures { result ≡ fault_number self.now }
     {

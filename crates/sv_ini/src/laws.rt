@@ -13,7 +13,7 @@ pub fn names_stand_once_in_order_of_first_appearance()
         → map (λ (s : Section). s.name) sections ≡ first_ones (opened_names (kinds_of text)) }
 {}
 
-/// A law: the keys of a section are those that the lines behind its name give, each once, in order of first
+/// A law: the keys of a section are those that the lines after its name give, each once, in order of first
 /// appearance.
 #[tactic(auto, using(crate::proofs::GivenKeys::key_names_told))]
 pub fn keys_stand_once_in_order_of_first_appearance()

@@ -24,7 +24,7 @@ kept line = take kept_limit line
 abbrev pub is_space : ℕ → Bool
 is_space byte = byte == 32
 
--- what stands before and behind the first space, where there is one
+-- what stands before and after the first space, where there is one
 abbrev pub parted : List ℕ → Option (List ℕ × List ℕ)
 parted text =
     if nat_lt (position_or_len is_space text) (length text)

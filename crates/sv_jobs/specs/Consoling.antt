@@ -25,7 +25,7 @@ refusal Ended = []
 refusal Failed = []
 refusal OutOfMemory = NoMemory ∷ []
 
--- and behind that, where memory was refused, a note that says so
+-- and after that, where memory was refused, a note that says so
 pub record Consoled (end : PumpEnd) (left left_after : Option (List ℕ)) (notes notes_after : List Note) : Type 0 where
   pub lines : List (List ℕ)
   pub rest : List ℕ

@@ -16,7 +16,7 @@ pub record Pumping (run : Run) (stream : Stream) (left left_after : Option (List
   pub bytes : Consumes left left_after (concat pieces)
   pub posted : notes_after ≡ notes ++ map (Out run stream) pieces
 
--- and behind them stands the end of the stream; where the work ended well, nothing is left to read
+-- and after them stands the end of the stream; where the work ended well, nothing is left to read
 pub record Pumped (run : Run) (stream : Stream) (end : PumpEnd) (left left_after : Option (List ℕ)) (notes notes_after : List Note) : Type 0 where
   pub pieces : List (List ℕ)
   pub bytes : Consumes left left_after (concat pieces)

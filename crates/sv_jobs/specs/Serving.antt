@@ -37,7 +37,7 @@ abbrev pub read_by : Deed → List ℕ
 read_by (Wrote bytes) = []
 read_by (Heard piece) = piece
 
--- what went over the link behind these deeds
+-- what went over the link after these deeds
 abbrev pub after_deeds : List Deed → Exchange → Exchange
 after_deeds deeds exchange = record exchange {
   sent = exchange.sent ++ flat_map written_by deeds;

@@ -14,18 +14,18 @@ use Rattle.sv_outside.specs.declared.jobs.PumpEnd.TheVariants.{Ended, Failed, Ou
 abbrev pub writes : List (ℕ × List ℕ) → List (ℕ × StdinWord)
 writes texts = map (λ (text : ℕ × List ℕ). (text.0, Write text.1)) texts
 
--- these texts, one behind the other
+-- these texts, one after the other
 abbrev pub joined : List (ℕ × List ℕ) → List ℕ
 joined texts = concat (map (λ (text : ℕ × List ℕ). text.1) texts)
 
--- known bytes grew by these, and then by a front of this text
+-- known bytes grew by these, and then by a prefix of this text
 pub record AppendsFrontBehind (old new : Option (List ℕ)) (bytes text : List ℕ) : Type 0 where
   pub front : List ℕ
   pub rest : List ℕ
   pub parts : text ≡ front ++ rest
   pub appends : Appends old new (bytes ++ front)
 
--- what is written by the end: all texts, and of the last word, where its write failed, a front
+-- what is written by the end: all texts, and of the last word, where its write failed, a prefix
 abbrev pub EndsAt : PumpEnd → StdinWord → Option (List ℕ) → Option (List ℕ) → List ℕ → Type 0
 EndsAt Ended Close old new bytes = Appends old new bytes
 EndsAt Failed (Write text) old new bytes = AppendsFrontBehind old new bytes text

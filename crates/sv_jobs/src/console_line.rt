@@ -45,7 +45,7 @@ fn asked(alloc: Global, text: &str) -> Result<Option<Note>, AllocError>
     Ok(None)
 }
 
-/// What stands before and behind the first space.
+/// What stands before and after the first space.
 fn parted(text: &str) -> Option<(&str, &str)>
     ensures { option_map (λ parts. (parts.0.now, parts.1.now)) result ≡ parted text.now }
 {

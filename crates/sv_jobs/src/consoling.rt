@@ -19,7 +19,7 @@ use sv_outside::PumpEnd;
 const ROOM: usize = 4_096;
 
 /// Posts what each line asks for, in order: `signal NAME`, `start NAME`, `stop NAME`. Any other line is passed over, one
-/// of more than 4,096 bytes among them, and so are bytes behind the last line feed. Answers `Ended` at the end of input,
+/// of more than 4,096 bytes among them, and so are bytes after the last line feed. Answers `Ended` at the end of input,
 /// `Failed` only where the source's count of faults rose, and `OutOfMemory` where memory was refused, which the last note
 /// tells.
 #[inline(never)]

@@ -27,7 +27,7 @@ abbrev pub is_empty : List ℕ → Bool
 is_empty [] = true
 is_empty (b ∷ bs) = false
 
--- without the white space before and behind
+-- without the white space before and after
 abbrev pub without_indent : List ℕ → List ℕ
 without_indent bs = drop (prefix_len is_white bs) bs
 
@@ -39,7 +39,7 @@ without_tail bs = take (length bs - suffix_len is_white bs) bs
 abbrev pub trimmed : List ℕ → List ℕ
 trimmed bs = without_tail (without_indent bs)
 
--- what stands before the first such byte, and what behind it
+-- what stands before the first such byte, and what after it
 abbrev pub cut_at : (ℕ → Bool) → List ℕ → Option (List ℕ × List ℕ)
 cut_at p bs =
     if nat_lt (position_or_len p bs) (length bs) then Some (before_first p bs, after_first p bs) else None
@@ -60,7 +60,7 @@ lines_in text = filter is_some_text (slice_split is_feed text)
 abbrev pub gaps_in : List ℕ → List (List ℕ)
 gaps_in text = flat_map lines_in (slice_split is_space text)
 
--- what stands before the last colon, and what behind it; without a colon nothing stands before
+-- what stands before the last colon, and what after it; without a colon nothing stands before
 abbrev pub is_no_colon : ℕ → Bool
 is_no_colon b = not (is_colon b)
 
@@ -68,6 +68,6 @@ is_no_colon b = not (is_colon b)
 abbrev pub before_last_colon : List ℕ → List ℕ
 before_last_colon text = take (length text - suffix_len is_no_colon text - 1) text
 
--- what stands behind the last colon; everything where there is none
+-- what stands after the last colon; everything where there is none
 abbrev pub behind_last_colon : List ℕ → List ℕ
 behind_last_colon text = drop (length text - suffix_len is_no_colon text) text

@@ -17,11 +17,11 @@ is_name text = not (is_empty text) && list_all is_name_letter (chars text)
 abbrev pub name_of : List ℕ → Option (List ℕ)
 name_of text = if is_name text then Some text else None
 
--- what stands behind this word, where the text is cut behind it
+-- what stands after this word, where the text is cut after it
 abbrev pub behind : List ℕ → Option (List ℕ × List ℕ) → Option (List ℕ)
 behind word None = None
 behind word (Some parts) = if bytes_eq parts.0 word then Some parts.1 else None
 
--- what stands behind this word and a colon in a title
+-- what stands after this word and a colon in a title
 abbrev pub titled : List ℕ → List ℕ → Option (List ℕ)
 titled word title = behind word (cut_at is_colon title)

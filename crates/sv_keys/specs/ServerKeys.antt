@@ -50,7 +50,7 @@ first_client = record { url = usual_url; username = []; password = [] }
 abbrev pub is_set : Key → Keys → Bool
 is_set key keys = is_some (value_of (key_name key) keys)
 
--- a server's user and password behind its place
+-- a server's user and password after its place
 unfoldable pub guarded : Place → Keys → Names → Result ServerSpec KeyFault
 guarded place keys names =
     and_then (row key.Username text_of [] keys names) (λ username.

@@ -31,7 +31,7 @@ use Rattle.sv_expand.specs.declared.fault.PairFault.{PairFault}
 abbrev pub text_of : List ℕ → Option (List ℕ)
 text_of text = Some text
 
--- the number that further decimal digits write behind a number, where it is at most so much
+-- the number that further decimal digits write after a number, where it is at most so much
 abbrev pub digits_from : ℕ → ℕ → List ℕ → Option ℕ
 digits_from most number [] = Some number
 digits_from most number (digit ∷ digits) =
@@ -111,7 +111,7 @@ abbrev pub if_some : {A B : Type 0} → Option A → (A → Option B) → Option
 if_some None f = None
 if_some (Some x) f = f x
 
--- each of these texts read in turn, behind the values that were read before
+-- each of these texts read in turn, after the values that were read before
 abbrev pub each_from : {T : Type 0} → (List ℕ → Option T) → List T → List (List ℕ) → Option (List T)
 each_from read done [] = Some done
 each_from read done (text ∷ texts) = if_some (read text) (λ value. each_from read (done ++ value ∷ []) texts)

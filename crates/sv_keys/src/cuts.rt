@@ -135,7 +135,7 @@ fn first_part(bytes: &[u8]) -> usize
     (bytes.len() - last_part(bytes)).saturating_sub(1)
 }
 
-/// What stands behind the last colon; everything where there is none.
+/// What stands after the last colon; everything where there is none.
 pub fn behind_last_colon(text: &[u8]) -> &[u8]
     ensures { result.now ≡ behind_last_colon text.now }
 {

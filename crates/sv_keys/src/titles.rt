@@ -27,7 +27,7 @@ pub fn is_name(text: &str) -> bool
     !text.is_empty() && are_name_letters(text)
 }
 
-/// What stands behind this word and a colon in the title of a section.
+/// What stands after this word and a colon in the title of a section.
 pub fn titled<'a>(word: &str, title: &'a str) -> Option<&'a str>
     ensures { option_map (λ x. x.now) result ≡ titled word.now title.now }
 {

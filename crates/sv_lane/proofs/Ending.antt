@@ -34,6 +34,6 @@ module _ {T : Type 0} where
   settles_all room r made role u both closed left is theirs joined =
       subst (λ (v : Role T). Settles (taken_in v) (closed_in v) left) (joined ∙ ap (λ (v : Role T). finishing v u) is ∙ ap (λ (v : Role T). Finishing (closed_in v) (taken_in role) room) theirs)
 
-  -- what was taken of each seat is a front, where what is left is the rest
+  -- what was taken of each seat is a prefix, where what is left is the rest
   pub fronts : (taken : List (ℕ × T)) (lists : List (List T)) (left : List T) → Settles taken lists left → AreFronts taken lists
   fronts taken lists left s seat = (of_seat seat s.0, sym (s.2 seat) ∙ of_seat-append seat taken s.0)

@@ -8,7 +8,7 @@ module _ {T : Type 0} where
   chosen-append true x front all back e = ap (λ (l : List T). x ∷ l) e
   chosen-append false x front all back e = e
 
-  -- the items of a seat in two lists, one behind the other
+  -- the items of a seat in two lists, one after the other
   pub of_seat-append : (seat : ℕ) (xs ys : List (ℕ × T)) → of_seat seat (xs ++ ys) ≡ of_seat seat xs ++ of_seat seat ys
   of_seat-append seat [] ys = refl
   of_seat-append seat (x ∷ xs) ys = chosen-append (x.0 == seat) x.1 (of_seat seat xs) (of_seat seat (xs ++ ys)) (of_seat seat ys) (of_seat-append seat xs ys)
@@ -20,7 +20,7 @@ module _ {T : Type 0} where
   pub of_seat-other : (seat other : ℕ) (x : T) → other ≢ seat → of_seat other ((seat, x) ∷ []) ≡ []
   of_seat-other seat other x apart = grind (arith, nat_tests)
 
-  -- the items of two lists, one behind the other
+  -- the items of two lists, one after the other
   pub items_of-append : (xs ys : List (ℕ × T)) → items_of (xs ++ ys) ≡ items_of xs ++ items_of ys
   items_of-append [] ys = refl
   items_of-append (x ∷ xs) ys = ap (λ (l : List T). x.1 ∷ l) (items_of-append xs ys)
@@ -38,7 +38,7 @@ module _ {T : Type 0} where
   no_items [] e = refl
   no_items (y ∷ ys) e = absurd cc
 
--- a list gives the default behind its end
+-- a list gives the default after its end
 pub get_or-behind : {X : Type 0} (xs : List X) (i : ℕ) (d : X) → length xs ≤ i → get_or xs i d ≡ d
 get_or-behind [] i d above = refl
 get_or-behind (x ∷ xs) zero d above = absurd (omega arith)

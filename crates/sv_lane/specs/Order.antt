@@ -25,7 +25,7 @@ module _ {T : Type 0} where
   Settles taken lists left =
       (seated : List (ℕ × T)) × (items_of seated ≡ left) × IsInOrder taken seated (posted_by lists)
 
-  -- what was taken of each seat is a front of what it posted
+  -- what was taken of each seat is a prefix of what it posted
   abbrev pub AreFronts : List (ℕ × T) → List (List T) → Type 0
   AreFronts taken lists =
       (seat : ℕ) → (later : List T) × (posted_by lists seat ≡ of_seat seat taken ++ later)

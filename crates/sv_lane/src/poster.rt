@@ -24,7 +24,7 @@ impl<T: Drop> Poster<T> {
     ghost use Rattle.std.specs.Prelude.{◌≡◌, [], ◌∷◌, ◌++◌};
     ghost use Rattle.sv_lane.specs.Ends.{IsSameSeat, posted};
 
-    /// Posts an item, behind all that this seat posted before. Waits while the channel is full; if it returns, the
+    /// Posts an item, after all that this seat posted before. Waits while the channel is full; if it returns, the
     /// item was posted.
     pub fn post<R: Wait>(&mut self, rt: &R, item: T)
         ensures posted { posted self.new ≡ posted self.old ++ item ∷ [] }

@@ -41,7 +41,7 @@ pub(crate) fn take_some<T: Drop, R: Wait>(
     (taker, all)
 }
 
-/// Finishes the lane, and gives what was taken and behind it what was left.
+/// Finishes the lane, and gives what was taken and after it what was left.
 pub(crate) fn finish_behind<T: Drop, R: Wait>(
     rt: &R,
     taker: Taker<T>,

@@ -18,7 +18,7 @@ abbrev pub how_of : News → Option How
 how_of (Exit run how) = Some how
 how_of news = None
 
--- the line of entering this state from that: of a child as it is behind its step, whose process ended so, if it did
+-- the line of entering this state from that: of a child as it is after its step, whose process ended so, if it did
 abbrev pub entry_line : State → State → Option How → Member → Option Line
 entry_line Running from how m = Some (success_line m.spec)
 entry_line Backoff Starting (Some how) m = Some (exited_line m.spec.name how false)

@@ -24,7 +24,7 @@ pub fn how_of(news: &News) -> Option<How>
 }
 
 /// The line of an edge of the child of a place; `None` where the edge has none, or no child is there. The child is as it is
-/// behind its step, and `how` says how its process ended, if an exit made it take the step.
+/// after its step, and `how` says how its process ended, if an exit made it take the step.
 pub fn line_at(
     alloc: Global,
     children: &Children,

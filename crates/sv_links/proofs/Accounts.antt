@@ -157,7 +157,7 @@ both_true : (a b : Bool) → (a && b) ≡ true → (a ≡ true) × (b ≡ true)
 both_true true b e = (refl, e)
 both_true false b e = absurd (false≢true e)
 
--- this reply was sent behind the others
+-- this reply was sent after the others
 one_more : (closes : Bool) (told : List Reply) (r : LinkRecord) (x : Ask) → Account told r → is_open r ≡ true → length told + 1 ≡ r.begun
     → take (suc (length told)) (asks r) ≡ take (length told) (asks r) ++ x ∷ []
     → Account (told ++ record { ask = x; closes = closes } ∷ []) (replied closes r)

@@ -98,7 +98,7 @@ there_stands x y book number f v w opens busy found writes count opened keeps s 
           (rw updates.1 (goes_on f (link_at number book) v w busy (rw found at (s.kept number)) keeps));
     }
 
--- ---- the link may be over behind a change, and not busy
+-- ---- the link may be over after a change, and not busy
 
 -- it is kept where it is busy
 kept_busy : (w : KeptLink) (s : LinkRecord) (busy : Bool) → busy ≡ is_busy s → Keeps w s → IsKept (if busy then Some w else None) (busy_link (Some s))

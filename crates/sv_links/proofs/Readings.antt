@@ -56,13 +56,13 @@ fed_reads x y r piece told read stands guard waiting fed more k =
 
 -- ---- the next request
 
--- the first item behind so many
+-- the first item after so many
 get_drop : (n : ℕ) (xs : List Ask) → slice_get xs n ≡ slice_get (drop n xs) 0
 get_drop zero xs = refl
 get_drop (suc n) [] = refl
 get_drop (suc n) (x ∷ xs) = get_drop n xs
 
--- the items behind it
+-- the items after it
 drop_next : (n : ℕ) (xs : List Ask) → drop 1 (drop n xs) ≡ drop (suc n) xs
 drop_next zero xs = refl
 drop_next (suc n) [] = refl

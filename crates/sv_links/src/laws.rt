@@ -5,7 +5,7 @@ ghost use Rattle.sv_links.specs.LinkBook.{LinkRecord, is_open, link_at};
 ghost use Rattle.sv_links.specs.LinkDeeds.{AreInOrder, Deed, OnlyLastCloses, in_hand_of, links_after, replies_on};
 
 /// A law: whatever is done, and in whatever pieces its bytes come, the replies that are sent on a link are those to its first
-/// requests, in order, each once. While it is open these are all that were begun, but the one in hand. None is sent behind one
+/// requests, in order, each once. While it is open these are all that were begun, but the one in hand. None is sent after one
 /// that closes the link.
 pub fn replies_are_in_order()
     ensures in_order { (deeds : List Deed) (number : ℕ) (r : LinkRecord)

@@ -118,7 +118,7 @@ impl Links {
         self.stop(link);
     }
 
-    /// A link is given Close, other than behind an answer that closes it.
+    /// A link is given Close, other than after an answer that closes it.
     pub fn close(&mut self, link: LinkId)
         ensures { (book : List LinkRecord) → StandsFor self.old book
             → StandsFor self.new (ended link Closed book) }

@@ -19,7 +19,7 @@ reported_one a b event wrote =
     let now : Appends a b (crash_lines (event ∷ [])) = subst P (line_alone event) wrote in
     record { done = tt; whole = λ _. now; part = front_of_whole a b (crash_lines (event ∷ [])) now }
 
--- an event without a verdict, of whose line a front was written
+-- an event without a verdict, of whose line a prefix was written
 pub reported_part : (a b : Option (List ℕ)) (event : Heard) → AppendsFront a b (line_for (crash_in event)) → Reported a b (event ∷ []) []
 reported_part a b event part =
     let Q : List ℕ → Type 0 = λ text. AppendsFront a b text in

@@ -19,7 +19,7 @@ use Rattle.sv_listener.specs.declared.listening.ListenEnd.TheVariants as ends
 use Rattle.sv_listener.specs.declared.side.ListenerSide.{ListenerSide}
 use Rattle.sv_out.specs.Written.{AppendsFront}
 
--- events that come behind those that have their verdicts
+-- events that come after those that have their verdicts
 abbrev pub Joins : (List Heard → List Verdict → Type 0) → (List Heard → List Verdict → Type 0) → (List Heard → List Verdict → Type 0) → Type 0
 Joins One Two Both =
     (events more : List Heard) (verdicts others : List Verdict) → length verdicts ≡ length events
@@ -47,7 +47,7 @@ front_behind a b c text more wrote part = record {
   appends = Appends-trans a b c text part.front wrote part.appends;
 }
 
--- a front of a text is one of a longer text
+-- a prefix of a text is one of a longer text
 front_within : (a b : Option (List ℕ)) (text more : List ℕ) → AppendsFront a b text → AppendsFront a b (text ++ more)
 front_within a b text more part = record {
   front = part.front;
@@ -109,7 +109,7 @@ stops_behind end a b c One Two Both events more joins first stop =
           (front_behind a b c (answers first.verdicts) (answers stop.verdicts) first.wrote stop.wrote);
     }
 
--- further events come behind the stop
+-- further events come after the stop
 pub stops_before : (end : ListenEnd) (a b : Option (List ℕ)) (Told : List Heard → List Verdict → Type 0) (events more : List Heard)
     → Stops end a b Told events → Stops end a b Told (events ++ more)
 stops_before end a b Told events more stop = record {
@@ -164,7 +164,7 @@ answers_unsaid start text a b Told events none all part =
       wrote = subst P (text_is start text (answers all.verdicts) none all.wrote) part;
     }
 
--- one wasn't handled, and of the answers before it a front was said
+-- one wasn't handled, and of the answers before it a prefix was said
 stops_said : (end : ListenEnd) (start text : List ℕ) (a b : Option (List ℕ)) (Told : List Heard → List Verdict → Type 0) (events : List Heard)
     → start ≡ [] → Stops end (Some start) (Some text) Told events → AppendsFront a b text → Stops end a b Told events
 stops_said end start text a b Told events none stop part =

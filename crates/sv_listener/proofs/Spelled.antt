@@ -74,7 +74,7 @@ lacks_both stop (byte ∷ front) rest none also =
     passes stop byte (front ++ rest) has.other
     ∙ ap (λ (cut : Option (List ℕ × List ℕ)). option_map (λ parts. (byte ∷ parts.0, parts.1)) cut) (lacks_both stop front rest has.none also)
 
--- a front of such a text has none either
+-- a prefix of such a text has none either
 pub lacks_front : (stop : ℕ) (front rest : List ℕ) → cut_at stop (front ++ rest) ≡ None → cut_at stop front ≡ None
 lacks_front stop [] rest none = refl
 lacks_front stop (byte ∷ front) rest none =
@@ -160,90 +160,15 @@ ascii_from (byte ∷ bytes) all (suc i) = ascii_from bytes (grind (arith, common
 
 kind_is_ascii : (kind : Kind) → list_all (λ byte. nat_lt byte 128) (kind_name kind) ≡ true
 kind_is_ascii Event = refl
-kind_is_ascii ProcessState = refl
-kind_is_ascii ProcessStateStarting = refl
-kind_is_ascii ProcessStateRunning = refl
-kind_is_ascii ProcessStateBackoff = refl
-kind_is_ascii ProcessStateStopping = refl
-kind_is_ascii ProcessStateExited = refl
-kind_is_ascii ProcessStateStopped = refl
-kind_is_ascii ProcessStateFatal = refl
-kind_is_ascii ProcessStateUnknown = refl
-kind_is_ascii ProcessCommunication = refl
-kind_is_ascii ProcessCommunicationStdout = refl
-kind_is_ascii ProcessCommunicationStderr = refl
-kind_is_ascii ProcessLog = refl
-kind_is_ascii ProcessLogStdout = refl
-kind_is_ascii ProcessLogStderr = refl
-kind_is_ascii RemoteCommunication = refl
-kind_is_ascii SupervisorStateChange = refl
-kind_is_ascii SupervisorStateChangeRunning = refl
-kind_is_ascii SupervisorStateChangeStopping = refl
-kind_is_ascii Tick = refl
-kind_is_ascii Tick5 = refl
-kind_is_ascii Tick60 = refl
-kind_is_ascii Tick3600 = refl
-kind_is_ascii ProcessGroup = refl
-kind_is_ascii ProcessGroupAdded = refl
-kind_is_ascii ProcessGroupRemoved = refl
+kind_is_ascii other = refl
 
 kind_lacks_space : (kind : Kind) → cut_at 32 (kind_name kind) ≡ None
 kind_lacks_space Event = refl
-kind_lacks_space ProcessState = refl
-kind_lacks_space ProcessStateStarting = refl
-kind_lacks_space ProcessStateRunning = refl
-kind_lacks_space ProcessStateBackoff = refl
-kind_lacks_space ProcessStateStopping = refl
-kind_lacks_space ProcessStateExited = refl
-kind_lacks_space ProcessStateStopped = refl
-kind_lacks_space ProcessStateFatal = refl
-kind_lacks_space ProcessStateUnknown = refl
-kind_lacks_space ProcessCommunication = refl
-kind_lacks_space ProcessCommunicationStdout = refl
-kind_lacks_space ProcessCommunicationStderr = refl
-kind_lacks_space ProcessLog = refl
-kind_lacks_space ProcessLogStdout = refl
-kind_lacks_space ProcessLogStderr = refl
-kind_lacks_space RemoteCommunication = refl
-kind_lacks_space SupervisorStateChange = refl
-kind_lacks_space SupervisorStateChangeRunning = refl
-kind_lacks_space SupervisorStateChangeStopping = refl
-kind_lacks_space Tick = refl
-kind_lacks_space Tick5 = refl
-kind_lacks_space Tick60 = refl
-kind_lacks_space Tick3600 = refl
-kind_lacks_space ProcessGroup = refl
-kind_lacks_space ProcessGroupAdded = refl
-kind_lacks_space ProcessGroupRemoved = refl
+kind_lacks_space other = refl
 
 pub kind_is_found : (kind : Kind) → kind_in (kind_name kind) ≡ Some kind
 kind_is_found Event = refl
-kind_is_found ProcessState = refl
-kind_is_found ProcessStateStarting = refl
-kind_is_found ProcessStateRunning = refl
-kind_is_found ProcessStateBackoff = refl
-kind_is_found ProcessStateStopping = refl
-kind_is_found ProcessStateExited = refl
-kind_is_found ProcessStateStopped = refl
-kind_is_found ProcessStateFatal = refl
-kind_is_found ProcessStateUnknown = refl
-kind_is_found ProcessCommunication = refl
-kind_is_found ProcessCommunicationStdout = refl
-kind_is_found ProcessCommunicationStderr = refl
-kind_is_found ProcessLog = refl
-kind_is_found ProcessLogStdout = refl
-kind_is_found ProcessLogStderr = refl
-kind_is_found RemoteCommunication = refl
-kind_is_found SupervisorStateChange = refl
-kind_is_found SupervisorStateChangeRunning = refl
-kind_is_found SupervisorStateChangeStopping = refl
-kind_is_found Tick = refl
-kind_is_found Tick5 = refl
-kind_is_found Tick60 = refl
-kind_is_found Tick3600 = refl
-kind_is_found ProcessGroup = refl
-kind_is_found ProcessGroupAdded = refl
-kind_is_found ProcessGroupRemoved = refl
+kind_is_found other = refl
 
 kind_is_word : (kind : Kind) → IsWord (kind_name kind)
 kind_is_word kind = record {
@@ -258,58 +183,8 @@ kind_is kind rest =
 
 pub kind_lacks_feed : (kind : Kind) → cut_at 10 (kind_name kind) ≡ None
 kind_lacks_feed Event = refl
-kind_lacks_feed ProcessState = refl
-kind_lacks_feed ProcessStateStarting = refl
-kind_lacks_feed ProcessStateRunning = refl
-kind_lacks_feed ProcessStateBackoff = refl
-kind_lacks_feed ProcessStateStopping = refl
-kind_lacks_feed ProcessStateExited = refl
-kind_lacks_feed ProcessStateStopped = refl
-kind_lacks_feed ProcessStateFatal = refl
-kind_lacks_feed ProcessStateUnknown = refl
-kind_lacks_feed ProcessCommunication = refl
-kind_lacks_feed ProcessCommunicationStdout = refl
-kind_lacks_feed ProcessCommunicationStderr = refl
-kind_lacks_feed ProcessLog = refl
-kind_lacks_feed ProcessLogStdout = refl
-kind_lacks_feed ProcessLogStderr = refl
-kind_lacks_feed RemoteCommunication = refl
-kind_lacks_feed SupervisorStateChange = refl
-kind_lacks_feed SupervisorStateChangeRunning = refl
-kind_lacks_feed SupervisorStateChangeStopping = refl
-kind_lacks_feed Tick = refl
-kind_lacks_feed Tick5 = refl
-kind_lacks_feed Tick60 = refl
-kind_lacks_feed Tick3600 = refl
-kind_lacks_feed ProcessGroup = refl
-kind_lacks_feed ProcessGroupAdded = refl
-kind_lacks_feed ProcessGroupRemoved = refl
+kind_lacks_feed other = refl
 
 pub kind_is_short : (kind : Kind) → length (kind_name kind) ≤ 40
 kind_is_short Event = lit≤ tt
-kind_is_short ProcessState = lit≤ tt
-kind_is_short ProcessStateStarting = lit≤ tt
-kind_is_short ProcessStateRunning = lit≤ tt
-kind_is_short ProcessStateBackoff = lit≤ tt
-kind_is_short ProcessStateStopping = lit≤ tt
-kind_is_short ProcessStateExited = lit≤ tt
-kind_is_short ProcessStateStopped = lit≤ tt
-kind_is_short ProcessStateFatal = lit≤ tt
-kind_is_short ProcessStateUnknown = lit≤ tt
-kind_is_short ProcessCommunication = lit≤ tt
-kind_is_short ProcessCommunicationStdout = lit≤ tt
-kind_is_short ProcessCommunicationStderr = lit≤ tt
-kind_is_short ProcessLog = lit≤ tt
-kind_is_short ProcessLogStdout = lit≤ tt
-kind_is_short ProcessLogStderr = lit≤ tt
-kind_is_short RemoteCommunication = lit≤ tt
-kind_is_short SupervisorStateChange = lit≤ tt
-kind_is_short SupervisorStateChangeRunning = lit≤ tt
-kind_is_short SupervisorStateChangeStopping = lit≤ tt
-kind_is_short Tick = lit≤ tt
-kind_is_short Tick5 = lit≤ tt
-kind_is_short Tick60 = lit≤ tt
-kind_is_short Tick3600 = lit≤ tt
-kind_is_short ProcessGroup = lit≤ tt
-kind_is_short ProcessGroupAdded = lit≤ tt
-kind_is_short ProcessGroupRemoved = lit≤ tt
+kind_is_short other = lit≤ tt

@@ -1,4 +1,4 @@
--- What is heard of an event that was written, and of a front of one.
+-- What is heard of an event that was written, and of a prefix of one.
 use Rattle.std.proofs.Common.{◌≡◌, ◌<◌, ◌≤◌, ◌+◌, ◌++◌, ℕ, List, [], ◌∷◌, true, false, Option, None, Some, length, take, nat_le, nat_lt, refl, ap, sym, ◌∙◌, subst, arith, append_assoc, append-nil, length-append}
 use Rattle.std.specs.Prelude.{if◌then◌else◌}
 use Rattle.std.proofs.Math.Seq.{take-append_seam, drop-append_seam}
@@ -116,7 +116,7 @@ splits [] rest (a ∷ one) two same = within a one refl same
 splits (a ∷ front) rest [] two same = behind (a ∷ front) refl (sym same)
 splits (a ∷ front) rest (b ∷ one) two same = longer front rest one two a b (cc) (splits front rest one two (cc))
 
--- ---- a front of an envelope
+-- ---- a prefix of an envelope
 
 first_front : (event : Event) (front : List ℕ) (more : ℕ) (left : List ℕ) → CanBeHeard event
     → front ++ more ∷ left ≡ text_of event → first_of front ≡ Open

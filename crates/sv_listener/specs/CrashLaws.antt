@@ -22,7 +22,7 @@ all_ok [] others are more = more
 all_ok (verdict.Ok ∷ verdicts) others are more = all_ok verdicts others are more
 all_ok (verdict.Fail ∷ verdicts) others are more = absurd are
 
--- a front of a text behind a whole one
+-- a prefix of a text after a whole one
 lines_behind : (a b c : Option (List ℕ)) (text more : List ℕ) → Appends a b text → AppendsFront b c more → AppendsFront a c (text ++ more)
 lines_behind a b c text more wrote part = record {
   front = text ++ part.front;
@@ -39,14 +39,14 @@ reported_none a = record {
   part = record { front = []; rest = []; parts = refl; appends = Appends-nil a };
 }
 
--- what comes behind has as many verdicts as events, where all together has
+-- what comes after has as many verdicts as events, where all together has
 others_same : (events more : List Heard) (verdicts others : List Verdict) → length verdicts ≡ length events
     → length (verdicts ++ others) ≡ length (events ++ more) → length others ≡ length more
 others_same events more verdicts others each same =
     add_left_cancel (length verdicts)
     (sym (length-append verdicts others) ∙ same ∙ length-append events more ∙ ap (λ (n : ℕ). n + length more) (sym each))
 
--- further events come behind those that have their verdicts
+-- further events come after those that have their verdicts
 pub reported_further : (a b c : Option (List ℕ)) (events more : List Heard) (verdicts others : List Verdict)
     → length verdicts ≡ length events → Reported a b events verdicts → Reported b c more others
     → Reported a c (events ++ more) (verdicts ++ others)

@@ -40,7 +40,7 @@ AreOk [] = Unit {0}
 AreOk (verdict.Ok ∷ verdicts) = AreOk verdicts
 AreOk (verdict.Fail ∷ verdicts) = ⊥
 
--- the lines of these events were written, or a front of them where the last event has no verdict
+-- the lines of these events were written, or a prefix of them where the last event has no verdict
 pub record Reported (old new : Option (List ℕ)) (events : List Heard)
     (verdicts : List Verdict) : Type 0 where
   pub done : AreOk verdicts

@@ -46,7 +46,7 @@ pub record Whole (says : List Verdict → List ℕ) (left left_after old new : O
   pub wrote : Appends old new (says verdicts)
   pub ends : Ends stream
 
--- only the first events were given, and a front of what there is to say was written
+-- only the first events were given, and a prefix of what there is to say was written
 pub record Half (says : List Verdict → List ℕ) (left left_after old new : Option (List ℕ))
     (Told : List Heard → List Verdict → Type 0) (Has : ℕ → ℕ → Type 0) : Type 0 where
   pub stream : List ℕ
@@ -107,7 +107,7 @@ pub record Answers (old new : Option (List ℕ)) (Told : List Heard → List Ver
   pub each : length verdicts ≡ length events
   pub wrote : Appends old new (answers verdicts)
 
--- only the first of these events were given, and a front of the answers was written
+-- only the first of these events were given, and a prefix of the answers was written
 pub record Stops (end : ListenEnd) (old new : Option (List ℕ))
     (Told : List Heard → List Verdict → Type 0) (events : List Heard) : Type 0 where
   pub given : List Heard

@@ -67,7 +67,7 @@ pub trait Handler {
     /// Where no event was given, nothing came of it.
     ghost nothing: { (handler : Self) → told handler handler [] [] };
 
-    /// Further events come behind those that have their verdicts.
+    /// Further events come after those that have their verdicts.
     ghost further: { (first middle last : Self) (events more : List Heard)
         (verdicts others : List Verdict) → length verdicts ≡ length events
         → told first middle events verdicts → told middle last more others

@@ -4,7 +4,7 @@ ghost use Rattle.std.specs.Prelude.{◌≡◌, ◌++◌, ◌∷◌, [], List, �
 ghost use Rattle.sv_listener.specs.EventText.{CanBeHeard, Event, heard_of, text_of};
 ghost use Rattle.sv_listener.specs.Hearing.{hearing_of, with_event};
 
-/// A law: an event that stands first in a stream, as a daemon writes it, is heard, and then what follows it. Of a front of
+/// A law: an event that stands first in a stream, as a daemon writes it, is heard, and then what follows it. Of a prefix of
 /// it, without its last byte, nothing is heard.
 pub fn a_written_event_is_heard()
     ensures whole { (event : Event) (more : List ℕ) → CanBeHeard event

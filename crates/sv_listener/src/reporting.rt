@@ -20,7 +20,7 @@ use sv_out::source::Source;
 /// `GROUP:NAME (pid N) exited unexpectedly` for each event PROCESS_STATE_EXITED that says so. Each event is done with.
 ///
 /// The answer is the number of the end: 0 where the source ended between two events; 1 where it failed; 2 where it ended
-/// inside an event or has a fault; 3 for want of memory; 4 where the sink failed; 5 where `out` failed; 6 where 2^63 bytes
+/// inside an event or has a fault; 3 when out of memory; 4 where the sink failed; 5 where `out` failed; 6 where 2^63 bytes
 /// were taken.
 pub fn report<R: Source, K: Sink, O: Sink>(
     alloc: Global,

@@ -47,7 +47,7 @@ by_cut names state k piece left phrases at rest new cut round begun known tokens
     (read_cut state.talk k.phrases k.at k.rest k.cut k.round k.begun k.known).0
     (read_cut (state.talk ++ said piece) phrases at rest cut round begun known).0 new tokens)) keeps
 
--- the same parts, and more behind them
+-- the same parts, and more after them
 same_parts : (names : Names) (state : State) (k : Keeps names state) (piece left : List ℕ) → IsBegun k.at (k.rest ++ piece)
     → Place names k.at (k.rest ++ piece) k.done k.settled (holding 0 state.pool.held) state.handed state.verdicts state.to_listener left state.stream
     → Keeps names (reads state piece left)
@@ -163,7 +163,7 @@ settled_as names state k taken verdict.Fail held can =
       waiting = can_append (option_to_list (holding 0 state.pool.held)) _ (subst P (sym held) (can, tt)) (room_can state.pool k.waiting);
     }
 
--- the state behind a result, by what stands behind it
+-- the state after a result, by what stands after it
 settled_keeps : (names : Names) (state : State) (k : Keeps names state) (piece left : List ℕ) (taken : Taken) (v : Verdict) (phrases : List Phrase) (at : TalkState) (rest : List ℕ)
     → state.talk ++ said piece ≡ talk_of phrases ++ said rest → IsRound talks.Acknowledged phrases at → IsBegun at rest → at ≢ talks.Unknown
     → results_in (tokens_of phrases) ≡ map result_body (k.settled ++ v ∷ []) → holding 0 state.pool.held ≡ Some taken → CanBeHeard taken
@@ -216,7 +216,7 @@ settled_keeps names state k piece left taken v phrases at rest cut round begun k
       place = place (holding 0 (slice_set state.pool.held 0 None)) is.free;
     }
 
--- a result is whole, and `READY` behind it is said in part or whole
+-- a result is whole, and `READY` after it is said in part or whole
 result_whole : (names : Names) (state : State) (k : Keeps names state) (piece left : List ℕ) (taken : Taken) (v : Verdict) (text : List ℕ)
     → k.at ≡ talks.Busy → k.rest ++ piece ≡ result_of v ++ text → ready ≡ text ++ left → holding 0 state.pool.held ≡ Some taken
     → state.handed ≡ k.done ++ taken ∷ [] → state.verdicts ≡ k.settled ++ v ∷ [] → state.to_listener ≡ [] → state.stream ≡ envelopes names state.handed

@@ -22,7 +22,7 @@ nothing : (hearing_of []).events ≡ []
 unfolding hearing_of
 nothing = refl
 
--- what is heard of whole envelopes, and of a front of one more
+-- what is heard of whole envelopes, and of a prefix of one more
 pub heard_whole : (names : Names) (handed : List Taken) → AreFit names → AllCan handed
     → (hearing_of (envelopes names handed)).events ≡ map (heard_as names) handed
 heard_whole names handed fit can =

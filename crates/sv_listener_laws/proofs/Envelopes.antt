@@ -1,4 +1,4 @@
--- What is heard of envelopes, one after the other, and of a front of one.
+-- What is heard of envelopes, one after the other, and of a prefix of one.
 use Rattle.std.proofs.Common.{◌≡◌, ◌<◌, ◌^◌, ◌++◌, ℕ, List, [], ◌∷◌, map, refl, ap, ◌∙◌, append_assoc}
 use Rattle.std.specs.List.{flat_map}
 use Rattle.sv_events.specs.EventText.{envelope_of}

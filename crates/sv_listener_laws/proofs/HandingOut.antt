@@ -34,7 +34,7 @@ envelope_opens : (names : Names) (taken : Taken) → Opens (envelope names taken
 envelope_opens names taken =
     opens (envelope names taken) (omega (arith, length-append (envelope_head names.server names.pool taken.poolserial taken.event) (10 ∷ taken.event.body)))
 
--- a mark behind a talk that waits for it
+-- a mark after a talk that waits for it
 marked : (talk : List Mark) (phrases : List Phrase) (rest : List ℕ) → talk ≡ talk_of phrases ++ said rest → rest ≡ []
     → talk ++ Sent ∷ [] ≡ talk_of (phrases ++ Event ∷ []) ++ said []
 marked talk phrases rest cut none =

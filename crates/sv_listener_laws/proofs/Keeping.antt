@@ -44,7 +44,7 @@ pub data Place (names : Names) (at : TalkState) (rest : List ℕ) (done : List T
       → Place names at rest done settled held handed verdicts to_listener to_daemon stream
 
 pub record Keeps (names : Names) (state : State) : Type 0 where
-  -- the cut of the talk: its parts, where they lead, and what stands behind them
+  -- the cut of the talk: its parts, where they lead, and what stands after them
   pub phrases : List Phrase
   pub at : TalkState
   pub rest : List ℕ
@@ -88,7 +88,7 @@ said_on talk phrases rest piece cut =
     ap (λ (t : List Mark). t ++ said piece) cut ∙ append_assoc (talk_of phrases) (said rest) (said piece)
     ∙ ap (λ (t : List Mark). talk_of phrases ++ t) (sym (map-append Byte rest piece))
 
--- a part that is said whole, and what is said behind it
+-- a part that is said whole, and what is said after it
 pub part_on : (phrases : List Phrase) (phrase : Phrase) (text behind : List ℕ) → spelled phrase ≡ said text
     → talk_of phrases ++ said (text ++ behind) ≡ talk_of (phrases ++ phrase ∷ []) ++ said behind
 part_on phrases phrase text behind spells =

@@ -28,7 +28,7 @@ with_fail_more (taken ∷ done) (verdict.Ok ∷ settled) more others same = with
 with_fail_more (taken ∷ done) (verdict.Fail ∷ settled) more others same =
     ap (λ (l : List Taken). taken ∷ l) (with_fail_more done settled more others (omega (arith, same)))
 
--- events behind those with verdicts change nothing
+-- events after those with verdicts change nothing
 pub ok_front : (done : List Taken) (settled : List Verdict) (more : List Taken) → length settled ≡ length done → with_ok (done ++ more) settled ≡ with_ok done settled
 ok_front done settled more same =
     ap (λ (l : List Verdict). with_ok (done ++ more) l) (sym (append-nil settled)) ∙ with_ok_more done settled more [] same
@@ -59,7 +59,7 @@ pub bodies_append : (settled others : List Verdict) → map result_body (settled
 bodies_append [] others = refl
 bodies_append (v ∷ settled) others = ap (λ (l : List (List ℕ)). result_body v ∷ l) (bodies_append settled others)
 
--- one result more, whatever stands behind it
+-- one result more, whatever stands after it
 pub results_more : (tokens new : List Token) (settled : List Verdict) (v : Verdict) → results_in tokens ≡ map result_body settled
     → results_in new ≡ result_body v ∷ [] → results_in (tokens ++ new) ≡ map result_body (settled ++ v ∷ [])
 results_more tokens new settled v was one =

@@ -91,7 +91,7 @@ hands_out names state other = state
 abbrev pub completed : List ℕ → List ℕ → ℕ
 completed stream piece = length (hearing_of (stream ++ piece)).events - length (hearing_of stream).events
 
--- the listener reads these bytes, of which those behind them are still on their way
+-- the listener reads these bytes, of which those after them are still on their way
 abbrev pub hears : State → List ℕ → List ℕ → Verdict → State
 hears state piece behind verdict = record state {
   to_listener = behind;
@@ -122,7 +122,7 @@ abbrev pub settles_all : State → List Token → State
 settles_all state [] = state
 settles_all state (first ∷ tokens) = settles_all (settles state first) tokens
 
--- the daemon reads these bytes, of which those behind them are still on their way
+-- the daemon reads these bytes, of which those after them are still on their way
 abbrev pub reads : State → List ℕ → List ℕ → State
 reads state piece behind =
     settles_all (record state { talk = state.talk ++ said piece; to_daemon = behind })

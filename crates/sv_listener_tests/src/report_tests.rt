@@ -12,7 +12,7 @@ const CRASH: &[u8] =
 
 const CRASH_LINE: &str = "x:x (pid 12) exited unexpectedly\n";
 
-// Each line is a body of PROCESS_STATE_EXITED, and behind the bar what is told of it.
+// Each line is a body of PROCESS_STATE_EXITED, and after the bar what is told of it.
 const BODIES: &str = "\
 processname:x groupname:x from_state:RUNNING expected:0 pid:12|x:x (pid 12)
 processname:cat groupname:cats from_state:STOPPING expected:0 pid:0|cats:cat (pid 0)
@@ -161,7 +161,7 @@ fn a_crash_is_reported(rt: HostRuntime) {
         };
         play(&rt, rt.alloc(), CRASH, &run);
     }
-    // Cut off behind each byte.
+    // Cut off after each byte.
     for count in 0..CRASH.len() {
         let run = Run {
             size: 65_536,

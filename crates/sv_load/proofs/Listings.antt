@@ -3,7 +3,7 @@ use Rattle.std.proofs.Common.{◌≡◌, ◌<◌, ℕ, List, [], ◌∷◌, ◌+
 use Rattle.sv_out.specs.Files.{Files}
 use Rattle.sv_load.specs.Listing.{AreListed}
 
--- behind the last pattern the names are those of all
+-- after the last pattern the names are those of all
 pub all_listed : (files : Files) (patterns left names all : List (List ℕ)) → length left < 1
     → ((more : List (List ℕ)) → AreListed files left more → AreListed files patterns (names ++ more))
     → all ≡ names → AreListed files patterns all

@@ -8,18 +8,18 @@ use Rattle.sv_out.specs.Files.{Files, AreNames, AreRising}
 abbrev pub IsAnswer : Files → List ℕ → List (List ℕ) → Type 0
 IsAnswer files pattern names = AreRising names × AreNames pattern names files
 
--- the names of all patterns, those of each behind those of the patterns before it
+-- the names of all patterns, those of each after those of the patterns before it
 abbrev pub AreListed : Files → List (List ℕ) → List (List ℕ) → Type 0
 AreListed files [] names = names ≡ []
 AreListed files (pattern ∷ patterns) names =
     (answer : List (List ℕ)) × (more : List (List ℕ)) × IsAnswer files pattern answer
     × AreListed files patterns more × (names ≡ answer ++ more)
 
--- a name behind others, unless it is one of them
+-- a name after others, unless it is one of them
 abbrev pub with_name : List (List ℕ) → List ℕ → List (List ℕ)
 with_name names name = if list_any (λ other. bytes_eq other name) names then names else names ++ name ∷ []
 
--- further names behind others, each once
+-- further names after others, each once
 abbrev pub with_names : List (List ℕ) → List (List ℕ) → List (List ℕ)
 with_names names [] = names
 with_names names (name ∷ more) = with_names (with_name names name) more

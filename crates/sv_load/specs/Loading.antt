@@ -11,7 +11,7 @@ use Rattle.sv_load.specs.declared.fault.LoadFault.{LoadFault}
 use Rattle.sv_load.specs.declared.fault.LoadFault.TheVariants.{Missing, Refused, Failed, OutOfMemory}
 use Rattle.sv_load.specs.declared.loading.Loaded.{Loaded}
 
--- a fault of the configuration; want of memory is one of its own
+-- a fault of the configuration; out of memory is one of its own
 abbrev pub refused : ConfFault → LoadFault
 refused conf.OutOfMemory = OutOfMemory
 refused fault = Refused fault

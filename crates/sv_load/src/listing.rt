@@ -12,7 +12,7 @@ use std::alloc::{AllocError, Global};
 use sv_base::{Items, Text};
 use sv_out::{Shelf, ShelfFault};
 
-/// The names that these patterns list, those of each behind those of the patterns before it.
+/// The names that these patterns list, those of each after those of the patterns before it.
 pub(crate) fn names_of_all<S: Shelf>(
     alloc: Global,
     patterns: &[Text],

@@ -36,7 +36,7 @@ abbrev pub all_carried : List FileOrder → Files → Files
 all_carried [] files = files
 all_carried (order ∷ orders) files = all_carried orders (carried order files)
 
--- a log's file, and behind it its backups: the file's name, a point and 1, 2, 3
+-- a log's file, and after it its backups: the file's name, a point and 1, 2, 3
 abbrev pub kept : List ℕ → ℕ → List ℕ
 kept file zero = file
 kept file (suc number) = file ++ 46 ∷ decimal (suc number)

@@ -14,7 +14,7 @@ command_line =
     (option_of (codes "file") 99)) (option_of (codes "url") 115))
     (option_of (codes "username") 117)) (option_of (codes "password") 112)
 
--- the words behind the program's name
+-- the words after the program's name
 abbrev pub with_name : List (List ℕ) → List (List ℕ)
 with_name words = codes "supervisorctl" ∷ words
 

@@ -7,7 +7,7 @@ abbrev pub is_option : List ℕ → Bool
 is_option [] = false
 is_option (byte ∷ bytes) = byte == 45
 
--- the word behind this one is its value
+-- the word after this one is its value
 abbrev pub takes_value : List ℕ → Bool
 takes_value word =
     bytes_eq word (codes "-c") || bytes_eq word (codes "-s") || bytes_eq word (codes "-u") || bytes_eq word (codes "-p")

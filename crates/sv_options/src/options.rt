@@ -22,7 +22,7 @@ pub struct Options {
     pub password: Option<Text>,
 }
 
-/// What the options say; none exactly where they are refused: an unknown one, one that stands twice or has no value, and
+/// What the options say; none exactly where they are refused: an unknown one, one that is given twice or has no value, and
 /// those that ask for help.
 pub fn options_of(alloc: Global, words: &[Text]) -> Result<Option<Options>, AllocError>
     ensures { IfOk result (λ options. options ≡ options_of words.now) }
@@ -37,7 +37,7 @@ pub fn options_of(alloc: Global, words: &[Text]) -> Result<Option<Options>, Allo
     }
 }
 
-/// The words behind the program's name.
+/// The words after the program's name.
 fn with_name<'a>(alloc: Global, words: &'a [Text]) -> Result<Vec<&'a str>, AllocError>
     ensures { IfOk result (λ all. map (λ word. word.now) all.items ≡ with_name words.now) }
 {

@@ -4,8 +4,8 @@ ghost use Rattle.sv_options.specs.Span.{command_in, options_in, options_size, is
 
 use sv_base::Text;
 
-/// The words of the options, and behind them those of the command. An option is a word that begins with `-`; the word
-/// behind `-c`, `-s`, `-u` or `-p` belongs to it.
+/// The words of the options, and after them those of the command. An option is a word that begins with `-`; the word
+/// after `-c`, `-s`, `-u` or `-p` belongs to it.
 pub fn parted(words: &[Text]) -> (&[Text], &[Text])
     ensures options { result.0.now ≡ options_in words.now }
     ensures command { result.1.now ≡ command_in words.now }
@@ -42,7 +42,7 @@ fn is_option(word: &[u8]) -> bool
     }
 }
 
-/// Whether the word behind this one is its value.
+/// Whether the word after this one is its value.
 fn takes_value(word: &str) -> bool
     ensures { result ≡ takes_value word.now }
 {

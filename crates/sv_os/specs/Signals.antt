@@ -4,7 +4,7 @@ use Rattle.std.specs.Fmt.{decimal}
 use Rattle.sv_base.specs.Names.{signal_name}
 use Rattle.sv_base.specs.declared.signal.Signal.{Signal}
 
--- to the process of this number; behind `-- -` to the group of this number
+-- to the process of this number; after `-- -` to the group of this number
 abbrev pub kill_to : List ℕ → ℕ → Signal → List ℕ
 kill_to behind pid signal =
     codes "kill -s " ++ signal_name signal ++ codes " " ++ behind ++ decimal pid

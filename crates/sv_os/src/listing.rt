@@ -71,7 +71,7 @@ fn further_parts<R: Files + AllocGlobal + Clone + Drop>(
     Ok(paths)
 }
 
-/// Adds the entries of a directory that a part of a pattern matches, each behind `begin`. What is no directory has none.
+/// Adds the entries of a directory that a part of a pattern matches, each after `begin`. What is no directory has none.
 fn add_matching<R: Files + AllocGlobal + Clone + Drop>(
     alloc: Global,
     rt: &R,

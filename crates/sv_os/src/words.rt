@@ -7,7 +7,7 @@ use std::env;
 use std::io::ErrorKind;
 use sv_base::Text;
 
-/// The words behind the program's name, in their order.
+/// The words after the program's name, in their order.
 pub fn words_of(alloc: Global, arguments: env::Args<Global>) -> Result<Vec<Text>, AllocError>
     ensures { IfOk result (λ words.
         words.items ≡ map string_bytes (drop 1 (into_iter_items arguments))) }

@@ -1,4 +1,4 @@
--- A front of a text was sent over a link, and then some more of its rest.
+-- A prefix of a text was sent over a link, and then some more of its rest.
 use Rattle.std.proofs.Common.{◌≡◌, ℕ, List, ◌++◌, Option, None, Some, take, drop, append_assoc, option_map, refl}
 use Rattle.std.proofs.lemmas.List.{take-append-drop}
 use Rattle.sv_out.specs.Exchanges.{sent_more}

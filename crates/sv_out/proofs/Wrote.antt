@@ -1,4 +1,4 @@
--- A front of a text was written, and then some more of its rest.
+-- A prefix of a text was written, and then some more of its rest.
 use Rattle.std.proofs.Common.{◌≡◌, ℕ, List, ◌++◌, Option, take, drop, append_assoc}
 use Rattle.std.proofs.lemmas.List.{take-append-drop}
 use Rattle.std.proofs.KnownBytes.{Appends-trans}

@@ -31,7 +31,7 @@ abbrev pub after_write : {E : Type 0} → Result ℕ E → List ℕ → Exchange
 after_write (Ok count) piece exchange = sent_more (take count piece) exchange
 after_write (Err failed) piece exchange = exchange
 
--- a front of this text was written
+-- a prefix of this text was written
 pub record SentFront (old new : Option Exchange) (text : List ℕ) : Type 0 where
   pub front : List ℕ
   pub rest : List ℕ

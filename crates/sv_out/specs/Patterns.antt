@@ -6,17 +6,17 @@ use Rattle.std.specs.List.{prefix_len}
 abbrev pub is_further : ℕ → Bool
 is_further byte = nat_le 128 byte && nat_lt byte 192
 
--- the rest of the pattern matches what is left behind some run without `/`
+-- the rest of the pattern matches what is left after some run without `/`
 abbrev pub behind_run : (List ℕ → Bool) → List ℕ → Bool
 behind_run rest [] = rest []
 behind_run rest (byte ∷ name) = rest (byte ∷ name) || (not (byte == 47) && behind_run rest name)
 
--- the rest of the pattern matches what is left behind one character but `/`
+-- the rest of the pattern matches what is left after one character but `/`
 abbrev pub behind_character : (List ℕ → Bool) → List ℕ → Bool
 behind_character rest [] = false
 behind_character rest (byte ∷ name) = not (byte == 47) && rest (drop (prefix_len is_further name) name)
 
--- the rest of the pattern matches what is left behind this byte
+-- the rest of the pattern matches what is left after this byte
 abbrev pub behind_byte : ℕ → (List ℕ → Bool) → List ℕ → Bool
 behind_byte wanted rest [] = false
 behind_byte wanted rest (byte ∷ name) = byte == wanted && rest name

@@ -8,7 +8,7 @@ abbrev pub is_before : List ℕ → List (List ℕ) → Bool
 is_before name [] = true
 is_before name (next ∷ names) = is_lt (slice_cmp nat_cmp name next)
 
--- each stands before the one behind it
+-- each stands before the one after it
 abbrev pub rise : List (List ℕ) → Bool
 rise [] = true
 rise (name ∷ names) = is_before name names && rise names

@@ -41,7 +41,7 @@ pub trait Link {
         ensures cause { HasCause (faults self.old) (faults self.new) result };
 }
 
-/// Writes the whole text over a link. After a failure a front of it was written.
+/// Writes the whole text over a link. After a failure a prefix of it was written.
 pub fn send_all<K: Link>(link: &mut K, text: &[u8]) -> Result<(), Failed>
     ensures ok { OnOk result (K.told link.new ≡ option_map (sent_more text.now) (K.told link.old)) }
     ensures err { OnErr result (SentFront (K.told link.old) (K.told link.new) text.now) }

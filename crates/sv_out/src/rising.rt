@@ -60,7 +60,7 @@ impl Clone for RisingNames {
     }
 }
 
-/// Whether each name stands before the one behind it.
+/// Whether each name stands before the one after it.
 fn rise(names: &[Text]) -> bool
     ensures { result ≡ rise names.now }
 {

@@ -1,4 +1,4 @@
-//! The gate: behind it jobs run beside the caller.
+//! The gate: after it jobs run beside the caller.
 ghost use Rattle.std.specs.Prelude.{◌≡◌, ℕ, List, Option, IfErr, is_ok};
 ghost use Rattle.sv_out.specs.Faults.{HasCause};
 ghost use Rattle.sv_outside.specs.Gates.{kept_more};

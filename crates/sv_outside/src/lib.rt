@@ -1,4 +1,4 @@
-//! The outside as threads meet it: the clock, the programs that are started, the links that come in, and the gate behind
+//! The outside as threads meet it: the clock, the programs that are started, the links that come in, and the gate after
 //! which jobs run. Each object that can fail counts its faults, and a call fails only where that count rose in it; an
 //! object that can, tells what it was asked for. Each trait has a form in memory.
 #![tactic(auto)]

@@ -19,7 +19,7 @@ use sv_facts::{fact_at, kind_of, pid_at};
 
 /// What happens to the process p of the group g, one second after the other; startsecs is 2, startretries 1, and 0 and 3
 /// are the expected exit codes. `tick` is a second that passes, `pid` answers the spawn, `refused` refuses it, `code` and
-/// `signal` are ends of its process. Behind each stand the events of its edges: the end of the type's name, the state that
+/// `signal` are ends of its process. After each stand the events of its edges: the end of the type's name, the state that
 /// was left, and what else the body says.
 const LIFE: &str = "\
 tick|STARTING STOPPED tries:0

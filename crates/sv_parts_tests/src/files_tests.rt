@@ -94,7 +94,7 @@ fn group(
     groups.push(group).expect(rt, "memory");
 }
 
-/// The sizes as text: each name with its size behind it.
+/// The sizes as text: each name with its size after it.
 fn told(alloc: Global, sizes: &KnownSizes) -> Result<String, AllocError> {
     let mut text = String::new(alloc);
     for (name, size) in sizes.as_slice() {
@@ -187,7 +187,7 @@ fn is_size(rt: &impl Abort, sizes: &KnownSizes, file: &'static str, size: u64) {
     assert_eq!(rt; sizes.size(&Text::fixed(file)), size);
 }
 
-/// The greatest size of a log and how many backups it keeps, its file, a piece, and behind it the orders for the piece and the
+/// The greatest size of a log and how many backups it keeps, its file, a piece, and after it the orders for the piece and the
 /// sizes of `/e` and `/p`.
 const PIECES: [(u64, u32, Option<&str>, &str, &str, &str); 6] = [
     (2, 1, None, "abc", "", "/e 0;/m 0;/p 0;"),

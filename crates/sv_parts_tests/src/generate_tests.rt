@@ -5,7 +5,7 @@ use sv_base::ids::Run;
 use sv_base::moment::Moment;
 use sv_generate::{Draw, generate};
 
-/// A number, how many runs are issued at each input, and the inputs, with `-` behind the last.
+/// A number, how many runs are issued at each input, and the inputs, with `-` after the last.
 struct Case {
     number: u64,
     issued: u64,

@@ -18,7 +18,7 @@ use sv_lines::{Line, how_of, is_written, killing_at, line_at, overflowed, spawne
 
 /// What happens to the process p, one second after the other; startsecs is 2, startretries 1, stopwaitsecs 3, and 0 and 3 are
 /// the expected exit codes. `tick` is a second that passes, `pid` answers the spawn, `refused` refuses it, `code` and `signal`
-/// are ends of its process. Behind each stand the lines that it gives, each with the first letter of its level.
+/// are ends of its process. After each stand the lines that it gives, each with the first letter of its level.
 const LIFE: &str = "\
 tick
 pid 7|I spawned: 'p' with pid 7
@@ -227,7 +227,7 @@ fn tell(
     }
 }
 
-/// Adds a line behind those that are told.
+/// Adds a line after those that are told.
 fn push(rt: &impl Abort, told: &mut String, line: Option<Line>) {
     if let Some(line) = line {
         push_line(told, &line).expect(rt, "memory");

@@ -171,7 +171,7 @@ gathers_bytes parts logged more fresh all = (
       ∙ ap (λ back. all.0 ++ back) (sym (map-append Byte logged more)),
 )
 
--- what a reading stands for, behind what was decided earlier
+-- what a reading stands for, after what was decided earlier
 abbrev pub Reads : ℕ → List ℕ → List Decided → Reading → Type 0
 Reads limit stream earlier reading =
     (fresh : List Decided) × Stands limit reading.side reading.matched reading.body stream (earlier ++ fresh)

@@ -1,13 +1,17 @@
+-- words, digits and bytes as plain lists
 pub mod Awaited
-pub mod Captures
-pub mod Digits
 pub mod Fronts
-pub mod OneStream
-pub mod OneTalk
+pub mod Digits
 pub mod PlainBytes
 pub mod ResultBytes
-pub mod Steps
-pub mod StreamReading
-pub mod TalkReading
+-- a talk
 pub mod Talks
+pub mod Steps
+pub mod OneTalk
+pub mod TalkReading
+-- a captured stream
+pub mod Captures
+pub mod OneStream
+pub mod StreamReading
+-- what is not decided yet
 pub mod Undecided

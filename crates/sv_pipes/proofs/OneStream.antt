@@ -10,7 +10,7 @@ use Rattle.sv_pipes.specs.CaptureCut.Stretch.{Plain, Captured}
 use Rattle.sv_pipes.specs.declared.parts.Side.{Side}
 use Rattle.sv_pipes.specs.declared.parts.Side.TheVariants.{Outside, Inside}
 
--- of two fronts of one list, one goes on where the other ends
+-- of two prefixes of one list, one goes on where the other ends
 compare : (one other after more : List ℕ) → one ++ after ≡ other ++ more
     → ((left : List ℕ) × (one ≡ other ++ left)) ⊎ ((left : List ℕ) × (other ≡ one ++ left))
 compare one [] after more same = inl (one, refl)

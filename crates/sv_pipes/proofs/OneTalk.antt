@@ -117,7 +117,7 @@ no_part state.Busy (Result digits body) state.Acknowledged marks more stops lead
     nothing_said state.Busy marks (result_text digits body) more stops (digits, body, leads, refl) same
 no_part from phrase to marks more stops leads same = absurd leads
 
--- the part that begins at a place, and the state behind it, are the only ones
+-- the part that begins at a place, and the state after it, are the only ones
 record OnePart (one other : Phrase) (to also : TalkState) (more rest : List Mark) : Type 0 where
   phrase : one ≡ other
   to_is : to ≡ also

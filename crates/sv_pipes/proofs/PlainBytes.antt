@@ -88,7 +88,7 @@ steps_append : (limit : ℕ) (bytes more : List ℕ) (reading : Reading) → ste
 steps_append limit [] more reading = refl
 steps_append limit (byte ∷ bytes) more reading = steps_append limit bytes more _
 
--- and of what comes behind them
+-- and of what comes after them
 pub goes_behind : (limit : ℕ) (front back rest : List ℕ) (reading after : Reading) → rest ≡ front ++ back → after ≡ steps limit reading front
     → steps limit after back ≡ steps limit reading rest
 goes_behind limit front back rest reading after split made =

@@ -29,7 +29,7 @@ body_at_once (next ∷ bytes) count number byte held tokens within =
     ∙ body_at_once bytes count number next (held ++ byte ∷ []) tokens (omega (arith, longer, within))
     ∙ ap (λ all. after_body count number all tokens) (append_assoc held (byte ∷ []) (next ∷ bytes))
 
--- so of a place in a talk, and what comes behind them
+-- so of a place in a talk, and what comes after them
 pub body_goes : (count number : ℕ) (held front back rest : List ℕ) (tokens : List Token) (at : Place) (after : Told)
     → at ≡ place.Body count number → 0 < length front → length held + length front ≤ number → rest ≡ front ++ back
     → after ≡ after_body count number (held ++ front) tokens → steps after back ≡ steps (goes at held tokens) rest

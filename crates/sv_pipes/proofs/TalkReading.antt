@@ -61,7 +61,7 @@ begin_told = (
   (refl, (omega arith), refl),
 )
 
--- a front of a talk, as its functions read it
+-- a prefix of a talk, as its functions read it
 abbrev pub IsRead : List Mark → Type 0
 IsRead talk = IsTold talk (told_of talk)
 

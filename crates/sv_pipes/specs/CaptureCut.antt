@@ -29,7 +29,7 @@ pub data Decided : Type 0 where
   Byte : (byte : ℕ) → Decided
   Message : (bytes : List ℕ) → Decided
 
--- a stretch of the stream up to the token behind it: outside up to a BEGIN, and inside up to an END
+-- a stretch of the stream up to the token after it: outside up to a BEGIN, and inside up to an END
 pub data Stretch : Type 0 where
   Plain : (bytes : List ℕ) → Stretch
   Captured : (bytes : List ℕ) → Stretch
@@ -63,7 +63,7 @@ abbrev pub Lead : Side → List Stretch → Side → Type 0
 Lead from [] to = from ≡ to
 Lead from (stretch ∷ stretches) to = (next : Side) × Leads from stretch next × Lead next stretches to
 
--- no longer tail of these bytes is a proper front of the token
+-- no longer tail of these bytes is a proper prefix of the token
 abbrev pub IsLongest : List ℕ → List ℕ → List ℕ → Type 0
 IsLongest token bytes held =
     (front tail rest : List ℕ) → bytes ≡ front ++ tail → token ≡ tail ++ rest → rest ≢ []
@@ -75,7 +75,7 @@ decided_open Outside shown = map Byte shown
 decided_open Inside shown = []
 
 -- a stream and what is decided of it: whole stretches, then what is shown of the last one, which has no token, and
--- behind that its longest tail that may begin one
+-- after that its longest tail that may begin one
 pub record IsCut (limit : ℕ) (stream : List ℕ) (decided : List Decided) (side : Side)
     (shown held : List ℕ) : Type 0 where
   pub stretches : List Stretch

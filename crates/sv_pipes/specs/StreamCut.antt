@@ -53,7 +53,7 @@ abbrev pub open_cut : Side → List ℕ × List ℕ → Cut
 open_cut side parts =
     record { decided = decided_open side parts.0; side = side; shown = parts.0; held = parts.1 }
 
--- a cut behind what is decided before it
+-- a cut after what is decided before it
 abbrev pub with_stretch : List Decided → Cut → Cut
 with_stretch decided cut = record cut { decided = decided ++ cut.decided }
 

@@ -23,7 +23,7 @@ pub data Phrase : Type 0 where
   Event : Phrase
   Result : (digits body : List ℕ) → Phrase
 
--- the number that these digits write behind a number
+-- the number that these digits write after a number
 abbrev pub number_of : ℕ → List ℕ → ℕ
 number_of number [] = number
 number_of number (digit ∷ digits) = number_of (10 * number + (digit - 48)) digits
@@ -78,7 +78,7 @@ IsSaid other bytes = ⊥
 abbrev pub IsBegun : TalkState → List ℕ → Type 0
 IsBegun from rest = (rest ≡ []) ⊎ ((more : List ℕ) × (more ≢ []) × IsSaid from (rest ++ more))
 
--- a byte that can't go on behind these
+-- a byte that can't go on after these
 abbrev pub IsOutside : TalkState → List ℕ → ℕ → Type 0
 IsOutside from rest byte = (more : List ℕ) → IsSaid from (rest ++ byte ∷ more) → ⊥
 
@@ -101,7 +101,7 @@ pub record GoesOn (talk : List Mark) (tokens : List Token) (to : TalkState)
   pub begun : IsBegun to rest
   pub tokens_are : tokens ≡ tokens_of phrases
 
--- a talk that is cut up to the first byte that can't go on, whatever comes behind it
+-- a talk that is cut up to the first byte that can't go on, whatever comes after it
 pub record IsLost (talk : List Mark) (tokens : List Token) : Type 0 where
   pub phrases : List Phrase
   pub to : TalkState

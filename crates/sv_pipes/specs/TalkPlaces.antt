@@ -112,7 +112,7 @@ after_digit count number held tokens =
     then goes (place.Length (count + 1) number) held tokens
     else lost held tokens
 
--- the line feed behind the length
+-- the line feed after the length
 abbrev pub after_length : ℕ → ℕ → List ℕ → List Token → Told
 after_length count number held tokens =
     if nat_lt 0 count

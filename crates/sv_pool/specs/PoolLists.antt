@@ -48,7 +48,7 @@ report taken = record { serial = taken.event.serial; poolserial = taken.poolseri
 abbrev pub dropped_for_room : Lists → Option Dropped
 dropped_for_room lists = if has_room lists then None else option_map report (slice_get lists.waiting 0)
 
--- the event gets the pool's next number, modulo 2^64, and waits behind the others
+-- the event gets the pool's next number, modulo 2^64, and waits after the others
 abbrev pub numbered : Event → ℕ → Taken
 numbered event number = record { event = event; poolserial = number % 2 ^ 64 }
 

@@ -46,7 +46,7 @@ impl Pool {
         })
     }
 
-    /// Takes an event, which gets the pool's next number and waits behind the others. Where the buffer is full the
+    /// Takes an event, which gets the pool's next number and waits after the others. Where the buffer is full the
     /// oldest event is dropped first, and its report answered. The event takes no further memory.
     pub fn accept(&mut self, event: Event) -> Result<Option<Dropped>, AllocError>
         ensures taken { IsOk result }

@@ -98,7 +98,7 @@ impl GroupPool {
         Ok(())
     }
 
-    /// The number of a process among the pool's listeners, if it stands behind the first of them.
+    /// The number of a process among the pool's listeners, if it stands after the first of them.
     fn seat(&self, listener: ChildId) -> Option<u32>
         ensures { SomeIff result (self.now.first ≤ listener.0) (listener.0 - self.now.first) }
     {

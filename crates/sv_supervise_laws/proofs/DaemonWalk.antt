@@ -1,4 +1,4 @@
--- The lines of a daemon's journal lead behind `go`, and from there on as its inputs do.
+-- The lines of a daemon's journal lead after `go`, and from there on as its inputs do.
 use Rattle.std.proofs.Common.{◌≡◌, ℕ, List, [], ◌∷◌, ◌++◌, Bool, true, false, ◌&&◌, map, refl, sym, ap, subst, ◌∙◌, append_assoc, append-nil, Ok}
 use Rattle.std.specs.Prelude.{if◌then◌else◌}
 use Rattle.sv_base.specs.declared.config.Config.{Config}
@@ -12,7 +12,7 @@ use Rattle.sv_journal.specs.declared.header.Header.TheVariants as header_is
 use Rattle.sv_loop.specs.JournalPlaces.{Line, Stage, Walked, behind, judged, walked, walks_on}
 use Rattle.sv_loop.specs.JournalPlaces.Line.{Head, Said}
 use Rattle.sv_loop.specs.JournalPlaces.Stage.{Fresh, Long, Running}
-use Rattle.sv_loop.specs.JournalPlaces.Verdict.{Stands, Refused}
+use Rattle.sv_loop.specs.JournalPlaces.Verdict.{Stands, NotAccepted}
 use Rattle.sv_loop.specs.JournalPlaces.Walked.{Reaches, Stops}
 use Rattle.sv_loop.specs.LongHeader.{is_behind, host_of}
 use Rattle.sv_loop.specs.WholeJournal.{Entry, entry_lines, include_lines, inputs_in, journal_lines, size_lines, variable_lines}
@@ -111,7 +111,7 @@ walk_includes host sizes text done (entry ∷ more) lines =
     ∙ walk_includes host sizes text (done ++ entry ∷ []) more lines
     ∙ ap (λ (all : List (List ℕ × List ℕ)). walked (Long (Configured host sizes text all)) lines) (one_further done more entry)
 
--- ---- behind `go`
+-- ---- after `go`
 
 walk_given : (m : Model) (given : List Order) (entries : List Entry)
     → walked (Running m) (entry_lines (map Given given ++ entries)) ≡ walked (Running m) (entry_lines entries)
@@ -125,7 +125,7 @@ walk_said : (m : Model) (i : Input) (lines : List Line) (last : Stage) (given : 
 walk_said m i lines last given accepted goes = by (accepts m i) accepted
   where
     by : (b : Bool) → b ≡ true
-        → walks_on (if b then Stands (Running (next m i)) (orders m i) else Refused) (λ n. walked n lines) ≡ Reaches last (orders m i ++ given)
+        → walks_on (if b then Stands (Running (next m i)) (orders m i) else NotAccepted) (λ n. walked n lines) ≡ Reaches last (orders m i ++ given)
     by true e = ap (behind (orders m i)) goes
     by false e = cc
 

@@ -255,7 +255,7 @@ opening_rises config sizes rises = groups_rise config.groups (begins config.main
 found_first : (known : List ℕ × ℕ) (sizes : Sizes) → found known.0 (known ∷ sizes) ≡ Some known.1
 found_first known sizes = rw (itself known.0) refl
 
--- the one is found beside the other's first, so that it stands behind it
+-- the one is found beside the other's first, so that it stands after it
 behind_next : (here : Bool) (name : List ℕ) (known next : List ℕ × ℕ) → bytes_eq next.0 name ≡ here → is_before known.0 next.0 ≡ true
     → (here ≡ false → is_before next.0 name ≡ true) → is_before known.0 name ≡ true
 behind_next true name known next h first later = subst (λ (one : List ℕ). is_before known.0 one ≡ true) (same next.0 name h) first

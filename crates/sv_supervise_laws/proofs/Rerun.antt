@@ -14,7 +14,7 @@ use Rattle.sv_files.specs.Sizes.{Sizes, rise}
 use Rattle.sv_loop.proofs.OneReading.{not_empty, plain_line, same_front, same_line}
 use Rattle.sv_loop.specs.JournalPlaces.{Line, AllFit, Stage, Verdict, Walked, behind, judged, journal_text, line_text, order_text, walked, walks_on}
 use Rattle.sv_loop.specs.JournalPlaces.Stage.{Fresh, Running}
-use Rattle.sv_loop.specs.JournalPlaces.Verdict.{Stands, Misplaced, Refused, Faulty}
+use Rattle.sv_loop.specs.JournalPlaces.Verdict.{Stands, BadLine, NotAccepted, NotConfigured}
 use Rattle.sv_loop.specs.JournalPlaces.Walked.{Reaches, Stops}
 use Rattle.sv_loop.specs.Replaying.{Done}
 use Rattle.sv_loop.specs.WholeJournal.{entry_lines}
@@ -63,9 +63,9 @@ rest_in at to line lines last given all Stops stands walks e = cc
 rest_of : (verdict : Verdict) (at : Stage) (line : Line) (lines : List Line) (last : Stage) (all : List Order)
     → judged at line ≡ verdict → walks_on verdict (λ next. walked next lines) ≡ Reaches last all → Rest at line lines last all
 rest_of (Stands to given) at line lines last all stands e = rest_in at to line lines last given all (walked to lines) stands refl e
-rest_of Misplaced at line lines last all stands e = cc
-rest_of Refused at line lines last all stands e = cc
-rest_of (Faulty fault) at line lines last all stands e = cc
+rest_of BadLine at line lines last all stands e = cc
+rest_of NotAccepted at line lines last all stands e = cc
+rest_of (NotConfigured fault) at line lines last all stands e = cc
 
 none_behind : (line : Line) (lines : List Line) → [] ≡ journal_text (line ∷ lines) → ⊥
 none_behind line lines e = not_empty (line_text line) (journal_text lines) (e ∙ append_assoc (line_text line) (10 ∷ []) (journal_text lines))

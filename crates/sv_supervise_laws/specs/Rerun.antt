@@ -29,7 +29,7 @@ abbrev pub names_rise : {A : Type 0} → List (List ℕ × A) → Bool
 names_rise [] = true
 names_rise (entry ∷ entries) = is_first entry.0 entries && names_rise entries
 
--- each input, and behind it the orders that it gave
+-- each input, and after it the orders that it gave
 abbrev pub entries_of : Model → List Input → List Entry
 entries_of m [] = []
 entries_of m (i ∷ is) =

@@ -79,7 +79,7 @@ comes_off server before after old new talk next other Lost off come = come
 comes_off server before after old new talk next other NoMemory off come = come
 comes_off server before after old new talk next other Unprinted off come = come
 
--- a step came to its course, behind those before
+-- a step came to its course, after those before
 pub steps_come : (server : Server) (before mid after : Option (List Exchange)) (old now new : Option (List ℕ)) (talk : Talk)
     (step : Asked) (steps left : List Asked) (so_far : status.Status) (course : Course)
     → Goes server before mid old now talk (steps_said server.client.url left so_far) → left ≡ step ∷ steps

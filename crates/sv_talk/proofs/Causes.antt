@@ -1,4 +1,4 @@
--- Counts that went up, one call behind another.
+-- Counts that went up, one call after another.
 use Rattle.std.proofs.Common.{◌≤◌, ◌-◌, ◌^◌, ℕ, arith, min}
 use Rattle.sv_ask.specs.Asking.{RisesFor}
 use Rattle.sv_out.specs.Faults.{RisesWhere, counted}

@@ -1,4 +1,4 @@
--- What was done of a conversation, one part behind the other.
+-- What was done of a conversation, one part after the other.
 use Rattle.std.proofs.Common.{◌≡◌, ◌++◌, ◌∷◌, ℕ, List, [], Option, None, Some, Ok, Err, inl, inr, refl, sym, ap, ◌∙◌, append_assoc, append-nil, option_map, subst}
 use Rattle.std.proofs.KnownBytes.{Appends-nil, Appends-trans}
 use Rattle.std.specs.Io.KnownBytes.{Appends}
@@ -266,7 +266,7 @@ asked server before after written call answer told next tells = record {
   same = λ more. refl;
 }
 
--- ---- memory was refused in a call, or behind it
+-- ---- memory was refused in a call, or after it
 
 call_told : (server : Server) (before : List Exchange) (after : Option (List Exchange)) (written : Option (List ℕ))
     (call : CallTree) (answer : Answer) (told : Answer → Told) (next : status.Status → Talk) (exchanges : List Exchange)
@@ -323,7 +323,7 @@ call_unsaid server None after written call answer told next calls =
 call_unsaid server (Some before) after written call answer told next calls =
     call_failed server before after written call answer told next (calls before refl)
 
--- ---- a line behind another
+-- ---- a line after another
 
 ended : (calls : List CallTree) (text : List ℕ) (course : Course) (next : status.Status → Talk) (more : List Answer)
     → after (having calls text (ends course more)) next ≡ having calls text (goes_on (settled course) next more)

@@ -71,7 +71,7 @@ line_unknown server before after_it old new line so_far course next is come =
     subst (λ (o : Option (List (List ℕ))). Comes server before after_it old new (line_by server.client.url line o so_far next) next course)
     is come
 
--- behind a line that went on the next one is asked for
+-- after a line that went on the next one is asked for
 pub line_prompted : (server : Server) (before mid : Option (List Exchange)) (old now new : Option (List ℕ)) (line : List ℕ)
     (so_far following_on : status.Status) (course result : Course) (next : status.Status → Talk) → course ≡ On following_on
     → ((following : status.Status → Talk) → Comes server before mid old now (line_said server.client.url line so_far following) following course)
@@ -110,7 +110,7 @@ byte_kept server told written end held kept rest byte so_far is more =
     rw (feed_byte end held rest byte is, more)
     (nothing_done server told written (heard_said server.client.url end (lines_from end (held ++ byte ∷ []) rest) so_far))
 
--- the next byte came to its course, behind those before
+-- the next byte came to its course, after those before
 pub bytes_come : (server : Server) (before mid after_it : Option (List Exchange)) (old now new : Option (List ℕ)) (end : InputEnd)
     (talk : Talk) (held kept left following rest : List ℕ) (byte : ℕ) (so_far : status.Status) (course : Course)
     → Goes server before mid old now talk (heard_said server.client.url end (lines_from end held (left ++ rest)) so_far)

@@ -32,7 +32,7 @@ status_line number =
 abbrev pub bad_reply : Told
 bad_reply = record { text = codes "Error: bad reply\n"; course = Broken }
 
--- the URL with these words behind it, where there is no connection any more
+-- the URL with these words after it, where there is no connection any more
 abbrev pub with_url : List ℕ → List ℕ → Told
 with_url url words = record { text = url ++ words; course = Lost }
 

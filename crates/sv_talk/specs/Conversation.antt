@@ -139,7 +139,7 @@ abbrev pub heard_said : List ℕ → InputEnd → List (List ℕ) → Status →
 heard_said url end [] status = end_said end status
 heard_said url end (line ∷ lines) status = line_said url line status (prompted (heard_said url end lines))
 
--- bytes behind which no line feed stands are a line where the input ended with them
+-- bytes after which no line feed stands are a line where the input ended with them
 abbrev pub last_line : InputEnd → List ℕ → List (List ℕ)
 last_line Whole [] = []
 last_line Whole (byte ∷ bytes) = (byte ∷ bytes) ∷ []

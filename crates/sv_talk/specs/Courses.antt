@@ -14,7 +14,7 @@ number Lost = 5
 number NoMemory = 6
 number Unprinted = 8
 
--- how it goes on behind a command: a further one may follow one that its reply ended
+-- how it goes on after a command: a further one may follow one that its reply ended
 abbrev pub settled : Course → Course
 settled Broken = On Unanswered
 settled course = course

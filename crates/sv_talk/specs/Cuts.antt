@@ -3,7 +3,7 @@ use Rattle.std.specs.Prelude.{ℕ, List, Option, Some, None, length, nat_lt, if�
 use Rattle.std.specs.List.{before_first, after_first, position_or_len}
 use Rattle.sv_talk.specs.Conversation.{is_space}
 
--- what stands before and behind the first space, where there is one
+-- what stands before and after the first space, where there is one
 abbrev pub parted : List ℕ → Option (List ℕ × List ℕ)
 parted text =
     if nat_lt (position_or_len is_space text) (length text)

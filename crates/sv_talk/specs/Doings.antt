@@ -31,7 +31,7 @@ AreMade server (call ∷ calls) (answer ∷ answers) exchanges =
     (first : List Exchange) × (more : List Exchange) × IsMade server call answer first
     × AreMade server calls answers more × (exchanges ≡ first ++ more)
 
--- a dial tells the exchanges of calls behind those before
+-- a dial tells the exchanges of calls after those before
 pub record Adds (server : Server) (before : List Exchange) (after : Option (List Exchange)) (calls : List CallTree)
     (answers : List Answer) : Type 0 where
   pub exchanges : List Exchange
@@ -51,7 +51,7 @@ pub record Goes (server : Server) (before after : Option (List Exchange)) (old n
   pub wrote : Appends old new text
   pub same : (more : List Answer) → talk (answers ++ more) ≡ having calls text (left more)
 
--- a front of what a conversation prints was printed, up to some place
+-- a prefix of what a conversation prints was printed, up to some place
 pub record Breaks (old new : Option (List ℕ)) (talk : Talk) : Type 0 where
   pub answers : List Answer
   pub calls : List CallTree
@@ -73,7 +73,7 @@ Comes server before after old new talk next NoMemory = Fails server before after
 Comes server before after old new talk next Unprinted = Fails server before after old new talk
 Comes server before after old new talk next course = Goes server before after old new talk (goes_on course next)
 
--- a text was printed, and it came to this course; or a front of it was, where a write failed
+-- a text was printed, and it came to this course; or a prefix of it was, where a write failed
 abbrev pub Says : Option (List ℕ) → Option (List ℕ) → List ℕ → Course → Course → Type 0
 Says old new text course result =
     ((result ≡ course) × Appends old new text) ⊎ ((result ≡ Unprinted) × AppendsFront old new text)

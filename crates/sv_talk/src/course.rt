@@ -35,7 +35,7 @@ impl Course {
         }
     }
 
-    /// How it goes on behind a command that came to this: a further command may follow one that its reply ended.
+    /// How it goes on after a command that came to this: a further command may follow one that its reply ended.
     pub(crate) fn settled(self) -> Course
         ensures { result ≡ settled self }
     {

@@ -191,7 +191,7 @@ fn hear_byte<D: Dial, K: Sink>(
     }
 }
 
-/// At the end of the input: bytes behind which no line feed stands are a line.
+/// At the end of the input: bytes after which no line feed stands are a line.
 #[tactic(auto, using(crate::proofs::Lines::bare_end, crate::proofs::Lines::line_end))]
 fn finish<D: Dial, K: Sink>(
     alloc: Global,

@@ -60,7 +60,7 @@ fn shown_or_bad(alloc: Global, status: Status, shown: Option<Shown>) -> Result<T
     }
 }
 
-/// The URL with these words behind it, where there is no connection any more.
+/// The URL with these words after it, where there is no connection any more.
 fn with_url(alloc: Global, url: &str, words: &[u8]) -> Result<Told, AllocError>
     ensures { IfOk result (λ told. told ≡ with_url url.now words.now) }
 {

@@ -32,7 +32,7 @@ fn words_of(alloc: Global, line: &str) -> Result<Items<Text>, AllocError>
     Ok(words)
 }
 
-/// What stands before and behind the first space.
+/// What stands before and after the first space.
 fn parted(text: &str) -> Option<(&str, &str)>
     ensures cut { option_map (λ parts. (parts.0.now, parts.1.now)) result ≡ parted text.now }
     ensures text { IfSome result (λ parts. IsUtf8 parts.1.now) }

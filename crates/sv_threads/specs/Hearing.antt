@@ -13,7 +13,7 @@ use Rattle.sv_run_orders.specs.Lives as runs
 use Rattle.sv_run_orders.specs.Noting as runs_noting
 use Rattle.sv_run_orders.specs.declared.live_runs.LiveRuns.{LiveRuns}
 
--- a note as an input at a moment, after so many links; what was written, and want of memory, are none
+-- a note as an input at a moment, after so many links; what was written, and out of memory, are none
 abbrev pub stamped : ℕ → ℕ → Note → Option Input
 stamped at count notes.Tick = Some (inputs.Tick at)
 stamped at count (notes.Exit run how) = Some (inputs.Exit at run how)
