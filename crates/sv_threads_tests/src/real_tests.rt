@@ -30,7 +30,7 @@ const STATES: [&str; 3] = [
     "state cat cat STOPPING STOPPED",
 ];
 
-/// A console that asks for the end half a second after it is read first.
+/// A console that asks for the end in two reads, each after a second and a half, so that the first tick is long over by then.
 #[derive(Drop)]
 struct PausedConsole<R: Drop> {
     rt: R,
@@ -43,7 +43,7 @@ impl<R: std::time::Clock + Drop> Source for PausedConsole<R> {
     ghost faults = { λ s. ⟦<ListSource as Source>⟧.faults s.text };
 
     fn read(&mut self, into: &mut [u8]) -> Result<usize, Failed> {
-        thread::sleep(&self.rt, Duration::from_millis(500));
+        thread::sleep(&self.rt, Duration::from_millis(1500));
         self.text.read(into)
     }
 }
