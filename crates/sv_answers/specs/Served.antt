@@ -1,10 +1,11 @@
--- What a client's request is, and what its answer looks like on the link (the manual's chapter on its XML-RPC interface;
--- RFC 9112, sections 6 and 9).
-use Rattle.std.specs.Prelude.{ℕ, pos, List, [], ◌∷◌, Bool, true, false, Option, Some, None, codes, min, ◌-◌, ◌^◌}
+-- What a client's request is, and what its answer looks like on the link (the manual's chapter on
+-- its XML-RPC interface; RFC 9112, sections 6 and 9).
+use Rattle.std.specs.Prelude.{ℕ, pos, List, [], ◌∷◌, Bool, true, false, Option, Some, None, codes}
+use Rattle.std.specs.Prelude.{min, ◌-◌, ◌^◌}
 use Rattle.std.specs.Str.{bytes_eq}
 use Rattle.sv_answers.specs.declared.read.FileReply.{FileReply}
 use Rattle.sv_answers.specs.declared.read.FileReply.TheVariants as file
-use Rattle.sv_answers.specs.declared.read.Reading.{Reading}
+use Rattle.sv_answers.specs.declared.read.LogRead.{LogRead}
 use Rattle.sv_answers.specs.declared.sent.Sent.{Sent}
 use Rattle.sv_http.specs.ReplyText.{reply_text}
 use Rattle.sv_http.specs.declared.ask.Ask.{Ask}
@@ -21,7 +22,8 @@ use Rattle.sv_multi.specs.MultiCall.{parts_of}
 use Rattle.sv_multi.specs.Views.{PartTree}
 use Rattle.sv_xmlcall.specs.Called.{called}
 use Rattle.sv_xmlcall.specs.Characters.{log_text}
-use Rattle.sv_xmlcall.specs.Trees.{CallTree, Tree, Trees, tree, no_tree, integer, truth, text, array, trees_of, Reply, Returns, Faults}
+use Rattle.sv_xmlcall.specs.Trees.{CallTree, Tree, Trees, tree, no_tree, integer, truth, text}
+use Rattle.sv_xmlcall.specs.Trees.{array, trees_of, Reply, Returns, Faults}
 use Rattle.sv_xmlcall.specs.Written.{written_reply}
 
 -- ---- replies
@@ -93,12 +95,12 @@ shaped (Tail offset missed) part =
     array (trees_of (text part ∷ offset_tree offset ∷ truth missed ∷ []))
 
 -- there is no such file: a fault; for the end of a log it is as if nothing had been logged
-abbrev pub missing : Reading → ReadShape → Reply
+abbrev pub missing : LogRead → ReadShape → Reply
 missing reading Plain = faulty NoFile reading.subject
 missing reading (Tail offset missed) = Returns (shaped (Tail 0 false) [])
 
 -- what is answered when the file was read
-abbrev pub reads_back : Reading → FileReply → Reply
+abbrev pub reads_back : LogRead → FileReply → Reply
 reads_back reading (file.Part bytes) = Returns (shaped reading.shape (log_text bytes))
 reads_back reading file.Missing = missing reading reading.shape
 reads_back reading file.Failed = faulty Failed reading.subject

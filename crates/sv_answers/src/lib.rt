@@ -7,7 +7,7 @@ mod request;
 mod sent;
 mod several;
 
-pub use read::{FileReply, Reading, read_back};
+pub use read::{FileReply, LogRead, read_back};
 pub use request::{Heard, hear, subject_of};
 pub use sent::{Sent, say};
 pub use several::{is_several, no_parts, parts_asked};

@@ -15,7 +15,7 @@ use sv_xmlcall::{Answered, Value, text_of_log};
 
 /// A part of a log that a call asks for.
 #[derive(Debug, Drop)]
-pub struct Reading {
+pub struct LogRead {
     pub file: Text,
     pub span: Span,
     pub shape: ReadShape,
@@ -37,7 +37,7 @@ pub enum FileReply {
 /// What a call is answered whose part of a log was read.
 pub fn read_back(
     alloc: Global,
-    reading: &Reading,
+    reading: &LogRead,
     reply: &FileReply,
 ) -> Result<Answered, AllocError>
     ensures { IfOk result (λ answered. reply_view answered ≡ reads_back reading.now reply.now) }
@@ -53,7 +53,7 @@ pub fn read_back(
     }
 }
 
-fn miss(alloc: Global, reading: &Reading) -> Result<Answered, AllocError>
+fn miss(alloc: Global, reading: &LogRead) -> Result<Answered, AllocError>
     ensures { IfOk result (λ answered. reply_view answered
         ≡ missing reading.now reading.now.shape) }
 {
@@ -67,7 +67,7 @@ fn miss(alloc: Global, reading: &Reading) -> Result<Answered, AllocError>
 }
 
 /// What the call named, if it named something.
-fn subject_of(reading: &Reading) -> Option<&str>
+fn subject_of(reading: &LogRead) -> Option<&str>
     ensures { option_copied result ≡ reading.now.subject }
 {
     match &reading.subject {

@@ -1,7 +1,9 @@
 -- What the daemon's words say.
-use Rattle.std.specs.Prelude.{◌∷◌, ℕ, List, [], Bool, false, true, Option, Some, None, codes, unwrap_or}
+use Rattle.std.specs.Prelude.{◌∷◌, ℕ, List, [], Bool, false, true, Option, Some, None, codes}
+use Rattle.std.specs.Prelude.{unwrap_or}
 use Rattle.std.specs.Str.{bytes_eq}
-use Rattle.clap.specs.Words.{App, Kinds, Row, Rule, fault_of, first_of, matches_of, new_app, new_rule, with_rule}
+use Rattle.clap.specs.Words.{App, Kinds, Row, Rule, fault_of, first_of, matches_of, new_app}
+use Rattle.clap.specs.Words.{new_rule, with_rule}
 use Rattle.clap.specs.declared.builder.action.ArgAction.TheVariants.{SetTrue}
 use Rattle.sv_arguments.specs.declared.arguments.Arguments.{Arguments}
 
@@ -18,7 +20,8 @@ flag_of name = record (new_rule name) { long = Some name; action = Some SetTrue 
 abbrev pub short_flag_of : List ℕ → ℕ → Rule
 short_flag_of name letter = record (flag_of name) { short = Some letter }
 
--- the daemon's command line: `-c` or `--configuration` with the configuration file, `--journal`, and `-n` or `--nodaemon`
+-- the daemon's command line: `-c` or `--configuration` with the configuration file, `--journal`,
+-- and `-n` or `--nodaemon`
 abbrev pub command_line : App
 command_line =
     with_rule (with_rule (with_rule (new_app (codes "supervisord"))
@@ -34,8 +37,8 @@ abbrev pub is_set : Option (List ℕ) → Bool
 is_set None = false
 is_set (Some value) = bytes_eq value (codes "true")
 
--- what is found in the words: the value of `-c`, which the command line has found where it takes them, and whether `--journal`
--- is there
+-- what is found in the words: the value of `-c`, which the command line has found where it takes
+-- them, and whether `--journal` is there
 abbrev pub values_in : List Row → Arguments
 values_in rows = record {
   file = unwrap_or (first_of (codes "file") rows) [];
@@ -50,4 +53,5 @@ arguments_by (kind ∷ kinds) rows = None
 -- what these words say; none exactly where the command line refuses them
 abbrev pub arguments_of : List (List ℕ) → Option Arguments
 arguments_of words =
-    arguments_by (fault_of command_line (with_name words)) (matches_of command_line (with_name words))
+    arguments_by (fault_of command_line (with_name words))
+    (matches_of command_line (with_name words))

@@ -1,7 +1,9 @@
 //! What the words say.
 ghost use Rattle.std.specs.Prelude.{◌≡◌, ◌∷◌, Some, IfOk, List, codes, map, true};
-ghost use Rattle.clap.specs.Words.{FailsBy, app_of, fault_of, first_of, found_of, matches_of, rows_of, with_rule};
-ghost use Rattle.sv_arguments.specs.Arguments.{arguments_of, command_line, flag_of, is_set, option_of, short_flag_of, values_in, with_name};
+ghost use Rattle.clap.specs.Words.{FailsBy, app_of, fault_of, first_of, found_of, matches_of};
+ghost use Rattle.clap.specs.Words.{rows_of, with_rule};
+ghost use Rattle.sv_arguments.specs.Arguments.{arguments_of, command_line, flag_of, is_set};
+ghost use Rattle.sv_arguments.specs.Arguments.{option_of, short_flag_of, values_in, with_name};
 
 use clap::error::ErrorKind;
 use clap::{Arg, ArgAction, ArgMatches, Command, Error};

@@ -6,7 +6,8 @@ use Rattle.std.specs.Char.{is_ascii_digit}
 use Rattle.httparse.specs.Grammar.{ResponseHead, IsResponseHead, IsField, is_value_byte, crlf, MayBecomeResponse, print_response}
 use Rattle.httparse.specs.Spans.{name_and_value}
 use Rattle.std.proofs.lemmas.Bool.{leb-true, and_parts}
-use Rattle.sv_http.specs.AskTable.{field_limit, reply_limit, is_length, number_of, values_of, has_field}
+use Rattle.sv_http.specs.AskTable.{field_limit, reply_limit, is_length, values_of, has_field}
+use Rattle.sv_base.specs.SizeText.{number_of}
 use Rattle.sv_http.specs.Authorization.{Field}
 use Rattle.sv_http.specs.RequestStream.{head_limit}
 use Rattle.sv_http.specs.ReplyStream.{Begins, IsNoReply, GoesOn, size_behind, body_size, announced}

@@ -1,5 +1,6 @@
 -- What goes over the connection of a call, and what comes of it.
-use Rattle.std.specs.Prelude.{◌≡◌, ◌≢◌, ◌++◌, ◌∷◌, ◌⊎◌, ◌||◌, ◌-◌, ◌^◌, ◌≤◌, ℕ, List, [], Bool, true, Option, Some, Result, Ok, Err, min, option_map}
+use Rattle.std.specs.Prelude.{◌≡◌, ◌≢◌, ◌++◌, ◌∷◌, ◌⊎◌, ◌||◌, ◌-◌, ◌^◌, ◌≤◌, ℕ, List, [], Bool}
+use Rattle.std.specs.Prelude.{true, Option, Some, Result, Ok, Err, min, option_map}
 use Rattle.sv_base.specs.declared.config.ClientSpec.{ClientSpec}
 use Rattle.sv_base.specs.declared.config.Place.{Place}
 use Rattle.sv_http.specs.ReplyStream.{IsReply, NeverReply, GoesOn}
@@ -17,7 +18,8 @@ use Rattle.sv_xmlcall.specs.declared.call.CallFault.{CallFault}
 use Rattle.sv_xmlcall.specs.declared.call.CallFault.TheVariants as call
 use Rattle.sv_ask.specs.ServerUrl.{host_of}
 use Rattle.sv_ask.specs.declared.fault.AskFault.{AskFault}
-use Rattle.sv_ask.specs.declared.fault.AskFault.TheVariants.{Refused, LinkFailed, Ended, BadReply, Status, OutOfMemory}
+use Rattle.sv_ask.specs.declared.fault.AskFault.TheVariants.{Refused, LinkFailed, Ended, BadReply}
+use Rattle.sv_ask.specs.declared.fault.AskFault.TheVariants.{Status, OutOfMemory}
 
 -- the text of a call to the client's server
 unfoldable pub request_of : ClientSpec → CallTree → List ℕ
@@ -44,7 +46,8 @@ pub record SpellsNothing (body : List ℕ) : Type 0 where
 
 -- the bytes are no reply, or a reply whose body spells none
 abbrev pub IsBadReply : List ℕ → Type 0
-IsBadReply heard = NeverReply heard ⊎ ((body : List ℕ) × IsReply heard 200 body × SpellsNothing body)
+IsBadReply heard =
+    NeverReply heard ⊎ ((body : List ℕ) × IsReply heard 200 body × SpellsNothing body)
 
 -- what was heard, and whether the end came
 abbrev pub Hears : List ℕ → Bool → Result Answered AskFault → Type 0
@@ -52,7 +55,8 @@ Hears heard ended (Ok answered) =
     (body : List ℕ) × IsReply heard 200 body × SpellsReply body (reply_view answered)
 Hears heard ended (Err Ended) = GoesOn heard × (ended ≡ true)
 Hears heard ended (Err BadReply) = IsBadReply heard
-Hears heard ended (Err (Status status)) = (body : List ℕ) × IsReply heard status body × (status ≢ 200)
+Hears heard ended (Err (Status status)) =
+    (body : List ℕ) × IsReply heard status body × (status ≢ 200)
 Hears heard ended (Err Refused) = ⊥
 Hears heard ended (Err LinkFailed) = Unit {0}
 Hears heard ended (Err OutOfMemory) = Unit {0}
@@ -70,7 +74,8 @@ pub record Listens (old new : Option Exchange) (result : Result Answered AskFaul
   pub told : new ≡ option_map (having_heard heard ended) old
 
 -- what a call over a link comes to
-pub record Asks (old new : Option Exchange) (request : List ℕ) (result : Result Answered AskFault) : Type 0 where
+pub record Asks (old new : Option Exchange) (request : List ℕ) (result : Result Answered AskFault)
+    : Type 0 where
   pub sent : List ℕ
   pub heard : List ℕ
   pub ended : Bool
@@ -84,7 +89,8 @@ IsLinkFailure (Err LinkFailed) = Unit {0}
 IsLinkFailure result = ⊥
 
 -- what went over a connection to this place, and what the call over it came to
-pub record IsExchange (place : Place) (request : List ℕ) (exchange : Exchange) (result : Result Answered AskFault) : Type 0 where
+pub record IsExchange (place : Place) (request : List ℕ) (exchange : Exchange)
+    (result : Result Answered AskFault) : Type 0 where
   pub place_is : exchange.place ≡ place
   pub sends : Sends request exchange.sent result
   pub hears : Hears exchange.heard exchange.ended result
@@ -98,7 +104,8 @@ AddsOne before after place request result =
 
 -- what a dial tells of a call, after what it told before; where memory was refused, its exchange or
 -- nothing
-abbrev pub Calls : List Exchange → Option (List Exchange) → Place → List ℕ → Result Answered AskFault → Type 0
+abbrev pub Calls : List Exchange → Option (List Exchange) → Place → List ℕ
+    → Result Answered AskFault → Type 0
 Calls before after place request (Err Refused) = after ≡ Some before
 Calls before after place request (Err OutOfMemory) =
     (after ≡ Some before) ⊎ AddsOne before after place request (Err OutOfMemory)

@@ -1,5 +1,6 @@
 -- How far the hearing of a reply has come.
-use Rattle.std.specs.Prelude.{◌≡◌, ◌≢◌, ◌+◌, ℕ, List, Bool, false, true, Option, Result, Ok, Err, length, option_map}
+use Rattle.std.specs.Prelude.{◌≡◌, ◌≢◌, ◌+◌, ℕ, List, Bool, false, true, Option, Result, Ok, Err}
+use Rattle.std.specs.Prelude.{length, option_map}
 use Rattle.sv_http.specs.ReplyPlaces.{StandsForReply}
 use Rattle.sv_http.specs.ReplyStream.{IsReply, NeverReply, GoesOn}
 use Rattle.sv_http.specs.declared.reply_reader.Replied.{Replied}
@@ -10,7 +11,8 @@ use Rattle.sv_xmlcall.specs.Trees.{reply_view}
 use Rattle.sv_xmlcall.specs.declared.call.Answered.{Answered}
 use Rattle.sv_ask.specs.Asking.{having_heard, SpellsNothing}
 use Rattle.sv_ask.specs.declared.fault.AskFault.{AskFault}
-use Rattle.sv_ask.specs.declared.fault.AskFault.TheVariants.{Refused, LinkFailed, Ended, BadReply, Status, OutOfMemory}
+use Rattle.sv_ask.specs.declared.fault.AskFault.TheVariants.{Refused, LinkFailed, Ended, BadReply}
+use Rattle.sv_ask.specs.declared.fault.AskFault.TheVariants.{Status, OutOfMemory}
 
 -- the most bytes of a reply: those of a head and of a body
 abbrev pub most_bytes : ℕ

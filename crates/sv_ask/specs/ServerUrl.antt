@@ -1,7 +1,10 @@
--- Where a server's URL leads: `http://HOST:PORT`, after which one slash may stand, or `unix://PATH`.
-use Rattle.std.specs.Prelude.{◌==◌, ◌&&◌, ◌+◌, ◌-◌, ◌*◌, ◌∷◌, ℕ, List, [], Bool, not, Option, Some, None, codes, length, take, nat_le, nat_lt, slice_index, if◌then◌else◌}
+-- Where a server's URL leads: `http://HOST:PORT`, after which one slash may stand, or
+-- `unix://PATH`.
+use Rattle.std.specs.Prelude.{◌==◌, ◌&&◌, ◌+◌, ◌-◌, ◌*◌, ◌∷◌, ℕ, List, [], Bool, not, Option, Some}
+use Rattle.std.specs.Prelude.{None, codes, length, take, nat_le, nat_lt, slice_index, if◌then◌else◌}
 use Rattle.std.specs.Char.{is_ascii_digit}
 use Rattle.std.specs.List.{list_any, before_first, after_first, position_or_len}
+use Rattle.sv_base.specs.Ascii.{colon, slash}
 use Rattle.sv_base.specs.declared.config.Place.{Place}
 use Rattle.sv_base.specs.declared.config.Place.TheVariants.{Inet, Unix}
 
@@ -13,11 +16,11 @@ behind (byte ∷ front) (other ∷ text) = if other == byte then behind front te
 
 -- the byte is a slash
 abbrev pub is_slash : ℕ → Bool
-is_slash byte = byte == 47
+is_slash byte = byte == slash
 
 -- the byte is a colon
 abbrev pub is_colon : ℕ → Bool
-is_colon byte = byte == 58
+is_colon byte = byte == colon
 
 -- the text without one slash at its end
 abbrev pub without_slash : List ℕ → List ℕ

@@ -3,7 +3,8 @@ ghost use Rattle.std.specs.Prelude.{◌≡◌, ◌≤◌, Some, IfOk, length};
 ghost use Rattle.std.specs.List.{list_any};
 ghost use Rattle.std.specs.Option.{option_map};
 ghost use Rattle.std.specs.Str.{IsUtf8};
-ghost use Rattle.sv_ask.specs.ServerUrl.{behind, without_slash, parted, port_of, is_host, is_slash, digits_from, inet_at, inet_of, unix_of, place_of, host_of};
+ghost use Rattle.sv_ask.specs.ServerUrl.{behind, without_slash, parted, port_of, is_host, is_slash};
+ghost use Rattle.sv_ask.specs.ServerUrl.{digits_from, inet_at, inet_of, unix_of, place_of, host_of};
 
 use std::alloc::{AllocError, Global};
 use sv_base::{Place, Text};

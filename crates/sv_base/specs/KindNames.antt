@@ -1,7 +1,20 @@
--- The names of the event types (the manual's chapter on events), as a configuration and an event's head write them.
+-- The names of the event types (the manual's chapter on events), as a configuration and an event's
+-- head write them.
 use Rattle.std.specs.Prelude.{List, [], ◌∷◌, ℕ, codes}
 use Rattle.sv_base.specs.declared.kind.Kind.{Kind}
-use Rattle.sv_base.specs.declared.kind.Kind.TheVariants.{Event, ProcessState, ProcessStateStarting, ProcessStateRunning, ProcessStateBackoff, ProcessStateStopping, ProcessStateExited, ProcessStateStopped, ProcessStateFatal, ProcessStateUnknown, ProcessCommunication, ProcessCommunicationStdout, ProcessCommunicationStderr, ProcessLog, ProcessLogStdout, ProcessLogStderr, RemoteCommunication, SupervisorStateChange, SupervisorStateChangeRunning, SupervisorStateChangeStopping, Tick, Tick5, Tick60, Tick3600, ProcessGroup, ProcessGroupAdded, ProcessGroupRemoved}
+use Rattle.sv_base.specs.declared.kind.Kind.TheVariants.{Event, ProcessState, ProcessStateStarting}
+use Rattle.sv_base.specs.declared.kind.Kind.TheVariants.{ProcessStateRunning, ProcessStateBackoff}
+use Rattle.sv_base.specs.declared.kind.Kind.TheVariants.{ProcessStateStopping, ProcessStateExited}
+use Rattle.sv_base.specs.declared.kind.Kind.TheVariants.{ProcessStateStopped, ProcessStateFatal}
+use Rattle.sv_base.specs.declared.kind.Kind.TheVariants.{ProcessStateUnknown, ProcessCommunication}
+use Rattle.sv_base.specs.declared.kind.Kind.TheVariants.{ProcessCommunicationStdout}
+use Rattle.sv_base.specs.declared.kind.Kind.TheVariants.{ProcessCommunicationStderr, ProcessLog}
+use Rattle.sv_base.specs.declared.kind.Kind.TheVariants.{ProcessLogStdout, ProcessLogStderr}
+use Rattle.sv_base.specs.declared.kind.Kind.TheVariants.{RemoteCommunication, SupervisorStateChange}
+use Rattle.sv_base.specs.declared.kind.Kind.TheVariants.{SupervisorStateChangeRunning}
+use Rattle.sv_base.specs.declared.kind.Kind.TheVariants.{SupervisorStateChangeStopping, Tick, Tick5}
+use Rattle.sv_base.specs.declared.kind.Kind.TheVariants.{Tick60, Tick3600, ProcessGroup}
+use Rattle.sv_base.specs.declared.kind.Kind.TheVariants.{ProcessGroupAdded, ProcessGroupRemoved}
 
 -- the name of an event type
 abbrev pub kind_name : Kind → List ℕ
@@ -36,8 +49,12 @@ kind_name ProcessGroupRemoved = codes "PROCESS_GROUP_REMOVED"
 -- the event types, in the order of the type
 abbrev pub all_kinds : List Kind
 all_kinds =
-    Event ∷ ProcessState ∷ ProcessStateStarting ∷ ProcessStateRunning ∷ ProcessStateBackoff ∷ ProcessStateStopping
-    ∷ ProcessStateExited ∷ ProcessStateStopped ∷ ProcessStateFatal ∷ ProcessStateUnknown ∷ ProcessCommunication
-    ∷ ProcessCommunicationStdout ∷ ProcessCommunicationStderr ∷ ProcessLog ∷ ProcessLogStdout ∷ ProcessLogStderr
-    ∷ RemoteCommunication ∷ SupervisorStateChange ∷ SupervisorStateChangeRunning ∷ SupervisorStateChangeStopping
+    Event ∷ ProcessState ∷ ProcessStateStarting ∷ ProcessStateRunning ∷ ProcessStateBackoff
+    ∷ ProcessStateStopping
+    ∷ ProcessStateExited ∷ ProcessStateStopped ∷ ProcessStateFatal ∷ ProcessStateUnknown
+    ∷ ProcessCommunication
+    ∷ ProcessCommunicationStdout ∷ ProcessCommunicationStderr ∷ ProcessLog ∷ ProcessLogStdout
+    ∷ ProcessLogStderr
+    ∷ RemoteCommunication ∷ SupervisorStateChange ∷ SupervisorStateChangeRunning
+    ∷ SupervisorStateChangeStopping
     ∷ Tick ∷ Tick5 ∷ Tick60 ∷ Tick3600 ∷ ProcessGroup ∷ ProcessGroupAdded ∷ ProcessGroupRemoved ∷ []

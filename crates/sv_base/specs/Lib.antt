@@ -1,3 +1,4 @@
+pub mod Ascii
 pub mod Held
 pub mod KindNames
 pub mod Limits

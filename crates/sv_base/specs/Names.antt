@@ -1,11 +1,14 @@
--- The words for signals and states (the manual's chapters on subprocesses and on its XML-RPC interface).
+-- The words for signals and states (the manual's chapters on subprocesses and on its XML-RPC
+-- interface).
 use Rattle.std.specs.Prelude.{ℕ, ℤ, pos, negsuc, List, codes}
 use Rattle.sv_base.specs.declared.signal.Signal.{Signal}
 use Rattle.sv_base.specs.declared.signal.Signal.TheVariants.{Term, Hup, Int, Quit, Kill, Usr1, Usr2}
 use Rattle.sv_base.specs.declared.state.Mood.{Mood}
-use Rattle.sv_base.specs.declared.state.Mood.TheVariants.{Running as Mood_running, Restarting, Shutdown}
+use Rattle.sv_base.specs.declared.state.Mood.TheVariants.{Running as Mood_running, Restarting}
+use Rattle.sv_base.specs.declared.state.Mood.TheVariants.{Shutdown}
 use Rattle.sv_base.specs.declared.state.State.{State}
-use Rattle.sv_base.specs.declared.state.State.TheVariants.{Stopped, Starting, Running, Backoff, Stopping, Exited, Fatal, Unknown}
+use Rattle.sv_base.specs.declared.state.State.TheVariants.{Stopped, Starting, Running, Backoff}
+use Rattle.sv_base.specs.declared.state.State.TheVariants.{Stopping, Exited, Fatal, Unknown}
 
 -- the name of a signal without SIG
 abbrev pub signal_name : Signal → List ℕ

@@ -1,4 +1,5 @@
--- What each configuration keeps by its type: few enough groups and processes, each in its place, no name twice.
+-- What each configuration keeps by its type: few enough groups and processes, each in its place, no
+-- name twice.
 use Rattle.std.specs.Prelude.{ℕ, List, [], ◌∷◌, Bool, true, ◌&&◌, nat_le, length, ◌-◌}
 use Rattle.std.specs.List.{list_all}
 use Rattle.sv_base.specs.Limits.{group_limit, process_limit}
@@ -9,7 +10,8 @@ use Rattle.sv_base.specs.declared.spec.GroupSpec.{GroupSpec}
 -- the members of one group stand in start order, and no two have one name
 abbrev pub is_membership : List Spec → Bool
 is_membership members =
-    is_rising (λ (m : Spec). m.priority) (λ (m : Spec). m.name) members && are_distinct (λ (m : Spec). m.name) members
+    is_rising (λ (m : Spec). m.priority) (λ (m : Spec). m.name) members
+    && are_distinct (λ (m : Spec). m.name) members
 
 -- so in each of these groups
 abbrev pub are_memberships : List GroupSpec → Bool

@@ -1,4 +1,5 @@
--- The words for a signal (the manual's chapter on configuration, `stopsignal`): its name with or without SIG, or its number.
+-- The words for a signal (the manual's chapter on configuration, `stopsignal`): its name with or
+-- without SIG, or its number.
 use Rattle.std.specs.Prelude.{◌≡◌, List, [], ◌∷◌, ℕ, Bool, ◌||◌, ◌++◌, ◌⊎◌, codes}
 use Rattle.std.specs.Str.{bytes_eq, str_to_ascii_lowercase}
 use Rattle.sv_base.specs.Names.{signal_name}

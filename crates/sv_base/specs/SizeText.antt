@@ -1,5 +1,7 @@
--- A size in bytes as a configuration writes it: decimal digits, then nothing, KB, MB or GB in any case of letters.
-use Rattle.std.specs.Prelude.{List, [], ◌∷◌, ℕ, ◌+◌, ◌-◌, ◌*◌, ◌^◌, nat_lt, take, drop, codes, Option, Some, None, if◌then◌else◌}
+-- A size in bytes as a configuration writes it: decimal digits, then nothing, KB, MB or GB in any
+-- case of letters.
+use Rattle.std.specs.Prelude.{List, [], ◌∷◌, ℕ, ◌+◌, ◌-◌, ◌*◌, ◌^◌, nat_lt, take, drop, codes}
+use Rattle.std.specs.Prelude.{Option, Some, None, if◌then◌else◌}
 use Rattle.std.specs.List.{prefix_len}
 use Rattle.std.specs.Char.{is_ascii_digit}
 use Rattle.std.specs.Str.{bytes_eq, str_to_ascii_lowercase}
@@ -28,5 +30,6 @@ abbrev pub size_of : List ℕ → Option ℕ
 size_of text =
     let digits = prefix_len is_ascii_digit text in
     if nat_lt 0 digits
-    then sized (number_of 0 (take digits text)) (unit_of (str_to_ascii_lowercase (drop digits text)))
+    then sized (number_of 0 (take digits text))
+    (unit_of (str_to_ascii_lowercase (drop digits text)))
     else None

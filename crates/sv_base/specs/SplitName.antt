@@ -1,5 +1,7 @@
--- A name as commands give it: `group:process`, `group:*` or `group:` for a whole group, or a bare name, which is both.
-use Rattle.std.specs.Prelude.{List, [], ◌∷◌, ℕ, Bool, nat_eq, nat_lt, length, codes, Option, Some, None, if◌then◌else◌}
+-- A name as commands give it: `group:process`, `group:*` or `group:` for a whole group, or a bare
+-- name, which is both.
+use Rattle.std.specs.Prelude.{List, [], ◌∷◌, ℕ, Bool, nat_eq, nat_lt, length, codes, Option, Some}
+use Rattle.std.specs.Prelude.{None, if◌then◌else◌}
 use Rattle.std.specs.List.{before_first, after_first, position_or_len}
 use Rattle.std.specs.Str.{bytes_eq}
 

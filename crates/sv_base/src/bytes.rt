@@ -102,7 +102,8 @@ impl Model for Piece {
 impl Piece {
     /// A piece of these bytes, or `None` exactly where there is none of them or are too many.
     pub fn new(bytes: Vec<u8>) -> Option<Piece>
-        ensures valid { IsSome result ↔ ((1 ≤ length bytes.items) × (length bytes.items ≤ piece_limit)) }
+        ensures valid { IsSome result
+            ↔ ((1 ≤ length bytes.items) × (length bytes.items ≤ piece_limit)) }
         ensures value { IfSome result (λ p. p ≡ bytes.items) }
     {
         let length = bytes.as_slice().len();

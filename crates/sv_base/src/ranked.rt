@@ -1,6 +1,7 @@
 //! Start order: by priority, then by name.
 ghost use Rattle.std.specs.Prelude.{◌≡◌, List, ℕ, ℤ};
-ghost use Rattle.sv_base.specs.Order.{start_order, is_before, is_rising, is_named_again, are_distinct};
+ghost use Rattle.sv_base.specs.Order.{start_order, is_before, is_rising, is_named_again};
+ghost use Rattle.sv_base.specs.Order.{are_distinct};
 
 use crate::text::Text;
 use std::cmp::Ordering;

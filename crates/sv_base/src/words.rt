@@ -5,7 +5,8 @@ ghost use Rattle.std.specs.Str.{bytes_eq, str_to_ascii_lowercase};
 ghost use Rattle.sv_base.specs.declared.kind.Kind.{Kind};
 ghost use Rattle.sv_base.specs.declared.signal.Signal.{Signal};
 ghost use Rattle.sv_base.specs.KindNames.{kind_name, all_kinds};
-ghost use Rattle.sv_base.specs.SignalWords.{SpellsSignal, is_signal_word, all_signals, signal_digits, signal_long_name};
+ghost use Rattle.sv_base.specs.SignalWords.{SpellsSignal, is_signal_word, all_signals};
+ghost use Rattle.sv_base.specs.SignalWords.{signal_digits, signal_long_name};
 ghost use Rattle.sv_base.specs.TruthWords.{SpellsTruth, truth_word, is_true_word, is_false_word};
 
 use crate::kind::Kind;

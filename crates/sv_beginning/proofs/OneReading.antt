@@ -3,8 +3,8 @@ use Rattle.std.proofs.Common.{◌≡◌, ℕ, List, [], ◌∷◌, ◌++◌, Opt
 use Rattle.sv_base.specs.declared.config.Config.{Config}
 use Rattle.sv_base.specs.declared.config.Host.{Host}
 use Rattle.sv_conf.specs.Configuration.{configuration_of}
-use Rattle.sv_conf.specs.Includes.{includes_of}
-use Rattle.sv_conf.specs.declared.fault.ConfFault.{ConfFault}
+use Rattle.sv_sections.specs.Includes.{includes_of}
+use Rattle.sv_sections.specs.declared.fault.ConfFault.{ConfFault}
 use Rattle.sv_load.specs.Listing.{AreListed, IsAnswer, each_once, texts_of}
 use Rattle.sv_load.specs.Loading.{AreIncluded, CantLoad, HoldsOf, Loads}
 use Rattle.sv_load.specs.declared.fault.LoadFault.TheVariants as fault_is

@@ -1,5 +1,6 @@
 -- The board: the rows after a list of reports.
-use Rattle.std.specs.Prelude.{◌≡◌, List, [], ◌∷◌, ◌++◌, Bool, ◌&&◌, fold, slice_set, Option, Some, None, ℕ}
+use Rattle.std.specs.Prelude.{◌≡◌, List, [], ◌∷◌, ◌++◌, Bool, ◌&&◌, fold, slice_set, Option, Some}
+use Rattle.std.specs.Prelude.{None, ℕ}
 use Rattle.std.specs.List.{position}
 use Rattle.std.specs.Str.{bytes_eq}
 use Rattle.sv_board.specs.declared.row.Report.{Report}

@@ -9,7 +9,8 @@ use Rattle.sv_board.specs.declared.role.Role.TheVariants.{Reading, Writing}
 use Rattle.sv_board.specs.declared.row.Report.{Report}
 use Rattle.sv_board.specs.declared.shown.Shown.{Shown}
 
--- what a pass knows is so: readers know a prefix of what was reported, the writer's pass knows it all
+-- what a pass knows is so: readers know a prefix of what was reported, the writer's pass knows it
+-- all
 abbrev pub Knows : List Report → ℕ → ℕ → Role → Type 0
 Knows reports writer pass (Reading seen) = IsFront seen reports
 Knows reports writer pass (Writing reported) =

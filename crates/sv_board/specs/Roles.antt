@@ -24,7 +24,8 @@ IsReading role = role ≡ Reading (seen_in role)
 abbrev pub Shows : Shown → List Report → Type 0
 Shows shown reports = (shown.rows.items ≡ board reports) × (shown.count ≡ length reports)
 
--- after a read of this value the role knows of the reports that made it, and of no fewer than before
+-- after a read of this value the role knows of the reports that made it, and of no fewer than
+-- before
 abbrev pub Reads : Role → Role → Shown → Type 0
 Reads old new shown =
     IsReading new × IsFront (seen_in old) (seen_in new) × Shows shown (seen_in new)

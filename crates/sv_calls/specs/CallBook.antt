@@ -1,11 +1,13 @@
--- The calls in hand of the links: what is left to do for each, what it waits for, and what it is answered (the manual's chapter
--- on its XML-RPC interface, `system.multicall` among it).
-use Rattle.std.specs.Prelude.{ℕ, List, [], ◌∷◌, ◌++◌, ◌-◌, ◌==◌, Bool, false, Option, Some, None, drop, length, if◌then◌else◌}
+-- The calls in hand of the links: what is left to do for each, what it waits for, and what it is
+-- answered (the manual's chapter on its XML-RPC interface, `system.multicall` among it).
+use Rattle.std.specs.Prelude.{ℕ, List, [], ◌∷◌, ◌++◌, ◌-◌, ◌==◌, Bool, false, Option, Some, None}
+use Rattle.std.specs.Prelude.{drop, length, if◌then◌else◌}
 use Rattle.std.specs.List.{slice_get, slice_set}
 use Rattle.sv_base.specs.declared.ids.ChildId.{ChildId}
 use Rattle.sv_base.specs.declared.ids.LinkId.{LinkId}
 use Rattle.sv_calls.specs.declared.setback.Setback.{Setback}
-use Rattle.sv_calls.specs.declared.setback.Setback.TheVariants.{NoFile, NotExecutable, NotStarted, NotCleared, NoLog}
+use Rattle.sv_calls.specs.declared.setback.Setback.TheVariants.{NoFile, NotExecutable, NotStarted}
+use Rattle.sv_calls.specs.declared.setback.Setback.TheVariants.{NotCleared, NoLog}
 use Rattle.sv_methods.specs.declared.planned.Asked.{Asked}
 use Rattle.sv_methods.specs.declared.planned.Request.{Request}
 use Rattle.sv_methods.specs.declared.planned.Waiting.{Waiting}
@@ -23,8 +25,8 @@ pub record SeveralRecord : Type 0 where
   pub results : List Tree
   pub parts : List PartTree
 
--- a call in hand: whether its link closes after the reply, whether it is several calls in one, and what the call that was
--- begun last still has to do
+-- a call in hand: whether its link closes after the reply, whether it is several calls in one, and
+-- what the call that was begun last still has to do
 pub record CallRecord : Type 0 where
   pub close : Bool
   pub several : Option SeveralRecord
@@ -173,7 +175,8 @@ faulted setback place (Some asked) rows =
 abbrev pub rows_faulted : Setback → ℕ → List Asked → List Asked
 rows_faulted setback place rows = faulted setback place (slice_get rows place) rows
 
--- each request has its row, in their order: after that of the request that was begun last are those of the others
+-- each request has its row, in their order: after that of the request that was begun last are those
+-- of the others
 abbrev pub row_place : TaskRecord → ℕ
 row_place task = length task.waiting.rows - length task.requests - 1
 

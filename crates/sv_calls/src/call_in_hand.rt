@@ -2,7 +2,10 @@
 ghost use Rattle.std.specs.Prelude.{◌≡◌, IfOk, IfSome, None, OnOk, Some, length};
 ghost use Rattle.std.specs.List.{slice_get};
 ghost use Rattle.std.specs.Option.{option_copied, option_map};
-ghost use Rattle.sv_calls.specs.CallBook.{acts, answer_of, are_answered, end_with, free_parts, is_answered, is_set_back, new_call, new_several, parts_of, request_of, takes_part, takes_request, waiting_of};
+ghost use Rattle.sv_calls.specs.CallBook.{acts, answer_of, are_answered, end_with, free_parts};
+ghost use Rattle.sv_calls.specs.CallBook.{is_answered, is_set_back, new_call, new_several};
+ghost use Rattle.sv_calls.specs.CallBook.{parts_of, request_of, takes_part, takes_request};
+ghost use Rattle.sv_calls.specs.CallBook.{waiting_of};
 ghost use Rattle.sv_multi.specs.Views.{part_view, parts_view};
 ghost use Rattle.sv_xmlcall.specs.Trees.{reply_view};
 

@@ -1,7 +1,10 @@
 //! The calls in hand of the links.
 ghost use Rattle.std.specs.Prelude.{◌≡◌, IfOk, OnOk};
 ghost use Rattle.std.specs.Option.{option_copied, option_map};
-ghost use Rattle.sv_calls.specs.CallBook.{CallBook, acting, answer_at, answered, begun, call_at, end_at, ended, is_over, new_call, new_several, no_calls, part_at, part_taken, parts_left, request_at, request_taken, set_back, waiting_at};
+ghost use Rattle.sv_calls.specs.CallBook.{CallBook, acting, answer_at, answered, begun, call_at};
+ghost use Rattle.sv_calls.specs.CallBook.{end_at, ended, is_over, new_call, new_several, no_calls};
+ghost use Rattle.sv_calls.specs.CallBook.{part_at, part_taken, parts_left, request_at};
+ghost use Rattle.sv_calls.specs.CallBook.{request_taken, set_back, waiting_at};
 ghost use Rattle.sv_multi.specs.Views.{part_view, parts_view};
 ghost use Rattle.sv_xmlcall.specs.Trees.{reply_view};
 

@@ -5,9 +5,12 @@ use Rattle.sv_base.specs.declared.spec.Spec.{Spec}
 use Rattle.sv_base.specs.declared.state.How.{How}
 use Rattle.sv_base.specs.declared.state.Mood.{Mood}
 use Rattle.sv_base.specs.declared.state.State.{State}
-use Rattle.sv_base.specs.declared.state.State.TheVariants.{Stopped, Starting, Running, Backoff, Stopping, Exited, Fatal}
+use Rattle.sv_base.specs.declared.state.State.TheVariants.{Stopped, Starting, Running, Backoff}
+use Rattle.sv_base.specs.declared.state.State.TheVariants.{Stopping, Exited, Fatal}
 use Rattle.sv_child.specs.declared.child.Child.{Child}
-use Rattle.sv_child.specs.Moves.{Answer, nothing, goes, starts, stops, is_killed, is_spawned, backs_off, exited, ends_start, is_reached, is_running, has_tired, restarts, is_first_start}
+use Rattle.sv_child.specs.Moves.{Answer, nothing, goes, starts, stops, is_killed, is_spawned}
+use Rattle.sv_child.specs.Moves.{backs_off, exited, ends_start, is_reached, is_running, has_tired}
+use Rattle.sv_child.specs.Moves.{restarts, is_first_start}
 
 -- what may happen to a child
 pub data Stimulus : Type 0 where

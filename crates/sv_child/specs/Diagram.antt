@@ -1,8 +1,9 @@
--- The diagram of a child's states (the manual's chapter on subprocesses). The edge from BACKOFF to STOPPED is
--- ours: a stop needs not wait for the next try.
+-- The diagram of a child's states (the manual's chapter on subprocesses). The edge from BACKOFF to
+-- STOPPED is ours: a stop needs not wait for the next try.
 use Rattle.std.specs.Prelude.{◌≡◌, List, [], ◌∷◌, Option, Some, None}
 use Rattle.sv_base.specs.declared.state.State.{State}
-use Rattle.sv_base.specs.declared.state.State.TheVariants.{Stopped, Starting, Running, Backoff, Stopping, Exited, Fatal}
+use Rattle.sv_base.specs.declared.state.State.TheVariants.{Stopped, Starting, Running, Backoff}
+use Rattle.sv_base.specs.declared.state.State.TheVariants.{Stopping, Exited, Fatal}
 use Rattle.sv_child.specs.declared.step.Edge.{Edge}
 
 -- the twelve edges
@@ -25,4 +26,5 @@ IsInDiagram from to = ⊥
 abbrev pub IsWalk : State → List (Option Edge) → State → Type 0
 IsWalk from [] to = from ≡ to
 IsWalk from (None ∷ edges) to = IsWalk from edges to
-IsWalk from (Some edge ∷ edges) to = (edge.from ≡ from) × IsInDiagram edge.from edge.to × IsWalk edge.to edges to
+IsWalk from (Some edge ∷ edges) to =
+    (edge.from ≡ from) × IsInDiagram edge.from edge.to × IsWalk edge.to edges to

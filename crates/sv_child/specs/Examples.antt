@@ -16,7 +16,8 @@ use Rattle.sv_child.specs.declared.step.ChildDeed.{ChildDeed}
 use Rattle.sv_child.specs.declared.step.Edge.{Edge}
 use Rattle.sv_child.specs.declared.step.Step.{Step}
 
--- a program that is started with the daemon, expects the exit code 0 and is stopped by TERM; the rest is as it was
+-- a program that is started with the daemon, expects the exit code 0 and is stopped by TERM; the
+-- rest is as it was
 abbrev pub program : Spec → ℕ → ℕ → Autorestart → ℕ → Spec
 program spec startsecs startretries autorestart stopwaitsecs = record spec {
   autostart = true;

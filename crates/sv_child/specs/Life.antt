@@ -28,8 +28,10 @@ child_after spec child (h ∷ hs) = child_after spec (befalls spec child h).chil
 -- the step that it takes at each of them
 abbrev pub steps_of : Spec → Child → List Happening → List Step
 steps_of spec child [] = []
-steps_of spec child (h ∷ hs) = (befalls spec child h).step ∷ steps_of spec (befalls spec child h).child hs
+steps_of spec child (h ∷ hs) =
+    (befalls spec child h).step ∷ steps_of spec (befalls spec child h).child hs
 
 -- the edges of all of them
 abbrev pub edges_of : Spec → Child → List Happening → List (Option Edge)
-edges_of spec child happenings = flat_map (λ (step : Step). step.edges) (steps_of spec child happenings)
+edges_of spec child happenings =
+    flat_map (λ (step : Step). step.edges) (steps_of spec child happenings)

@@ -1,6 +1,8 @@
--- The moves of a child, of which the child table is made: for each kind of answer what becomes of the child,
--- which edges it takes, and what is to be done.
-use Rattle.std.specs.Prelude.{ℕ, ℤ, pos, negsuc, List, [], ◌∷◌, Option, Some, None, Bool, true, false, ◌+◌, ◌*◌, ◌&&◌, not, if◌then◌else◌, min, nat_le, nat_lt, is_none, codes}
+-- The moves of a child, of which the child table is made: for each kind of answer what becomes of
+-- the child, which edges it takes, and what is to be done.
+use Rattle.std.specs.Prelude.{ℕ, ℤ, pos, negsuc, List, [], ◌∷◌, Option, Some, None, Bool, true}
+use Rattle.std.specs.Prelude.{false, ◌+◌, ◌*◌, ◌&&◌, not, if◌then◌else◌, min, nat_le, nat_lt}
+use Rattle.std.specs.Prelude.{is_none, codes}
 use Rattle.std.specs.List.{list_any}
 use Rattle.std.specs.Ordering.{int_eq}
 use Rattle.sv_base.specs.declared.ids.Run.{Run}
@@ -13,7 +15,8 @@ use Rattle.sv_base.specs.declared.state.How.TheVariants as how_is
 use Rattle.sv_base.specs.declared.state.Mood.{Mood}
 use Rattle.sv_base.specs.declared.state.Mood.TheVariants as mood_is
 use Rattle.sv_base.specs.declared.state.State.{State}
-use Rattle.sv_base.specs.declared.state.State.TheVariants.{Stopped, Starting, Running, Backoff, Stopping, Exited, Fatal}
+use Rattle.sv_base.specs.declared.state.State.TheVariants.{Stopped, Starting, Running, Backoff}
+use Rattle.sv_base.specs.declared.state.State.TheVariants.{Stopping, Exited, Fatal}
 use Rattle.sv_child.specs.declared.child.Child.{Child}
 use Rattle.sv_child.specs.declared.step.ChildDeed.{ChildDeed}
 use Rattle.sv_child.specs.declared.step.ChildDeed.TheVariants.{Spawn, Kill}
@@ -83,7 +86,8 @@ stays deed = record { edges = None ∷ None ∷ []; deed = deed }
 
 -- one edge
 abbrev pub leads : State → State → Option ChildDeed → Step
-leads from to deed = record { edges = Some (record { from = from; to = to }) ∷ None ∷ []; deed = deed }
+leads from to deed =
+    record { edges = Some (record { from = from; to = to }) ∷ None ∷ []; deed = deed }
 
 -- two edges, one after the other
 abbrev pub leads_over : State → State → State → Step
@@ -136,7 +140,9 @@ is_killed spec child now = record {
 -- the process runs: it has until its deadline to show that it stays up
 abbrev pub is_spawned : Spec → Child → Run → ℕ → ℕ → Answer
 is_spawned spec child run pid now = record {
-  child = record child { run = Some run; pid = pid; deadline = seconds_after now spec.startsecs; fault = [] };
+  child =
+      record child
+      { run = Some run; pid = pid; deadline = seconds_after now spec.startsecs; fault = [] };
   step = stays None;
 }
 

@@ -1,5 +1,5 @@
--- Rewinding, for a clock that goes back: a child's moments are no later than now, and no deadline is further off
--- than its own wait.
+-- Rewinding, for a clock that goes back: a child's moments are no later than now, and no deadline
+-- is further off than its own wait.
 use Rattle.std.specs.Prelude.{ℕ, Option, Some, None, ◌+◌, ◌*◌, min}
 use Rattle.sv_base.specs.declared.spec.Spec.{Spec}
 use Rattle.sv_base.specs.declared.state.State.{State}

@@ -1,11 +1,13 @@
 -- Lives that were worked out by hand, one line for each time that the daemon looks at the child.
--- Moments are in milliseconds; startsecs, startretries, autorestart and stopwaitsecs stand after `program spec`.
+-- Moments are in milliseconds; startsecs, startretries, autorestart and stopwaitsecs stand after
+-- `program spec`.
 use Rattle.std.specs.Prelude.{◌≡◌, [], ◌∷◌, ◌++◌, codes}
 use Rattle.sv_base.specs.declared.signal.Signal.TheVariants as signal_is
 use Rattle.sv_base.specs.declared.spec.Spec.{Spec}
 use Rattle.sv_base.specs.declared.state.Autorestart.TheVariants.{Never, Unexpected}
 use Rattle.sv_base.specs.declared.state.How.TheVariants.{Code, Signal}
-use Rattle.sv_base.specs.declared.state.State.TheVariants.{Stopped, Starting, Running, Backoff, Stopping, Exited, Fatal}
+use Rattle.sv_base.specs.declared.state.State.TheVariants.{Stopped, Starting, Running, Backoff}
+use Rattle.sv_base.specs.declared.state.State.TheVariants.{Stopping, Exited, Fatal}
 use Rattle.sv_child.specs.Examples.{program, tick, pid, refused, exit, stop, told}
 use Rattle.sv_child.specs.Examples.Told.{Took, Had}
 use Rattle.sv_child.specs.declared.step.ChildDeed.TheVariants.{Spawn, Kill}

@@ -2,7 +2,8 @@
 ghost use Rattle.std.specs.Prelude.{◌≡◌};
 ghost use Rattle.sv_base.specs.declared.state.Mood.{Mood};
 ghost use Rattle.sv_child.specs.ChildTable.{happens};
-ghost use Rattle.sv_child.specs.ChildTable.Stimulus.{Start, Stop, Spawned, Spawn_failed, Ended, Time};
+ghost use Rattle.sv_child.specs.ChildTable.Stimulus.{Start, Stop, Spawned, Spawn_failed, Ended};
+ghost use Rattle.sv_child.specs.ChildTable.Stimulus.{Time};
 ghost use Rattle.sv_child.specs.Diagram.{IsWalk};
 ghost use Rattle.sv_child.specs.Moves.{new_child, is_at_rest};
 

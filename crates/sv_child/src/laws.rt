@@ -4,7 +4,9 @@ ghost use Rattle.sv_base.specs.declared.spec.Spec.{Spec};
 ghost use Rattle.sv_child.specs.Diagram.{IsWalk};
 ghost use Rattle.sv_child.specs.Life.{Happening, child_after, edges_of};
 ghost use Rattle.sv_child.specs.Moves.{new_child};
-ghost use Rattle.sv_child.specs.WorkedLives.{ClockGoesBack, FatalWithoutRetries, KillAtEachDeadline, StartsStaysUpAndExits, StopInBackoff, ThreeRetriesThenFatal, UpAtOnce};
+ghost use Rattle.sv_child.specs.WorkedLives.{ClockGoesBack, FatalWithoutRetries};
+ghost use Rattle.sv_child.specs.WorkedLives.{KillAtEachDeadline, StartsStaysUpAndExits};
+ghost use Rattle.sv_child.specs.WorkedLives.{StopInBackoff, ThreeRetriesThenFatal, UpAtOnce};
 
 /// Whatever befalls a child, with the clock forward or back, its edges are a walk through the diagram of states:
 /// the first leads from STOPPED, each further one from where the one before ended, the last to where it is.

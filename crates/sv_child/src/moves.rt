@@ -2,7 +2,9 @@
 ghost use Rattle.std.specs.Prelude.{◌≡◌, not, pos};
 ghost use Rattle.std.specs.List.{list_any};
 ghost use Rattle.std.specs.Ordering.{int_eq};
-ghost use Rattle.sv_child.specs.Moves.{backs_off, ends_start, entered, exit_of, exited, goes, has_tired, is_first_start, is_killed, is_reached, is_spawned, restarts, starts, stops};
+ghost use Rattle.sv_child.specs.Moves.{backs_off, ends_start, entered, exit_of, exited, goes};
+ghost use Rattle.sv_child.specs.Moves.{has_tired, is_first_start, is_killed, is_reached};
+ghost use Rattle.sv_child.specs.Moves.{is_spawned, restarts, starts, stops};
 
 use crate::child::Child;
 use crate::step::{ChildDeed, Step};

@@ -1,5 +1,6 @@
 -- Which children have woken, so that time may do something to them.
-use Rattle.std.specs.Prelude.{◌≡◌, ◌≤◌, ◌<◌, ℕ, List, [], ◌∷◌, Option, Some, None, Bool, true, false, length}
+use Rattle.std.specs.Prelude.{◌≡◌, ◌≤◌, ◌<◌, ℕ, List, [], ◌∷◌, Option, Some, None, Bool, true}
+use Rattle.std.specs.Prelude.{false, length}
 use Rattle.sv_base.specs.declared.ids.ChildId.{ChildId}
 use Rattle.sv_base.specs.declared.spec.GroupSpec.{GroupSpec}
 use Rattle.sv_base.specs.declared.spec.Spec.{Spec}
@@ -7,7 +8,8 @@ use Rattle.sv_children.specs.Wake.{is_awake, wake_moment}
 use Rattle.sv_child.specs.declared.child.Child.{Child}
 use Rattle.sv_children.specs.Crew.{Crew, Member, member_at}
 
--- the moments at which these children wake, where they wait for time; one without a process never does
+-- the moments at which these children wake, where they wait for time; one without a process never
+-- does
 abbrev pub wakes_of : List (GroupSpec × Spec) → List Child → List (Option ℕ)
 wakes_of pairs [] = []
 wakes_of [] (child ∷ children) = None ∷ wakes_of [] children

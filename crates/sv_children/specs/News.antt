@@ -1,10 +1,13 @@
--- What comes to the child of a place, and what becomes of it: the step that the table of the manual gives.
-use Rattle.std.specs.Prelude.{ℕ, List, Option, Some, None, Bool, false, ◌&&◌, not, nat_eq, slice_set, if◌then◌else◌}
+-- What comes to the child of a place, and what becomes of it: the step that the table of the manual
+-- gives.
+use Rattle.std.specs.Prelude.{ℕ, List, Option, Some, None, Bool, false, ◌&&◌, not, nat_eq}
+use Rattle.std.specs.Prelude.{slice_set, if◌then◌else◌}
 use Rattle.sv_base.specs.declared.ids.Run.{Run}
 use Rattle.sv_base.specs.declared.spec.Spec.{Spec}
 use Rattle.sv_base.specs.declared.state.Mood.{Mood}
 use Rattle.sv_child.specs.ChildTable.{Stimulus, happens}
-use Rattle.sv_child.specs.ChildTable.Stimulus.{Ended, Spawned, Spawn_failed, Start as Is_to_start, Stop as Is_to_stop, Time as Time_passes}
+use Rattle.sv_child.specs.ChildTable.Stimulus.{Ended, Spawned, Spawn_failed, Start as Is_to_start}
+use Rattle.sv_child.specs.ChildTable.Stimulus.{Stop as Is_to_stop, Time as Time_passes}
 use Rattle.sv_child.specs.Moves.{Answer}
 use Rattle.sv_child.specs.declared.child.Child.{Child}
 use Rattle.sv_child.specs.declared.step.ChildDeed.{ChildDeed}

@@ -16,7 +16,8 @@ use Rattle.sv_out.specs.declared.order.SpawnOrder.{SpawnOrder}
 abbrev pub reports : List ℕ → List ℕ → List (Option Edge) → List Order
 reports group name [] = []
 reports group name (None ∷ edges) = reports group name edges
-reports group name (Some edge ∷ edges) = order.State group name edge.from edge.to ∷ reports group name edges
+reports group name (Some edge ∷ edges) =
+    order.State group name edge.from edge.to ∷ reports group name edges
 
 -- a process that is not there reports nothing
 abbrev pub reports_of : Option (GroupSpec × Spec) → List (Option Edge) → List Order

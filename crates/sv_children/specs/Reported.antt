@@ -1,5 +1,6 @@
 -- What orders report of one child, by its group and name, and which state it is in.
-use Rattle.std.specs.Prelude.{◌≡◌, ℕ, List, Option, Some, None, IsTrue, ◌&&◌, if◌then◌else◌, map, slice_get}
+use Rattle.std.specs.Prelude.{◌≡◌, ℕ, List, Option, Some, None, IsTrue, ◌&&◌, if◌then◌else◌, map}
+use Rattle.std.specs.Prelude.{slice_get}
 use Rattle.std.specs.Str.{bytes_eq}
 use Rattle.sv_base.specs.Roster.{is_roster}
 use Rattle.sv_base.specs.declared.spec.GroupSpec.{GroupSpec}
@@ -22,7 +23,8 @@ use Rattle.sv_out.specs.declared.order.Order.TheVariants as order
 -- the edge that an order reports of the child of this group and name, if it is such a report
 abbrev pub edge_told : List ℕ → List ℕ → Order → Option Edge
 edge_told group name (order.State its_group its_name from to) =
-    if bytes_eq its_group group && bytes_eq its_name name then Some (record { from = from; to = to }) else None
+    if bytes_eq its_group group && bytes_eq its_name name
+    then Some (record { from = from; to = to }) else None
 edge_told group name given = None
 
 -- what the orders report of that child, in order
@@ -38,13 +40,16 @@ state_of (Some child) = child.state
 abbrev pub state_at : Crew → ℕ → State
 state_at crew place = state_of (slice_get crew.all place)
 
--- what the step of the child of one place reports, by whatever it is moved, is a walk for the child of each place
+-- what the step of the child of one place reports, by whatever it is moved, is a walk for the child
+-- of each place
 abbrev pub EachStepIsAWalk : Type 0
 EachStepIsAWalk =
-    (stimulus : Child → Option Stimulus) (mood : Mood) (now : ℕ) (crew : Crew) (moving place : ℕ) (answer : Answer)
+    (stimulus : Child → Option Stimulus) (mood : Mood) (now : ℕ) (crew : Crew) (moving place : ℕ)
+    (answer : Answer)
     (pair : GroupSpec × Spec)
     → said_at stimulus moving mood now crew ≡ Some answer
     → IsTrue (is_roster crew.roster)
     → slice_get (pairs_of crew.roster) place ≡ Some pair
-    → IsWalk (state_at crew place) (edges_told pair.0.name pair.1.name (reports_at crew moving answer.step.edges))
+    → IsWalk (state_at crew place)
+    (edges_told pair.0.name pair.1.name (reports_at crew moving answer.step.edges))
     (state_at (moved moving (Some answer) crew) place)

@@ -23,4 +23,5 @@ span_meant name roster = span_found (found name roster) roster
 -- none of these children has a process or gets one by itself
 abbrev pub are_at_rest : Span → List Child → Bool
 are_at_rest span children =
-    list_all (λ (c : Child). is_at_rest c.state) (take (span.to - span.from) (drop span.from children))
+    list_all (λ (c : Child). is_at_rest c.state)
+    (take (span.to - span.from) (drop span.from children))

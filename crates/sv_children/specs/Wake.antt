@@ -1,9 +1,11 @@
 -- When the daemon has to look at a child as time passes (the manual's chapter on subprocesses).
-use Rattle.std.specs.Prelude.{◌≡◌, ℕ, Option, Some, None, Bool, true, false, ◌+◌, ◌*◌, ◌&&◌, nat_le, if◌then◌else◌}
+use Rattle.std.specs.Prelude.{◌≡◌, ℕ, Option, Some, None, Bool, true, false, ◌+◌, ◌*◌, ◌&&◌, nat_le}
+use Rattle.std.specs.Prelude.{if◌then◌else◌}
 use Rattle.sv_base.specs.declared.spec.Spec.{Spec}
 use Rattle.sv_base.specs.declared.state.Mood.{Mood}
 use Rattle.sv_base.specs.declared.state.State.{State}
-use Rattle.sv_base.specs.declared.state.State.TheVariants.{Stopped, Starting, Backoff, Stopping, Exited}
+use Rattle.sv_base.specs.declared.state.State.TheVariants.{Stopped, Starting, Backoff, Stopping}
+use Rattle.sv_base.specs.declared.state.State.TheVariants.{Exited}
 use Rattle.sv_child.specs.ChildTable.{happens}
 use Rattle.sv_child.specs.ChildTable.Stimulus.{Time}
 use Rattle.sv_child.specs.Moves.{nothing, is_reached, has_tired, restarts, is_first_start}
@@ -24,7 +26,8 @@ wakes_in Exited spec child = at_once_if (restarts spec child)
 wakes_in Stopped spec child = at_once_if (is_first_start spec child)
 wakes_in state spec child = None
 
--- the moment at which a child wakes: its deadline, or 0 where it is to be started, started again or given up
+-- the moment at which a child wakes: its deadline, or 0 where it is to be started, started again or
+-- given up
 abbrev pub wake_moment : Spec → Child → Option ℕ
 wake_moment spec child = wakes_in child.state spec child
 
@@ -55,7 +58,8 @@ is_settled spec child now =
     is_past child.start now && is_past child.stop now
     && is_within child.deadline (wait_of spec child child.state) now
 
--- a child that is settled stays as it is when it is rewound to that moment, and is settled at each later one
+-- a child that is settled stays as it is when it is rewound to that moment, and is settled at each
+-- later one
 abbrev pub SettledStay : Type 0
 SettledStay =
     (spec : Spec) (child : Child) (now later : ℕ)

@@ -1,5 +1,7 @@
--- What is known of all children without looking at them: when each wakes, and that rewinding leaves them as they are.
-use Rattle.std.specs.Prelude.{◌≡◌, ℕ, List, Some, Bool, true, false, nat_eq, slice_get, if◌then◌else◌}
+-- What is known of all children without looking at them: when each wakes, and that rewinding leaves
+-- them as they are.
+use Rattle.std.specs.Prelude.{◌≡◌, ℕ, List, Some, Bool, true, false, nat_eq, slice_get}
+use Rattle.std.specs.Prelude.{if◌then◌else◌}
 use Rattle.sv_base.specs.declared.spec.GroupSpec.{GroupSpec}
 use Rattle.sv_base.specs.declared.spec.Spec.{Spec}
 use Rattle.sv_children.specs.Wake.{is_settled}
@@ -37,7 +39,8 @@ AreSettled pairs children unsettled now =
     → is_settled pair.1 child now ≡ true
 
 -- a watch knows when each of these children wakes, and who of them is settled
-pub record Watches (pairs : List (GroupSpec × Spec)) (children : List Child) (watch : Watch) : Type 0 where
+pub record Watches (pairs : List (GroupSpec × Spec)) (children : List Child) (watch : Watch) : Type
+    0 where
   pub agenda : watch.agenda ≡ wakes_of pairs children
   pub settled : AreSettled pairs children watch.unsettled watch.at
 

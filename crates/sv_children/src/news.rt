@@ -1,7 +1,8 @@
 //! What comes to a child.
 ghost use Rattle.std.specs.Prelude.{◌≡◌, Some};
 ghost use Rattle.sv_base.specs.declared.state.Mood.{Mood};
-ghost use Rattle.sv_children.specs.News.{child_after, is_living_run, is_run, said, step_of, stimulus_of, stimulus_told};
+ghost use Rattle.sv_children.specs.News.{child_after, is_living_run, is_run, said, step_of};
+ghost use Rattle.sv_children.specs.News.{stimulus_of, stimulus_told};
 
 use sv_base::ids::Run;
 use sv_base::moment::Moment;

@@ -1,5 +1,6 @@
 //! Rewinding of all children, in one walk over the groups and their processes.
 ghost use Rattle.std.specs.Prelude.{◌≡◌, ◌+◌, ◌≤◌, ◌∷◌, [], length};
+ghost use Rattle.sv_base.specs.Limits.{process_limit};
 ghost use Rattle.sv_children.specs.Rewound.{all_rewound, rewound_from};
 ghost use Rattle.sv_groups.specs.StartOrder.{processes};
 
@@ -18,7 +19,7 @@ fn rewind_one(spec: &Spec, place: usize, children: &mut [Child], at: Moment)
 
 /// Rewinds the children of these processes, of which the first one's is in this place.
 fn rewind_members(members: &[Spec], first: usize, children: &mut [Child], at: Moment)
-    requires { first + length members.now ≤ 1024 }
+    requires { first + length members.now ≤ process_limit }
     ensures { children.new ≡ rewound_from at members.now first children.old }
 {
     let mut next = first;
@@ -32,7 +33,7 @@ fn rewind_members(members: &[Spec], first: usize, children: &mut [Child], at: Mo
 
 /// Rewinds each child to this moment.
 pub(crate) fn rewind_all(groups: &[GroupSpec], children: &mut [Child], at: Moment)
-    requires { length (processes groups.now) ≤ 1024 }
+    requires { length (processes groups.now) ≤ process_limit }
     ensures { children.new ≡ all_rewound at (processes groups.now) children.old }
 {
     let mut next = 0;

@@ -1,5 +1,6 @@
 //! What is known of all children without looking at them.
-ghost use Rattle.std.specs.Prelude.{◌≡◌, ◌<◌, ◌&&◌, IfOk, List, Some, length, max, nat_le, replicate, slice_get, slice_set, if◌then◌else◌};
+ghost use Rattle.std.specs.Prelude.{◌≡◌, ◌<◌, ◌&&◌, IfOk, List, Some, length, max, nat_le};
+ghost use Rattle.std.specs.Prelude.{replicate, slice_get, slice_set, if◌then◌else◌};
 ghost use Rattle.sv_base.specs.declared.spec.GroupSpec.{GroupSpec};
 ghost use Rattle.sv_base.specs.declared.spec.Spec.{Spec};
 ghost use Rattle.sv_child.specs.Moves.{new_child};

@@ -1,7 +1,11 @@
--- The commands of the client: the calls that each makes, in order, and how the answer of each is shown.
-use Rattle.std.specs.Prelude.{◌==◌, ◌+◌, ◌-◌, ◌*◌, ◌&&◌, ◌++◌, ◌∷◌, ℕ, pos, neg_ℤ, List, [], Bool, true, false, Option, Some, None, codes, map, drop, find, nat_le, if◌then◌else◌}
+-- The commands of the client: the calls that each makes, in order, and how the answer of each is
+-- shown.
+use Rattle.std.specs.Prelude.{◌==◌, ◌+◌, ◌-◌, ◌*◌, ◌&&◌, ◌++◌, ◌∷◌, ℕ, pos, neg_ℤ, List, [], Bool}
+use Rattle.std.specs.Prelude.{true, false, Option, Some, None, codes, map, drop, find, nat_le}
+use Rattle.std.specs.Prelude.{if◌then◌else◌}
 use Rattle.std.specs.Char.{is_ascii_digit}
 use Rattle.std.specs.Str.{bytes_eq}
+use Rattle.sv_base.specs.Ascii.{digit_zero, hyphen}
 use Rattle.sv_base.specs.SplitName.{split_of}
 use Rattle.sv_xmlcall.specs.Trees.{CallTree, Tree, Trees, integer, text, no_tree, tree, call_view}
 use Rattle.sv_commands.specs.Subjects.{is_group, sent_name}
@@ -9,7 +13,8 @@ use Rattle.sv_commands.specs.declared.act.Act.{Act}
 use Rattle.sv_commands.specs.declared.act.Act.TheVariants.{Start, Stop, Signal, Clear}
 use Rattle.sv_commands.specs.declared.step.Line.{Line}
 use Rattle.sv_commands.specs.declared.step.Show.{Show}
-use Rattle.sv_commands.specs.declared.step.Show.TheVariants.{Done, Rows, Table, Log, Version, Number, Pid, ShutDown}
+use Rattle.sv_commands.specs.declared.step.Show.TheVariants.{Done, Rows, Table, Log, Version}
+use Rattle.sv_commands.specs.declared.step.Show.TheVariants.{Number, Pid, ShutDown}
 use Rattle.sv_commands.specs.declared.step.Step.{Step}
 use Rattle.sv_commands.specs.declared.verb.Verb.{Verb}
 use Rattle.sv_commands.specs.declared.verb.Verb.TheVariants as verb
@@ -44,7 +49,8 @@ verb_name verb.Shutdown = codes "shutdown"
 -- all commands
 abbrev pub all_verbs : List Verb
 all_verbs =
-    verb.Status ∷ verb.Start ∷ verb.Stop ∷ verb.Restart ∷ verb.Signal ∷ verb.Clear ∷ verb.Tail ∷ verb.MainTail
+    verb.Status ∷ verb.Start ∷ verb.Stop ∷ verb.Restart ∷ verb.Signal ∷ verb.Clear ∷ verb.Tail
+    ∷ verb.MainTail
     ∷ verb.Pid ∷ verb.Version ∷ verb.Shutdown ∷ []
 
 -- the command of a word
@@ -89,13 +95,17 @@ asked method params name show counts = record {
   line = record { name = name; show = show; counts = counts };
 }
 
--- what is asked to act on one name: `all` is all processes, `g:*` and `g:` a group, every other one process
+-- what is asked to act on one name: `all` is all processes, `g:*` and `g:` a group, every other one
+-- process
 abbrev pub act_on : Act → Option (List ℕ) → Bool → List ℕ → Asked
 act_on act signal counts name =
-    if bytes_eq name (codes "all") then asked (method_of_all act) (signal_param signal) None (Rows act) counts
+    if bytes_eq name (codes "all")
+    then asked (method_of_all act) (signal_param signal) None (Rows act) counts
     else if has_groups act && is_group name
-    then asked (method_of_group act) (tree (text (split_of name).0) (signal_param signal)) (Some name) (Rows act) counts
-    else asked (method_of_one act) (tree (text (sent_name name)) (signal_param signal)) (Some name) (Done act) counts
+    then asked (method_of_group act) (tree (text (split_of name).0) (signal_param signal))
+    (Some name) (Rows act) counts
+    else asked (method_of_one act) (tree (text (sent_name name)) (signal_param signal)) (Some name)
+    (Done act) counts
 
 -- what is asked to act on each name, in order
 abbrev pub act_on_each : Act → Option (List ℕ) → Bool → List (List ℕ) → List Asked
@@ -128,7 +138,9 @@ status_of names = asked (codes "supervisor.getAllProcessInfo") no_tree None (Tab
 abbrev pub pid_of : List (List ℕ) → Option (List Asked)
 pid_of [] = Some (asked (codes "supervisor.getPID") no_tree None Number true ∷ [])
 pid_of (name ∷ []) =
-    Some (asked (codes "supervisor.getProcessInfo") (tree (text (sent_name name)) no_tree) (Some name) Pid true ∷ [])
+    Some
+    (asked (codes "supervisor.getProcessInfo") (tree (text (sent_name name)) no_tree)
+    (Some name) Pid true ∷ [])
 pid_of (name ∷ other ∷ more) = None
 
 -- the number that further decimal digits write after a number, where it is at most 2,147,483,647
@@ -142,7 +154,7 @@ digits_from number (digit ∷ digits) =
 -- a count of bytes: digits without leading zeros, a number from 1 to 2,147,483,647
 abbrev pub count_of : List ℕ → Option ℕ
 count_of [] = None
-count_of (digit ∷ digits) = if digit == 48 then None else digits_from 0 (digit ∷ digits)
+count_of (digit ∷ digits) = if digit == digit_zero then None else digits_from 0 (digit ∷ digits)
 
 -- the method that reads a log
 abbrev pub reading : List ℕ → Option (List ℕ)
@@ -165,7 +177,7 @@ log_end name (Some count) (Some method) =
 -- the word begins with a dash
 abbrev pub is_option : List ℕ → Bool
 is_option [] = false
-is_option (byte ∷ bytes) = byte == 45
+is_option (byte ∷ bytes) = byte == hyphen
 
 -- the words after `-K`, a count of bytes: a name, and a stream where it is told
 abbrev pub tail_by : Option ℕ → List (List ℕ) → Option (List Asked)
@@ -178,7 +190,8 @@ tail_by count (name ∷ stream ∷ other ∷ more) = None
 abbrev pub tail_of : List (List ℕ) → Option (List Asked)
 tail_of [] = None
 tail_of (word ∷ words) =
-    if is_option word then tail_by (count_of (drop 1 word)) words else tail_by (Some 1600) (word ∷ words)
+    if is_option word then tail_by (count_of (drop 1 word)) words
+    else tail_by (Some 1600) (word ∷ words)
 
 -- the end of the daemon's log
 abbrev pub main_end : Asked

@@ -1,9 +1,12 @@
--- What the answer of a call prints, and the status that it asks for. An answer that isn't of the method's kind has none.
-use Rattle.std.specs.Prelude.{◌∷◌, ◌++◌, ℕ, ℤ, pos, List, [], Bool, true, false, Option, Some, None, codes, if◌then◌else◌}
+-- What the answer of a call prints, and the status that it asks for. An answer that isn't of the
+-- method's kind has none.
+use Rattle.std.specs.Prelude.{◌∷◌, ◌++◌, ℕ, ℤ, pos, List, [], Bool, true, false, Option, Some, None}
+use Rattle.std.specs.Prelude.{codes, if◌then◌else◌}
 use Rattle.std.specs.Fmt.{signed_decimal}
 use Rattle.std.specs.List.{flat_map, list_all}
 use Rattle.std.specs.Option.{option_map}
 use Rattle.std.specs.Ordering.{int_eq}
+use Rattle.sv_base.specs.Ascii.{line_feed}
 use Rattle.sv_commands.specs.Errors.{error_line}
 use Rattle.sv_commands.specs.Members.{as_integer, integer_in, text_in}
 use Rattle.sv_commands.specs.Subjects.{printed, printed_name, is_group}
@@ -16,8 +19,10 @@ use Rattle.sv_commands.specs.declared.status.Status.{Status}
 use Rattle.sv_commands.specs.declared.status.Status.TheVariants as outcome
 use Rattle.sv_commands.specs.declared.step.Line.{Line}
 use Rattle.sv_commands.specs.declared.step.Show.{Show}
-use Rattle.sv_commands.specs.declared.step.Show.TheVariants.{Done, Rows, Table, Log, Version, Number, Pid, ShutDown}
-use Rattle.sv_xmlcall.specs.Trees.{Tree, Trees, Members, Reply, Returns, Faults, integer, truth, text, structure, array, no_tree, tree}
+use Rattle.sv_commands.specs.declared.step.Show.TheVariants.{Done, Rows, Table, Log, Version}
+use Rattle.sv_commands.specs.declared.step.Show.TheVariants.{Number, Pid, ShutDown}
+use Rattle.sv_xmlcall.specs.Trees.{Tree, Trees, Members, Reply, Returns, Faults, integer, truth}
+use Rattle.sv_xmlcall.specs.Trees.{text, structure, array, no_tree, tree}
 
 -- what was done
 abbrev pub done_word : Act → List ℕ
@@ -28,15 +33,17 @@ done_word Clear = codes "cleared"
 
 -- the line of what was done to a process
 abbrev pub done_line : Act → List ℕ → List ℕ
-done_line act name = name ++ codes ": " ++ done_word act ++ 10 ∷ []
+done_line act name = name ++ codes ": " ++ done_word act ++ line_feed ∷ []
 
 -- the words of the faults that have some, by number; a group, and a start, have words of their own
 abbrev pub known_words : Bool → Bool → ℤ → Option (List ℕ)
 known_words start group number =
     if int_eq number (pos 6) then Some (codes "shutting down")
-    else if int_eq number (pos 10) then Some (if group then codes "no such group" else codes "no such process")
+    else if int_eq number (pos 10)
+    then Some (if group then codes "no such group" else codes "no such process")
     else if int_eq number (pos 11) then Some (codes "bad signal name")
-    else if int_eq number (pos 20) then Some (if start then codes "no such file" else codes "no log file")
+    else if int_eq number (pos 20)
+    then Some (if start then codes "no such file" else codes "no log file")
     else if int_eq number (pos 21) then Some (codes "file is not executable")
     else if int_eq number (pos 40) then Some (codes "abnormal termination")
     else if int_eq number (pos 50) then Some (codes "spawn error")
@@ -77,7 +84,9 @@ status_if false = outcome.Done
 -- what a fault prints
 abbrev pub fault_shown : Line → ℤ → Shown
 fault_shown line number = record {
-  text = error_line (option_map printed_name line.name) (fault_words (starts line.show) (names_group line.name) number);
+  text =
+      error_line (option_map printed_name line.name)
+      (fault_words (starts line.show) (names_group line.name) number);
   status = status_if line.counts;
 }
 
@@ -92,13 +101,15 @@ if_true line value = None
 
 -- a row, of its three members
 abbrev pub row_by : Option (List ℕ) → Option (List ℕ) → Option ℤ → Option Row
-row_by (Some group) (Some name) (Some status) = Some (record { group = group; name = name; status = status })
+row_by (Some group) (Some name) (Some status) =
+    Some (record { group = group; name = name; status = status })
 row_by group name status = None
 
 -- a row, of the members of a struct
 abbrev pub row_in : Members → Option Row
 row_in members =
-    row_by (text_in (codes "group") members) (text_in (codes "name") members) (integer_in (codes "status") members)
+    row_by (text_in (codes "group") members) (text_in (codes "name") members)
+    (integer_in (codes "status") members)
 
 -- a row, where the value is one
 abbrev pub row_of : Tree → Option Row
@@ -123,7 +134,8 @@ is_done status = int_eq status (pos 80)
 abbrev pub row_line : Act → Row → List ℕ
 row_line act row =
     if is_done row.status then done_line act (printed row.group row.name)
-    else error_line (Some (printed row.group row.name)) (fault_words (is_start act) false row.status)
+    else error_line (Some (printed row.group row.name))
+    (fault_words (is_start act) false row.status)
 
 -- all rows say that it was done
 abbrev pub are_done : List Row → Bool
@@ -148,7 +160,7 @@ text_shown behind value = None
 
 -- a number, on a line
 abbrev pub number_shown : Option ℤ → Option Shown
-number_shown number = option_map (λ n. shown_of (signed_decimal n ++ 10 ∷ [])) number
+number_shown number = option_map (λ n. shown_of (signed_decimal n ++ line_feed ∷ [])) number
 
 -- the process number of a process
 abbrev pub pid_in : Tree → Option ℤ
@@ -166,7 +178,7 @@ value_shown line (Done act) value = if_true (done_line act (name_or_none line.na
 value_shown line (Rows act) value = array_shown act line.counts value
 value_shown line (Table names) value = table_of names value
 value_shown line Log value = text_shown [] value
-value_shown line Version value = text_shown (10 ∷ []) value
+value_shown line Version value = text_shown (line_feed ∷ []) value
 value_shown line Number value = number_shown (as_integer (Some value))
 value_shown line Pid value = number_shown (pid_in value)
 value_shown line ShutDown value = if_true (codes "Shut down\n") value

@@ -1,7 +1,8 @@
 -- The statuses of commands by their numbers.
 use Rattle.std.specs.Prelude.{ℕ, nat_le, if◌then◌else◌}
 use Rattle.sv_commands.specs.declared.status.Status.{Status}
-use Rattle.sv_commands.specs.declared.status.Status.TheVariants.{Done, Faulted, Refused, NotRunning, NotFound, Unanswered}
+use Rattle.sv_commands.specs.declared.status.Status.TheVariants.{Done, Faulted, Refused, NotRunning}
+use Rattle.sv_commands.specs.declared.status.Status.TheVariants.{NotFound, Unanswered}
 
 -- the number by which the program tells a status
 abbrev pub number : Status → ℕ

@@ -1,11 +1,14 @@
--- The names of processes and groups that a command is given, as they are sent and as they are printed.
-use Rattle.std.specs.Prelude.{◌∷◌, ◌++◌, ℕ, List, [], Bool, true, false, Option, Some, None, codes, if◌then◌else◌}
+-- The names of processes and groups that a command is given, as they are sent and as they are
+-- printed.
+use Rattle.std.specs.Prelude.{◌∷◌, ◌++◌, ℕ, List, [], Bool, true, false, Option, Some, None, codes}
+use Rattle.std.specs.Prelude.{if◌then◌else◌}
 use Rattle.std.specs.Str.{bytes_eq}
+use Rattle.sv_base.specs.Ascii.{colon}
 use Rattle.sv_base.specs.SplitName.{split_of}
 
 -- the text of a process of a group: its own name alone where the group has the same
 abbrev pub printed : List ℕ → List ℕ → List ℕ
-printed group name = if bytes_eq group name then name else group ++ 58 ∷ name
+printed group name = if bytes_eq group name then name else group ++ colon ∷ name
 
 -- what a name prints: a whole group is its name
 abbrev pub printed_by : List ℕ → Option (List ℕ) → List ℕ

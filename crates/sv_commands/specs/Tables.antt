@@ -1,8 +1,10 @@
 -- The table of processes that `status` prints.
-use Rattle.std.specs.Prelude.{◌==◌, ◌+◌, ◌-◌, ◌&&◌, ◌∷◌, ◌++◌, ℕ, List, [], Bool, true, false, not, max, Option, Some, None, codes, length, map, filter, if◌then◌else◌}
+use Rattle.std.specs.Prelude.{◌==◌, ◌+◌, ◌-◌, ◌&&◌, ◌∷◌, ◌++◌, ℕ, List, [], Bool, true, false, not}
+use Rattle.std.specs.Prelude.{max, Option, Some, None, codes, length, map, filter, if◌then◌else◌}
 use Rattle.std.specs.List.{count_by, flat_map, list_all, list_any, repeat}
 use Rattle.std.specs.Option.{option_map}
 use Rattle.std.specs.Str.{bytes_eq}
+use Rattle.sv_base.specs.Ascii.{line_feed, space}
 use Rattle.sv_base.specs.SplitName.{split_of}
 use Rattle.sv_out.specs.Patterns.{is_further}
 use Rattle.sv_commands.specs.Errors.{error_line}
@@ -15,7 +17,8 @@ use Rattle.sv_commands.specs.declared.tables.Process.{Process}
 use Rattle.sv_xmlcall.specs.Trees.{Tree, Trees, Members, structure, array, no_tree, tree}
 
 -- a process, of its four members
-abbrev pub process_by : Option (List ℕ) → Option (List ℕ) → Option (List ℕ) → Option (List ℕ) → Option Process
+abbrev pub process_by : Option (List ℕ) → Option (List ℕ) → Option (List ℕ) → Option (List ℕ)
+    → Option Process
 process_by (Some group) (Some name) (Some state) (Some description) =
     Some (record { group = group; name = name; state = state; description = description })
 process_by group name state description = None
@@ -69,16 +72,19 @@ longest most (process ∷ processes) = longest (max most (width (title process))
 
 -- a text with spaces after it, to so many characters
 abbrev pub padded : ℕ → List ℕ → List ℕ
-padded size text = text ++ repeat (size - width text) (32 ∷ [])
+padded size text = text ++ repeat (size - width text) (space ∷ [])
 
 -- the line of a process
 abbrev pub process_line : ℕ → Process → List ℕ
-process_line size process = padded (size + 3) (title process) ++ padded 10 process.state ++ process.description ++ 10 ∷ []
+process_line size process =
+    padded (size + 3) (title process) ++ padded 10 process.state ++ process.description
+    ++ line_feed ∷ []
 
 -- the line of a name that finds none
 abbrev pub missing_line : List ℕ → List ℕ
 missing_line name =
-    error_line (Some (printed_name name)) (if is_group name then codes "no such group" else codes "no such process")
+    error_line (Some (printed_name name))
+    (if is_group name then codes "no such group" else codes "no such process")
 
 -- the lines of what a name finds, or that it finds nothing
 abbrev pub lines_or_missing : ℕ → List ℕ → List Process → List ℕ

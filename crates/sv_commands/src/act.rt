@@ -1,6 +1,7 @@
 //! What a command does to processes.
 ghost use Rattle.std.specs.Prelude.{◌≡◌};
-ghost use Rattle.sv_commands.specs.Commands.{has_groups, method_of_one, method_of_group, method_of_all};
+ghost use Rattle.sv_commands.specs.Commands.{has_groups, method_of_one, method_of_group};
+ghost use Rattle.sv_commands.specs.Commands.{method_of_all};
 ghost use Rattle.sv_commands.specs.Lines.{done_word, is_start};
 
 /// What a command does to processes.

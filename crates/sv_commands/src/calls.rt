@@ -3,7 +3,9 @@ ghost use Rattle.std.specs.Prelude.{◌≡◌, Some, None, IfOk};
 ghost use Rattle.std.specs.Option.{option_copied};
 ghost use Rattle.sv_base.specs.SplitName.{split_of};
 ghost use Rattle.sv_xmlcall.specs.Trees.{trees_view, tree, no_tree, text};
-ghost use Rattle.sv_commands.specs.Commands.{asked, act_on, last_bytes, method_of_one, method_of_group, method_of_all, signal_param, step_view};
+ghost use Rattle.sv_commands.specs.Commands.{asked, act_on, last_bytes, method_of_one};
+ghost use Rattle.sv_commands.specs.Commands.{method_of_group, method_of_all, signal_param};
+ghost use Rattle.sv_commands.specs.Commands.{step_view};
 ghost use Rattle.sv_commands.specs.Subjects.{sent_name};
 ghost use Rattle.sv_commands.specs.declared.step.Show.TheVariants.{Done, Rows};
 

@@ -6,7 +6,10 @@ ghost use Rattle.sv_xmlcall.specs.Trees.{view, members_view, trees_view, reply_v
 ghost use Rattle.sv_commands.specs.Errors.{error_line};
 ghost use Rattle.sv_commands.specs.Members.{integer_in};
 ghost use Rattle.sv_commands.specs.Subjects.{printed_name};
-ghost use Rattle.sv_commands.specs.Lines.{done_line, fault_shown, fault_words, known_words, names_group, starts, value_shown, reply_shown, if_true, text_shown, name_or_none, number_shown, pid_in, shown_of, status_if};
+ghost use Rattle.sv_commands.specs.Lines.{done_line, fault_shown, fault_words, known_words};
+ghost use Rattle.sv_commands.specs.Lines.{names_group, starts, value_shown, reply_shown, if_true};
+ghost use Rattle.sv_commands.specs.Lines.{text_shown, name_or_none, number_shown, pid_in, shown_of};
+ghost use Rattle.sv_commands.specs.Lines.{status_if};
 
 use crate::act::Act;
 use crate::members::integer_in;

@@ -4,7 +4,8 @@ ghost use Rattle.std.specs.List.{flat_map, list_all};
 ghost use Rattle.std.specs.Ordering.{int_eq};
 ghost use Rattle.sv_xmlcall.specs.Trees.{view, trees_view, members_view};
 ghost use Rattle.sv_commands.specs.declared.status.Status.TheVariants.{Done};
-ghost use Rattle.sv_commands.specs.Lines.{are_done, array_shown, is_done, row_in, row_line, row_of, rows_in, rows_shown, status_if};
+ghost use Rattle.sv_commands.specs.Lines.{are_done, array_shown, is_done, row_in, row_line, row_of};
+ghost use Rattle.sv_commands.specs.Lines.{rows_in, rows_shown, status_if};
 
 use crate::act::Act;
 use crate::lines::{fault_words, put_done, put_error, status_if};

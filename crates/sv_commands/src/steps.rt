@@ -1,7 +1,11 @@
 //! The steps of the commands, as the table of `specs/Commands.antt` has them.
 ghost use Rattle.std.specs.Prelude.{◌≡◌, ◌++◌, ◌∷◌, [], Some, None, IfOk, OnOk, true};
 ghost use Rattle.std.specs.Option.{option_copied, option_map};
-ghost use Rattle.sv_commands.specs.Commands.{act_on_each, alone, count_of, digits_from, is_option, log_end, main_end, of_some, pid_of, reading, restarted, shutdown, signalled, status_of, step_view, steps_by, steps_of, steps_view, tail_by, tail_of, version};
+ghost use Rattle.sv_commands.specs.Commands.{act_on_each, alone, count_of, digits_from, is_option};
+ghost use Rattle.sv_commands.specs.Commands.{log_end, main_end, of_some, pid_of, reading};
+ghost use Rattle.sv_commands.specs.Commands.{restarted, shutdown, signalled, status_of, step_view};
+ghost use Rattle.sv_commands.specs.Commands.{steps_by, steps_of, steps_view, tail_by, tail_of};
+ghost use Rattle.sv_commands.specs.Commands.{version};
 
 use crate::act::Act;
 use crate::calls::{act_on, asked, last_bytes, last_bytes_of, one_name};

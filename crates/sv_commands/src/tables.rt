@@ -1,11 +1,15 @@
 //! The table of processes.
-ghost use Rattle.std.specs.Prelude.{◌≡◌, ◌++◌, ◌∷◌, ◌<◌, ◌^◌, [], IfOk, OnOk, filter, if◌then◌else◌};
+ghost use Rattle.std.specs.Prelude.{◌≡◌, ◌++◌, ◌∷◌, ◌<◌, ◌^◌, [], IfOk, OnOk, filter};
+ghost use Rattle.std.specs.Prelude.{if◌then◌else◌};
 ghost use Rattle.std.specs.List.{flat_map, list_any, repeat};
 ghost use Rattle.std.specs.Option.{option_map};
 ghost use Rattle.sv_out.specs.Patterns.{is_further};
 ghost use Rattle.sv_xmlcall.specs.Trees.{view, trees_view, members_view};
 ghost use Rattle.sv_commands.specs.declared.status.Status.TheVariants.{Done, NotFound, NotRunning};
-ghost use Rattle.sv_commands.specs.Tables.{are_running, finds_none, found, is_named, is_running, lines_of, listed, longest, missing_line, padded, process_in, process_line, process_of, processes_in, table_lines, table_of, table_shown, title, width};
+ghost use Rattle.sv_commands.specs.Tables.{are_running, finds_none, found, is_named, is_running};
+ghost use Rattle.sv_commands.specs.Tables.{lines_of, listed, longest, missing_line, padded};
+ghost use Rattle.sv_commands.specs.Tables.{process_in, process_line, process_of, processes_in};
+ghost use Rattle.sv_commands.specs.Tables.{table_lines, table_of, table_shown, title, width};
 
 use crate::lines::put_error;
 use crate::members::text_in;

@@ -5,14 +5,15 @@ use Rattle.sv_base.specs.Roster.{is_roster}
 use Rattle.sv_base.specs.declared.config.Config.{Config}
 use Rattle.sv_base.specs.declared.config.Host.{Host}
 use Rattle.sv_base.specs.declared.spec.GroupSpec.{GroupSpec}
-use Rattle.sv_conf.specs.Configuration.{with_included, all_supported, all_parts, all_groups, has_rpc, each_once, sorted_groups, with_groups, config_of, of_groups, of_parts, of_sections, configuration_of}
-use Rattle.sv_conf.specs.Includes.{sections_in, section_named, patterns_of}
-use Rattle.sv_conf.specs.ServerSections.{others_of, common_of}
-use Rattle.sv_conf.specs.declared.fault.ConfFault.{ConfFault}
-use Rattle.sv_conf.specs.declared.fault.ConfFault.TheVariants.{TooMany}
-use Rattle.sv_conf.specs.declared.server.Others.{Others}
+use Rattle.sv_conf.specs.Configuration.{all_groups, has_rpc, each_once, sorted_groups, ◌>>=◌, with_groups, config_of, of_groups, of_parts, of_sections, configuration_of}
+use Rattle.sv_programs.specs.Programs.{all_parts}
+use Rattle.sv_sections.specs.AllSections.{with_included, all_supported}
+use Rattle.sv_sections.specs.Includes.{sections_in, section_named, patterns_of}
+use Rattle.sv_sections.specs.ServerSections.{others_of, common_of}
+use Rattle.sv_sections.specs.declared.fault.ConfFault.{ConfFault}
+use Rattle.sv_sections.specs.declared.fault.ConfFault.TheVariants.{TooMany}
+use Rattle.sv_sections.specs.declared.server.Others.{Others}
 use Rattle.sv_ini.specs.declared.section.Section.{Section}
-use Rattle.sv_keys.specs.Judged.{and_then}
 
 -- what is given is accepted with a roster only
 abbrev Good : Result Config ConfFault → Type 0
@@ -20,7 +21,7 @@ Good (Ok config) = is_roster config.groups ≡ true
 Good (Err fault) = Unit {0}
 
 -- a step after which all is good
-then_good : {A : Type 0} (first : Result A ConfFault) (next : A → Result Config ConfFault) → ((x : A) → Good (next x)) → Good (and_then first next)
+then_good : {A : Type 0} (first : Result A ConfFault) (next : A → Result Config ConfFault) → ((x : A) → Good (next x)) → Good (first >>= next)
 then_good (Ok x) next good = good x
 then_good (Err fault) next good = tt
 

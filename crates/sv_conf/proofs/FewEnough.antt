@@ -6,14 +6,15 @@ use Rattle.sv_base.specs.Order.{is_rising, are_distinct}
 use Rattle.sv_base.specs.Roster.{is_membership, are_memberships, fit_within, is_roster}
 use Rattle.sv_base.specs.declared.spec.GroupSpec.{GroupSpec}
 use Rattle.sv_base.specs.declared.spec.Spec.{Spec}
-use Rattle.sv_conf.proofs.Sorting.{and_true, has_name, are_new, total, sorted_is_good, total_sorted, all_sorted, new_map}
-use Rattle.sv_conf.specs.Configuration.{twice_at, first_twice, twice_in, or_twice, each_once, sorted_from, sorted_members, with_sorted, sorted_groups, with_groups, config_of, of_groups}
-use Rattle.sv_keys.specs.Judged.{and_then}
+use Rattle.sv_conf.specs.Configuration.{twice_at, first_twice, twice_in, or_twice, each_once, ◌>>=◌, sorted_members, with_sorted, sorted_groups, with_groups, config_of, of_groups}
 use Rattle.sv_conf.specs.Limits.{processes, AreTooMany}
-use Rattle.sv_conf.specs.ServerSections.{or_else}
-use Rattle.sv_conf.specs.declared.fault.ConfFault.{ConfFault}
-use Rattle.sv_conf.specs.declared.fault.ConfFault.TheVariants.{TooMany}
-use Rattle.sv_conf.specs.declared.server.Others.{Others}
+use Rattle.sv_ranks.proofs.Placing.{and_true, has_name, length_total, total}
+use Rattle.sv_ranks.proofs.Sorting.{all_sorted, are_new, new_map, sorted_is_good, total_sorted}
+use Rattle.sv_ranks.specs.Ranks.{sorted_from}
+use Rattle.sv_sections.specs.ServerSections.{or_else}
+use Rattle.sv_sections.specs.declared.fault.ConfFault.{ConfFault}
+use Rattle.sv_sections.specs.declared.fault.ConfFault.TheVariants.{TooMany}
+use Rattle.sv_sections.specs.declared.server.Others.{Others}
 use Rattle.sv_base.specs.declared.config.Config.{Config}
 
 abbrev group_name : GroupSpec → List ℕ
@@ -41,7 +42,7 @@ membership_sorted members e =
     and_true (is_rising (λ (m : Spec). m.priority) (λ (m : Spec). m.name) (sorted_members members)) (are_distinct (λ (m : Spec). m.name) (sorted_members members)) good.0 good.1
 
 once_by : (named : Bool) (text : List ℕ) (inner : Option (List ℕ)) (rest : Result Bool ConfFault)
-    → and_then (or_twice (if named then Some text else inner)) (λ good. rest) ≡ Ok true → (named ≡ false) × (inner ≡ None) × (rest ≡ Ok true)
+    → (or_twice (if named then Some text else inner) >>= (λ good. rest)) ≡ Ok true → (named ≡ false) × (inner ≡ None) × (rest ≡ Ok true)
 once_by true text inner rest e = cc
 once_by false text (Some name) rest e = cc
 once_by false text None rest e = (refl, refl, e)
@@ -56,10 +57,6 @@ groups_new before (g ∷ groups) e =
     let rest = groups_new (before ++ g ∷ []) groups parts.2 in
     let members = membership_sorted g.members parts.1 in
     (rw (parts.0, rest.0) refl, and_true (is_membership (sorted_members g.members)) (are_memberships (map with_sorted groups)) members rest.1)
-
-length_total : {A : Type 0} (xs : List A) → total (λ (x : A). 1) xs ≡ length xs
-length_total [] = refl
-length_total (x ∷ xs) = omega (arith, length_total xs)
 
 length_sorted_members : (members : List Spec) → length (sorted_members members) ≡ length members
 length_sorted_members members =

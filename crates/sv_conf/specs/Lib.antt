@@ -1,10 +1,3 @@
 pub mod Configuration
-pub mod FaultTexts
-pub mod Homes
-pub mod HomesByName
-pub mod Includes
 pub mod Limits
-pub mod Processes
-pub mod SectionFaults
-pub mod ServerSections
 pub mod Titles

@@ -1,4 +1,5 @@
--- The titles of all sections, kept in a set. It has those that going through all sections would find.
+-- The titles of all sections, kept in a set. It has those that going through all sections would
+-- find.
 use Rattle.std.specs.Prelude.{◌≡◌, ℕ, List, Bool, ◌||◌, String}
 use Rattle.std.specs.HashSet.{HashSet, contains_text}
 use Rattle.std.specs.List.{list_any}
@@ -12,8 +13,10 @@ has_title title sections = list_any (λ (s : Section). bytes_eq s.name title) se
 module _ {Y S : Type 0} where
   -- one title more, and the same for all others
   abbrev pub AddsTitle : HashSet (String Y) S → HashSet (String Y) S → List ℕ → Type 0
-  AddsTitle old new title = (other : List ℕ) → contains_text new other ≡ (bytes_eq title other || contains_text old other)
+  AddsTitle old new title =
+      (other : List ℕ) → contains_text new other ≡ (bytes_eq title other || contains_text old other)
 
   -- the set has the titles of these sections
   abbrev pub HasTitles : HashSet (String Y) S → List Section → Type 0
-  HasTitles titles sections = (title : List ℕ) → contains_text titles title ≡ has_title title sections
+  HasTitles titles sections =
+      (title : List ℕ) → contains_text titles title ≡ has_title title sections

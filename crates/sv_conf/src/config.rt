@@ -3,15 +3,11 @@
 ghost use Rattle.std.specs.Prelude.{◌≡◌, Ok, IfOk, IfErr};
 ghost use Rattle.std.specs.List.{list_any};
 ghost use Rattle.std.specs.Str.{bytes_eq};
-ghost use Rattle.sv_conf.specs.Configuration.{has_rpc, with_groups, config_of, of_groups, of_parts, of_sections, configuration_of};
-ghost use Rattle.sv_conf.specs.FaultTexts.{IsFault};
+ghost use Rattle.sv_conf.specs.Configuration.{has_rpc, with_groups, config_of, of_groups, of_parts};
+ghost use Rattle.sv_conf.specs.Configuration.{of_sections, configuration_of};
+ghost use Rattle.sv_sections.specs.FaultTexts.{IsFault};
 
-use crate::fault::ConfFault;
 use crate::groups::{all_groups, each_once, sorted_groups};
-use crate::includes::{patterns_of, section_named, sections_in};
-use crate::programs::all_parts;
-use crate::sections::{all_supported, with_included};
-use crate::server::{Others, common_of, others_of};
 use std::alloc::Global;
 use sv_base::bytes::Bytes;
 use sv_base::config::{Config, Host};
@@ -21,6 +17,11 @@ use sv_base::spec::GroupSpec;
 use sv_base::text::Text;
 use sv_ini::section::Section;
 use sv_keys::server_keys::Daemon;
+use sv_programs::all_parts;
+use sv_sections::fault::ConfFault;
+use sv_sections::includes::{patterns_of, section_named, sections_in};
+use sv_sections::sections::{all_supported, with_included};
+use sv_sections::server::{Others, common_of, others_of};
 
 /// The configuration that a text tells, with the texts that it includes, each with the name of its file, on a host.
 /// Refused with the first fault: the text itself, its `include` section, the included texts, sections that aren't

@@ -1,32 +1,30 @@
 //! The groups of a configuration, each name once, in start order.
 
-ghost use Rattle.std.specs.Prelude.{◌≡◌, ◌++◌, ◌≤◌, [], Ok, true, false, IfOk, IfErr, OnOk, List, ℤ, ℕ, map, length, codes};
-ghost use Rattle.sv_conf.specs.FaultTexts.{IsFault};
-ghost use Rattle.sv_conf.specs.SectionFaults.{or_section_fault};
+ghost use Rattle.std.specs.Prelude.{◌≡◌, ◌++◌, [], Ok, true, false, IfOk, IfErr, OnOk, List};
+ghost use Rattle.std.specs.Prelude.{map, codes};
+ghost use Rattle.sv_sections.specs.FaultTexts.{IsFault};
+ghost use Rattle.sv_sections.specs.SectionFaults.{or_section_fault};
 ghost use Rattle.sv_keys.specs.KeyTable.{priority};
 ghost use Rattle.sv_keys.specs.Rows.{needed};
 ghost use Rattle.sv_keys.specs.Values.{programs_of};
 ghost use Rattle.sv_keys.specs.declared.key.Key.TheVariants as key;
 ghost use Rattle.sv_keys.specs.ProgramNames.{titled};
-ghost use Rattle.std.specs.List.{find, list_any, prefix_len};
+ghost use Rattle.std.specs.List.{find, list_any};
 ghost use Rattle.std.specs.Option.{option_map};
-ghost use Rattle.std.specs.Ordering.{is_lt};
 ghost use Rattle.std.specs.Str.{bytes_eq};
-ghost use Rattle.sv_base.specs.Order.{start_order};
 ghost use Rattle.sv_base.specs.declared.spec.GroupSpec.{GroupSpec};
 ghost use Rattle.sv_base.specs.declared.spec.Spec.{Spec};
 ghost use Rattle.sv_conf.specs.Titles.{has_title, AddsTitle, HasTitles};
-ghost use Rattle.sv_conf.specs.Configuration.{is_program, is_missing, missing_in, members_of, group_at, groups_by, groups_from, all_groups, twice_at, first_twice, twice_in, each_once, placed, sorted_from, sorted_members, with_sorted, sorted_groups};
+ghost use Rattle.sv_conf.specs.Configuration.{is_program, is_missing, missing_in, members_of};
+ghost use Rattle.sv_conf.specs.Configuration.{group_at, groups_by, groups_from, all_groups};
+ghost use Rattle.sv_conf.specs.Configuration.{twice_at, first_twice, twice_in, each_once};
+ghost use Rattle.sv_conf.specs.Configuration.{sorted_members, with_sorted, sorted_groups};
 
-use crate::fault::ConfFault;
-use crate::programs::named_section;
-use crate::section_faults::{must_have, section_fault};
 use std::alloc::{AllocError, Global};
 use std::collections::HashSet;
 use std::marker::Model;
 use sv_base::config::Host;
 use sv_base::items::Items;
-use sv_base::ranked::{Ranked, start_order};
 use sv_base::spec::{GroupSpec, Spec};
 use sv_base::text::Text;
 use sv_expand::names::Names;
@@ -38,6 +36,9 @@ use sv_keys::rows::needed;
 use sv_keys::table::priority;
 use sv_keys::titles::titled;
 use sv_keys::values::Programs;
+use sv_ranks::sorted;
+use sv_sections::fault::ConfFault;
+use sv_sections::section_faults::{check_name, must_have, section_fault};
 
 /// The sections of all texts, with their titles.
 #[derive(Drop)]
@@ -197,7 +198,7 @@ fn group_at(
         IsFault fault (group_at sections.now names.now title.now group.now keys.now parts)) }
 {
     must_have(alloc, title, Key::Programs, keys)?;
-    named_section(alloc, title, group)?;
+    check_name(alloc, title, group)?;
     let programs = programs_in(alloc, title, keys, names)?;
     let priority = priority_in(alloc, title, keys, names)?;
     missing_in(alloc, sections, group, programs.as_slice())?;
@@ -223,7 +224,8 @@ fn groups_by(
         ≡ Ok value) }
     ensures fault { IfErr result (λ fault.
         IsFault fault
-        (groups_by sections.now names.now section.now parts (titled (codes "group") section.now.name))) }
+        (groups_by sections.now names.now section.now parts
+        (titled (codes "group") section.now.name))) }
 {
     let title = section.name.as_str();
     let keys = section.keys.as_slice();
@@ -345,44 +347,14 @@ pub fn each_once(groups: &[GroupSpec]) -> Result<(), ConfFault>
     Ok(())
 }
 
-/// How many of these start before this one.
-fn place_for<T: Ranked>(done: &[T], one: &T) -> usize
-    ensures value { result ≡ prefix_len (λ other. is_lt (start_order T.priority_of T.name_of other one.now)) done.now }
-    ensures within { result ≤ length done.now }
-{
-    done.iter()
-        .take_while(|other| start_order(*other, one).is_lt())
-        .count()
-}
-
-#[tactic(auto, unfolding(crate::specs::Configuration::placed))]
-fn place<T: Ranked + Drop>(done: &mut Vec<T>, one: T) -> Result<(), AllocError>
-    ensures { OnOk result (done.new.items ≡ placed T.priority_of T.name_of done.old.items one) }
-{
-    let place = place_for(done.as_slice(), &one);
-    done.insert(place, one)?;
-    Ok(())
-}
-
-#[tactic(auto, using(crate::proofs::Folds::sorted_more))]
-fn sorted<T: Ranked + Drop>(alloc: Global, items: Items<T>) -> Result<Vec<T>, AllocError>
-    ensures { IfOk result (λ sorted. sorted.items ≡ sorted_from T.priority_of T.name_of [] items) }
-{
-    let mut done = Vec::new(alloc);
-    for one in items.into_vec() {
-        place(&mut done, one)?;
-    }
-    Ok(done)
-}
-
 #[tactic(auto, unfolding(crate::specs::Configuration::with_sorted))]
-fn with_sorted(alloc: Global, group: GroupSpec) -> Result<GroupSpec, AllocError>
+fn with_sorted(group: GroupSpec) -> Result<GroupSpec, AllocError>
     ensures { IfOk result (λ made. made ≡ with_sorted group) }
 {
     Ok(GroupSpec {
         name: group.name,
         priority: group.priority,
-        members: Items::from_vec(sorted(alloc, group.members)?),
+        members: Items::from_vec(sorted(group.members)?),
         pool: group.pool,
     })
 }
@@ -394,7 +366,7 @@ pub fn sorted_groups(alloc: Global, groups: Items<GroupSpec>) -> Result<Vec<Grou
 {
     let mut made = Items::new(alloc);
     for group in groups.into_vec() {
-        made.push(with_sorted(alloc, group)?)?;
+        made.push(with_sorted(group)?)?;
     }
-    sorted(alloc, made)
+    sorted(made)
 }

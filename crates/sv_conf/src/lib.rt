@@ -5,16 +5,7 @@
 #![tactic(auto)]
 
 pub mod config;
-pub mod fault;
 mod groups;
-mod homes;
-pub mod includes;
 pub mod laws;
-mod processes;
-mod programs;
-mod section_faults;
-mod sections;
-mod server;
 
-pub use crate::fault::ConfFault;
 pub use crate::laws::{accepted_groups_are_a_roster, too_many_exactly_past_the_limits};

@@ -7,7 +7,8 @@ use Rattle.std.specs.Ordering.{is_lt}
 use Rattle.sv_base.specs.Order.{start_order}
 use Rattle.sv_base.specs.declared.spec.GroupSpec.{GroupSpec}
 use Rattle.sv_base.specs.declared.spec.Spec.{Spec}
-use Rattle.sv_conf.specs.Configuration.{placed, sorted_from, sorted_members, sorted_groups, with_sorted}
+use Rattle.sv_conf.specs.Configuration.{sorted_members, sorted_groups, with_sorted}
+use Rattle.sv_ranks.specs.Ranks.{placed, sorted_from}
 
 module _ {A : Type 0} (priority : A → ℤ) (name : A → List ℕ) where
   one_placed : (done : List A) (one : A) → IsPermutation (done ++ one ∷ []) (placed priority name done one)

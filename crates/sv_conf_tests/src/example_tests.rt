@@ -7,8 +7,8 @@ use sv_base::bytes::Bytes;
 use sv_base::config::{Config, Host};
 use sv_base::text::Text;
 use sv_conf::config::config;
-use sv_conf::fault::ConfFault;
-use sv_conf::includes::includes;
+use sv_sections::fault::ConfFault;
+use sv_sections::includes::includes;
 
 /// A configuration with all kinds of sections, and the text that it includes.
 const SAMPLE: &str = r#"[unix_http_server]

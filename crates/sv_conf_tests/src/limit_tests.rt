@@ -6,9 +6,9 @@ use std::process::Abort;
 use sv_base::bytes::Bytes;
 use sv_base::config::Config;
 use sv_base::text::Text;
-use sv_conf::ConfFault;
 use sv_conf::config::config;
-use sv_conf::includes::includes;
+use sv_sections::ConfFault;
+use sv_sections::includes::includes;
 
 /// The most bytes of a text.
 const MOST: usize = 1_048_576;

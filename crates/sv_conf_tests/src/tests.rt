@@ -9,7 +9,7 @@ use sv_base::moment::Moment;
 use sv_base::spec::{GroupSpec, LogSpec, PoolSpec, Spec};
 use sv_base::text::Text;
 use sv_conf::config::config;
-use sv_conf::fault::ConfFault;
+use sv_sections::fault::ConfFault;
 
 /// A text and included texts after `$`, a question, and its answer, or the fault. `~` stands for a line feed, a
 /// backquote for a tab, `^` for U+0085, `@` for

@@ -1,6 +1,6 @@
 -- What is left of step 5 at a question, as the question and how it goes on; and how each part of step 5 goes on from another.
 use Rattle.std.proofs.Common.{◌≡◌, Option, Some, None, List, drop, refl, sym, ap, ◌∙◌}
-use Rattle.sv_answers.specs.declared.read.Reading.{Reading}
+use Rattle.sv_answers.specs.declared.read.LogRead.{LogRead}
 use Rattle.sv_base.specs.declared.ids.LinkId.{LinkId}
 use Rattle.sv_core.specs.Calling.{acts_left, asks_read, calls_all, calls_left, checks_wait, ends_call}
 use Rattle.sv_core.specs.Left.{acting, acting_answered, acting_of, asking, asking_answered, asking_of, calling, calling_answered, clearing, going, going_answered, going_of, question_called, question_wanted, reading, serving, serving_answered, starting, wanting, wanting_answered}
@@ -186,7 +186,7 @@ pub acting_of_wanting : (link : LinkId) (p : Acting) (k : World → Turn) (w : W
 unfolding acting_of acting
 acting_of_wanting link p k w = refl
 
-pub reading_some : (link : LinkId) (p : Reading) (k : World → Turn) (w : World)
+pub reading_some : (link : LinkId) (p : LogRead) (k : World → Turn) (w : World)
     → reading link (Some p) k w ≡ asks_read link p w k
 unfolding reading
 reading_some link p k w = refl
@@ -196,7 +196,7 @@ pub calling_act : (link : LinkId) (p : Acting) (k : World → Turn) (w : World)
 unfolding calling
 calling_act link p k w = refl
 
-pub calling_read : (link : LinkId) (p : Reading) (k : World → Turn) (w : World)
+pub calling_read : (link : LinkId) (p : LogRead) (k : World → Turn) (w : World)
     → calling link (Some (calling_is.Read p)) k w ≡ reading link (Some p) k w
 unfolding calling
 calling_read link p k w = refl

@@ -35,9 +35,9 @@ use Rattle.sv_core.specs.declared.part.Followed.TheVariants as followed
 use Rattle.sv_core.specs.declared.part.Question.{Question}
 use Rattle.sv_core.specs.declared.part.Reply.{Reply}
 use Rattle.sv_core.specs.declared.place.Paused.{Paused}
-use Rattle.sv_core.specs.declared.place.Place.{Place}
+use Rattle.sv_core.specs.declared.place.Suspended.{Suspended}
 use Rattle.sv_core.specs.declared.place.Serving.{Serving}
-use Rattle.sv_core.specs.declared.place.Place.TheVariants.{Stimulus, Pass, Links as InLinks}
+use Rattle.sv_core.specs.declared.place.Suspended.TheVariants.{Stimulus, Pass, Links as InLinks}
 use Rattle.sv_links.specs.LinkBook.{ended}
 use Rattle.sv_links.specs.LinkBook.Ending.{Failed as Lost}
 use Rattle.sv_links.specs.StandsFor as kept_links
@@ -58,14 +58,14 @@ links_ask : (p : Serving) (w : World)
 unfolding rest
 links_ask p w = serving_asks p after_links w
 
-pub world_of_rest : (place : Option Place) (w : World) → world_of (rest place w) ≡ w
+pub world_of_rest : (place : Option Suspended) (w : World) → world_of (rest place w) ≡ w
 unfolding rest paused swept asks
 world_of_rest None w = refl
 world_of_rest (Some (Stimulus p)) w = refl
 world_of_rest (Some (Pass p)) w = refl
 world_of_rest (Some (InLinks p)) w = ap world_of (links_ask p w)
 
-pub asked_of_rest : (place : Option Place) (w : World) → asked_of (rest place w) ≡ question_of place
+pub asked_of_rest : (place : Option Suspended) (w : World) → asked_of (rest place w) ≡ question_of place
 unfolding rest paused swept asks
 asked_of_rest None w = refl
 asked_of_rest (Some (Stimulus p)) w = refl
@@ -211,12 +211,12 @@ pub halted_is : (x : Machine) (m : Model) → StandsFor x m → has_halted x ≡
 halted_is x m s = rw (s.whole, now_is x m s) refl
 
 -- where a turn was left is no part of the world
-pub left_there : (y : Machine) (older : List Order) (place : Option Place) (w : World) → Shows y older w
+pub left_there : (y : Machine) (older : List Order) (place : Option Suspended) (w : World) → Shows y older w
     → Shows (record y { hand = record y.hand { place = place } }) older w
 left_there y older place w s = record { pools = s.pools; runs = s.runs; is = s.is; pools_kept = s.pools_kept; runs_kept = s.runs_kept; streams = s.streams; streams_kept = s.streams_kept; links = s.links; links_kept = s.links_kept; calls = s.calls; calls_kept = s.calls_kept }
 
 -- a turn begins
-pub turn_begun : (cause : Cause) (at : ℕ) (place : Option Place) (w : World)
+pub turn_begun : (cause : Cause) (at : ℕ) (place : Option Suspended) (w : World)
     → turn cause at (world_of (rest place w)) ≡ applies cause (rewinds at (announces w)) after_stimulus
 turn_begun cause at place w = ap (turn cause at) (world_of_rest place w)
 
@@ -307,7 +307,7 @@ nothing_answered_at x older reply w s =
     record { world = w; shows = left_there x older None w s; is = nothing_answered reply w }
 
 -- a question that is refused is answered by its refusal
-pub refused_is : (place : Option Place) (w : World)
+pub refused_is : (place : Option Suspended) (w : World)
     → come (rest place w) (followed.Failed RefusesQuestion) ≡ come (rest place w) (followed.Answered (refusal_of (question_of place)))
 unfolding rest paused swept asks
 refused_is None w = refl
@@ -318,14 +318,14 @@ refused_is (Some (InLinks p)) w =
     ∙ sym (ap (λ t. come t (followed.Answered (refusal (question_called p.asking.going.calling)))) (links_ask p w))
 
 -- a failure that changes nothing
-pub nothing_failed : (place : Option Place) (w : World) → come (rest place w) (followed.Failed ChangesNothing) ≡ rest place w
+pub nothing_failed : (place : Option Suspended) (w : World) → come (rest place w) (followed.Failed ChangesNothing) ≡ rest place w
 unfolding rest paused swept asks
 nothing_failed None w = refl
 nothing_failed (Some (Stimulus p)) w = refl
 nothing_failed (Some (Pass p)) w = refl
 nothing_failed (Some (InLinks p)) w = ap (λ t. come t (followed.Failed ChangesNothing)) (links_ask p w) ∙ sym (links_ask p w)
 
-pub never_failed : (place : Option Place) (w : World) → come (rest place w) (followed.Failed NeverFails) ≡ rest place w
+pub never_failed : (place : Option Suspended) (w : World) → come (rest place w) (followed.Failed NeverFails) ≡ rest place w
 unfolding rest paused swept asks
 never_failed None w = refl
 never_failed (Some (Stimulus p)) w = refl
@@ -333,7 +333,7 @@ never_failed (Some (Pass p)) w = refl
 never_failed (Some (InLinks p)) w = ap (λ t. come t (followed.Failed NeverFails)) (links_ask p w) ∙ sym (links_ask p w)
 
 -- a write that failed
-pub stdin_failed : (place : Option Place) (run : Run) (w : World)
+pub stdin_failed : (place : Option Suspended) (run : Run) (w : World)
     → come (rest place w) (followed.Failed (LosesStdin run)) ≡ rest place (loses_stdin run w)
 unfolding rest paused swept asks
 stdin_failed None run w = refl
@@ -343,7 +343,7 @@ stdin_failed (Some (InLinks p)) run w =
     ap (λ t. come t (followed.Failed (LosesStdin run))) (links_ask p w) ∙ sym (links_ask p (loses_stdin run w))
 
 -- an order of a link that failed
-pub link_failed : (place : Option Place) (link : LinkId) (w : World)
+pub link_failed : (place : Option Suspended) (link : LinkId) (w : World)
     → come (rest place w) (followed.Failed (LosesLink link)) ≡ rest place (record w { links = ended link Lost w.links })
 unfolding rest paused swept asks
 link_failed None link w = refl

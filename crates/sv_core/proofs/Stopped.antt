@@ -12,7 +12,7 @@ use Rattle.sv_core.specs.Stops.{signals, stops, stops_from}
 use Rattle.sv_core.specs.World.{World}
 use Rattle.sv_core.specs.declared.course.Course.{Course}
 use Rattle.sv_core.specs.declared.machine.Machine.{Machine}
-use Rattle.sv_groups.specs.StartOrder.{span_of}
+use Rattle.sv_groups.specs.StartOrder.{next_to_stop, span_of}
 use Rattle.sv_out.specs.declared.order.Order.{Order}
 
 -- what is made of a world is made of one that the machine shows
@@ -35,19 +35,19 @@ stops_next from left w some =
     let size : left ≡ suc (left - 1) = omega arith in ap (λ n. stops_from from n w) size
 
 -- the last group is told, and when it is at rest the plan goes on with the one before
-pub plan_next : (left : ℕ) (w : World) → 0 < left
-    → has_come_to_rest (left - 1) (tells_group (left - 1) w) ≡ true
-    → moves_on left w ≡ moves_on (left - 1) (drops_group (left - 1) (tells_group (left - 1) w))
-plan_next left w some rests =
-    let size : left ≡ suc (left - 1) = omega arith in
+pub plan_next : (left last : ℕ) (w : World) → 0 < left → last ≡ next_to_stop left
+    → has_come_to_rest last (tells_group last w) ≡ true
+    → moves_on left w ≡ moves_on last (drops_group last (tells_group last w))
+plan_next left last w some is rests =
+    let size : left ≡ suc last = omega (arith, some, is) in
     ap (λ n. moves_on n w) size ∙ rw rests refl
 
 -- else the plan waits
-pub plan_waits : (left : ℕ) (w : World) → 0 < left
-    → has_come_to_rest (left - 1) (tells_group (left - 1) w) ≡ false
-    → moves_on left w ≡ tells_group (left - 1) w
-plan_waits left w some rests =
-    let size : left ≡ suc (left - 1) = omega arith in
+pub plan_waits : (left last : ℕ) (w : World) → 0 < left → last ≡ next_to_stop left
+    → has_come_to_rest last (tells_group last w) ≡ false
+    → moves_on left w ≡ tells_group last w
+plan_waits left last w some is rests =
+    let size : left ≡ suc last = omega (arith, some, is) in
     ap (λ n. moves_on n w) size ∙ rw rests refl
 
 -- whether a group has come to rest is told by the machine's children

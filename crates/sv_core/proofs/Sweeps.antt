@@ -9,7 +9,7 @@ use Rattle.sv_core.specs.Sweeps.{IsMet, PassBy, Turn, sweeps, sweeps_all, meets,
 use Rattle.sv_core.specs.World.{World}
 use Rattle.sv_core.specs.declared.machine.Machine.{Machine}
 use Rattle.sv_core.specs.declared.place.Asked.{Asked}
-use Rattle.sv_core.specs.declared.place.Stop.{Stop}
+use Rattle.sv_core.specs.declared.place.Pause.{Pause}
 use Rattle.sv_out.specs.declared.order.Order.{Order}
 
 sweep_next : (news : News) (n place : ℕ) (w : World) (k : World → Turn) → place < n
@@ -115,14 +115,14 @@ sweep_went_on y z older news n place t found k below is at met = record {
 }
 
 -- what is left of a sweep that stopped is kept
-pub sweep_kept : (y : Machine) (older : List Order) (news : News) (to : ℕ) (t : Turn) (found : Option Stop) (stop : Stop)
+pub sweep_kept : (y : Machine) (older : List Order) (news : News) (to : ℕ) (t : Turn) (found : Option Pause) (stop : Pause)
     (k : World → Turn) → found ≡ Some stop
     → At y older t (swept news to found k) → At y older t (paused (Some (record { news = news; to = to; stop = stop })) k)
 unfolding paused
 sweep_kept y older news to t found stop k is at =
     record { world = at.world; shows = at.shows; is = at.is ∙ ap (λ o. swept news to o k at.world) is }
 
-pub sweep_over : (y : Machine) (older : List Order) (news : News) (to : ℕ) (t : Turn) (found : Option Stop) (k : World → Turn)
+pub sweep_over : (y : Machine) (older : List Order) (news : News) (to : ℕ) (t : Turn) (found : Option Pause) (k : World → Turn)
     → found ≡ None → At y older t (swept news to found k) → At y older t (paused None k)
 unfolding paused swept
 sweep_over y older news to t found k is at =

@@ -1,14 +1,18 @@
--- The calls of the links (the manual's chapter on its XML-RPC interface): a call is answered at once, once a part of a log was
--- read, or once its requests are carried out and its wait has ended. Several calls in one are begun one after the other, each
--- once the one before is answered.
-use Rattle.std.specs.Prelude.{ℕ, zero, suc, pos, List, length, Option, Some, None, Bool, true, false, if◌then◌else◌}
-use Rattle.sv_answers.specs.Served.{Request as Heard, Refuses as Refused, Calls as Asks, is_several, no_parts, parts_in, reads_back, said, subject_of}
+-- The calls of the links (the manual's chapter on its XML-RPC interface): a call is answered at
+-- once, once a part of a log was read, or once its requests are carried out and its wait has ended.
+-- Several calls in one are begun one after the other, each once the one before is answered.
+use Rattle.std.specs.Prelude.{ℕ, zero, suc, pos, List, length, Option, Some, None, Bool, true}
+use Rattle.std.specs.Prelude.{false, if◌then◌else◌}
+use Rattle.sv_answers.specs.Served.{Request as Heard, Refuses as Refused, Calls as Asks, is_several}
+use Rattle.sv_answers.specs.Served.{no_parts, parts_in, reads_back, said, subject_of}
 use Rattle.sv_answers.specs.declared.read.FileReply.{FileReply}
 use Rattle.sv_answers.specs.declared.read.FileReply.TheVariants as file
-use Rattle.sv_answers.specs.declared.read.Reading.{Reading}
+use Rattle.sv_answers.specs.declared.read.LogRead.{LogRead}
 use Rattle.sv_answers.specs.declared.sent.Sent.{Sent}
 use Rattle.sv_base.specs.declared.ids.LinkId.{LinkId}
-use Rattle.sv_calls.specs.CallBook.{AnswerTree, acting, answer_at, answered, begun, end_at, ended, new_call, new_several, part_at, part_taken, parts_left, waiting_at}
+use Rattle.sv_calls.specs.CallBook.{AnswerTree, acting, answer_at, answered, begun, end_at, ended}
+use Rattle.sv_calls.specs.CallBook.{new_call, new_several, part_at, part_taken, parts_left}
+use Rattle.sv_calls.specs.CallBook.{waiting_at}
 use Rattle.sv_core.specs.Requests.{does_all}
 use Rattle.sv_core.specs.Sweeps.{Turn}
 use Rattle.sv_core.specs.Sweeps.Turn.{Ask}
@@ -64,7 +68,8 @@ replies_if link (Some answer) w = replies link (said answer.close answer.reply) 
 -- the call of a link is answered; of several calls in one the answers are gathered first
 abbrev pub answers_call : LinkId → Reply → World → World
 answers_call link reply w =
-    replies_if link (answer_at link reply w.calls) (record w { calls = answered link reply w.calls })
+    replies_if link (answer_at link reply w.calls)
+    (record w { calls = answered link reply w.calls })
 
 -- several calls in one are answered, once all of them were
 abbrev pub ends_call : LinkId → World → World
@@ -99,18 +104,19 @@ file_reply reply_is.Missing = file.Missing
 file_reply reply = file.Failed
 
 -- a part of a log was read for the call of a link
-abbrev pub read_answered : LinkId → Reading → Outcome → World → World
+abbrev pub read_answered : LinkId → LogRead → Outcome → World → World
 read_answered link reading reply w = answers_call link (reads_back reading (file_reply reply)) w
 
 -- it was asked for
-unfoldable pub asks_read : LinkId → Reading → World → (World → Turn) → Turn
+unfoldable pub asks_read : LinkId → LogRead → World → (World → Turn) → Turn
 asks_read link reading w k =
     Ask w (question.Read reading.span.length) (λ v reply. k (read_answered link reading reply v))
 
 -- a part of a log is to be read
-abbrev pub reads : LinkId → Reading → World → (World → Turn) → Turn
+abbrev pub reads : LinkId → LogRead → World → (World → Turn) → Turn
 reads link reading w k =
-    asks_read link reading (gives (order.ReadFile reading.file reading.span.start reading.span.length) w) k
+    asks_read link reading
+    (gives (order.ReadFile reading.file reading.span.start reading.span.length) w) k
 
 -- so many requests of the call of a link are carried out, and then its wait is looked at
 abbrev pub acts_left : ℕ → LinkId → World → (World → Turn) → Turn
@@ -132,14 +138,16 @@ comes_of link subject (planned_is.Reads file span shape) w k =
 
 -- by the table of methods
 abbrev pub calls : LinkId → CallTree → World → (World → Turn) → Turn
-calls link call w k = comes_of link (subject_of call.params) (planned (scene_of w) call w.moment) w k
+calls link call w k =
+    comes_of link (subject_of call.params) (planned (scene_of w) call w.moment) w k
 
 -- ---- several calls in one
 
 -- a part is a call, or stands for a fault
 abbrev pub begins_part : LinkId → PartTree → World → (World → Turn) → Turn
 begins_part link (Calls call) w k = calls link call w k
-begins_part link (Refuses number content) w k = k (answers_call link (Faults (pos number) content) w)
+begins_part link (Refuses number content) w k =
+    k (answers_call link (Faults (pos number) content) w)
 
 -- if there is one
 abbrev pub begins_part_if : LinkId → Option PartTree → World → (World → Turn) → Turn
@@ -173,7 +181,8 @@ goes_on link w k = calls_parts link (checks_wait link w) k
 -- one call is begun; nothing is left of it after its answer
 abbrev pub begins_one : LinkId → Bool → CallTree → World → (World → Turn) → Turn
 begins_one link close call w k =
-    calls link call (record w { calls = begun link (new_call close) w.calls }) (λ v. calls_left zero link v k)
+    calls link call (record w { calls = begun link (new_call close) w.calls })
+    (λ v. calls_left zero link v k)
 
 -- several calls in one are begun; without parts they are answered by a fault
 abbrev pub begins_several : LinkId → Bool → Option (List PartTree) → World → (World → Turn) → Turn

@@ -1,5 +1,5 @@
--- The deeds of a list of inputs: the joined orders of the machine. An input that isn't accepted gives no orders and
--- changes nothing.
+-- The deeds of a list of inputs: the joined orders of the machine. An input that isn't accepted
+-- gives no orders and changes nothing.
 use Rattle.std.specs.Prelude.{List, [], ◌∷◌, ◌++◌, if◌then◌else◌}
 use Rattle.sv_core.specs.MachineState.{Model, accepts, next, orders}
 use Rattle.sv_out.specs.declared.input.Input.{Input}

@@ -1,5 +1,5 @@
--- What becomes an event: it is offered to each pool, and what full pools drop for it is reported (the manual's chapter on
--- events).
+-- What becomes an event: it is offered to each pool, and what full pools drop for it is reported
+-- (the manual's chapter on events).
 use Rattle.std.specs.Prelude.{ℕ, Option, Some, None, true, if◌then◌else◌}
 use Rattle.sv_base.specs.declared.kind.Kind.{Kind}
 use Rattle.sv_base.specs.declared.kind.Kind.TheVariants as kind
@@ -33,7 +33,8 @@ offers_tick kind (Some when) w = offers kind (fact.Tick when) w
 abbrev pub announces : World → World
 announces w =
     if w.course.announced then w
-    else offers_change kind.SupervisorStateChangeRunning (record w { course = record w.course { announced = true } })
+    else offers_change kind.SupervisorStateChangeRunning
+    (record w { course = record w.course { announced = true } })
 
 -- step 3: the ticks of 5, 60 and 3,600 seconds, in this order, since the clock was last looked at
 abbrev pub ticks : World → World

@@ -1,9 +1,12 @@
 -- What it means that an order couldn't be carried out.
-use Rattle.std.specs.Prelude.{ℕ, List, [], ◌∷◌, Option, Some, None, Bool, true, false, ◌+◌, ◌-◌, ◌^◌, ◌%◌, codes}
+use Rattle.std.specs.Prelude.{ℕ, List, [], ◌∷◌, Option, Some, None, Bool, true, false, ◌+◌, ◌-◌}
+use Rattle.std.specs.Prelude.{◌^◌, ◌%◌, codes}
 use Rattle.sv_core.specs.Listening.{loses_stdin}
 use Rattle.sv_core.specs.World.{World}
 use Rattle.sv_core.specs.declared.failure.Failure.{Failure}
-use Rattle.sv_core.specs.declared.failure.Failure.TheVariants.{NeverFails, ChangesNothing, LosesStdin, LosesLink, RefusesQuestion}
+use Rattle.sv_core.specs.declared.failure.Failure.TheVariants.{NeverFails, ChangesNothing}
+use Rattle.sv_core.specs.declared.failure.Failure.TheVariants.{LosesStdin, LosesLink}
+use Rattle.sv_core.specs.declared.failure.Failure.TheVariants.{RefusesQuestion}
 use Rattle.sv_core.specs.declared.part.Followed.{Followed}
 use Rattle.sv_core.specs.declared.part.Followed.TheVariants as followed
 use Rattle.sv_core.specs.declared.part.Question.{Question}
@@ -15,9 +18,9 @@ use Rattle.sv_links.specs.LinkBook.Ending.{Failed as Lost}
 use Rattle.sv_out.specs.declared.order.Order.{Order}
 use Rattle.sv_out.specs.declared.order.Order.TheVariants as order
 
--- a report and the halt are carried out by nobody; a question is refused where it fails; a write that fails closes the
--- stdin of its run; a link of which an order fails is over; a signal that doesn't get through changes nothing, and an order
--- about a file neither
+-- a report and the halt are carried out by nobody; a question is refused where it fails; a write
+-- that fails closes the stdin of its run; a link of which an order fails is over; a signal that
+-- doesn't get through changes nothing, and an order about a file neither
 abbrev pub failure_of : Order → Failure
 failure_of (order.State group name from to) = NeverFails
 failure_of (order.Dropped pool serial poolserial) = NeverFails
@@ -66,6 +69,7 @@ abbrev pub failures_told : Option Failure → List Followed
 failures_told None = []
 failures_told (Some failure) = followed.Failed failure ∷ []
 
--- how far after the order numbered `first` the order numbered `number` is; numbers are taken modulo 2^64
+-- how far after the order numbered `first` the order numbered `number` is; numbers are taken modulo
+-- 2^64
 abbrev pub behind : ℕ → ℕ → ℕ
 behind first number = (number + (2 ^ 64 - first)) % 2 ^ 64

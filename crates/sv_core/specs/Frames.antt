@@ -1,4 +1,5 @@
--- What a step of a turn may change; all else is as it was. And what it makes of the world that the machine shows.
+-- What a step of a turn may change; all else is as it was. And what it makes of the world that the
+-- machine shows.
 use Rattle.std.specs.Prelude.{◌≡◌, List}
 use Rattle.sv_core.specs.StandsFor.{At, Shows}
 use Rattle.sv_core.specs.Sweeps.{Turn}
@@ -9,7 +10,8 @@ use Rattle.sv_out.specs.declared.order.Order.{Order}
 -- events are offered, logs written to, and orders given
 abbrev pub GivesOrders : Machine → Machine → Type 0
 GivesOrders old new =
-    new ≡ record old { pools = new.pools; sizes = new.sizes; hand = record old.hand { given = new.hand.given } }
+    new ≡ record old
+    { pools = new.pools; sizes = new.sizes; hand = record old.hand { given = new.hand.given } }
 
 -- listeners are heard as well, or sent to
 abbrev pub HearsListeners : Machine → Machine → Type 0
@@ -117,7 +119,9 @@ GoesOn old new = new ≡ record old {
 abbrev pub Makes : (World → World) → Machine → Machine → Type 0
 Makes f old new = (older : List Order) (w : World) → Shows old older w → Shows new older (f w)
 
--- a step that may ask goes from a world that was shown to one that is shown now, with this left of it
-abbrev pub Stops : (World → (World → Turn) → Turn) → ((World → Turn) → World → Turn) → Machine → Machine → Type 0
+-- a step that may ask goes from a world that was shown to one that is shown now, with this left of
+-- it
+abbrev pub Stops : (World → (World → Turn) → Turn) → ((World → Turn) → World → Turn) → Machine
+    → Machine → Type 0
 Stops step left old new = (older : List Order) (w : World) (k : World → Turn)
     → Shows old older w → At new older (step w k) (left k)

@@ -1,6 +1,8 @@
--- Step 7 of a turn, the pools hand out: each listener that is READY and whose process is RUNNING gets the event that waits
--- first in its pool, in start order (the manual's chapter on events, "Event Listener Notification Protocol").
-use Rattle.std.specs.Prelude.{ℕ, zero, suc, ◌++◌, Option, Some, None, Bool, true, false, ◌+◌, ◌-◌, length, slice_get, if◌then◌else◌}
+-- Step 7 of a turn, the pools hand out: each listener that is READY and whose process is RUNNING
+-- gets the event that waits first in its pool, in start order (the manual's chapter on events,
+-- "Event Listener Notification Protocol").
+use Rattle.std.specs.Prelude.{ℕ, zero, suc, ◌++◌, Option, Some, None, Bool, true, false, ◌+◌, ◌-◌}
+use Rattle.std.specs.Prelude.{length, slice_get, if◌then◌else◌}
 use Rattle.sv_base.specs.declared.ids.Run.{Run}
 use Rattle.sv_base.specs.declared.state.State.{State}
 use Rattle.sv_base.specs.declared.state.State.TheVariants.{Running}

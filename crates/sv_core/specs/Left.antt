@@ -1,10 +1,12 @@
--- What is left of step 5 where it stopped at a question: from the request that asked outwards to the links. And how each goes on
--- with the answer.
+-- What is left of step 5 where it stopped at a question: from the request that asked outwards to
+-- the links. And how each goes on with the answer.
 use Rattle.std.specs.Prelude.{Option, Some, None, drop}
-use Rattle.sv_answers.specs.declared.read.Reading.{Reading}
+use Rattle.sv_answers.specs.declared.read.LogRead.{LogRead}
 use Rattle.sv_base.specs.declared.ids.LinkId.{LinkId}
-use Rattle.sv_core.specs.Calling.{acts_left, asks_read, calls_all, calls_left, checks_wait, ends_call, read_answered}
-use Rattle.sv_core.specs.Requests.{asks_clear, asks_start, clear_answered, clears_all, does_all, start_answered}
+use Rattle.sv_core.specs.Calling.{acts_left, asks_read, calls_all, calls_left, checks_wait}
+use Rattle.sv_core.specs.Calling.{ends_call, read_answered}
+use Rattle.sv_core.specs.Requests.{asks_clear, asks_start, clear_answered, clears_all, does_all}
+use Rattle.sv_core.specs.Requests.{start_answered}
 use Rattle.sv_core.specs.Serving.{gives_more, serves_all, serves_asks, serves_left}
 use Rattle.sv_core.specs.Sweeps.{Turn}
 use Rattle.sv_core.specs.World.{World}
@@ -52,7 +54,7 @@ acting_of link None k w = k w
 acting_of link (Some p) k w = acting link (Some p) (λ v. k (checks_wait link v)) w
 
 -- of a read
-unfoldable pub reading : LinkId → Option Reading → (World → Turn) → World → Turn
+unfoldable pub reading : LinkId → Option LogRead → (World → Turn) → World → Turn
 reading link None k w = k w
 reading link (Some p) k w = asks_read link p w k
 

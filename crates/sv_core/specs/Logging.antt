@@ -1,4 +1,5 @@
--- What is written to log files: lines of the daemon's own, and what processes wrote (the manual's chapter on logging).
+-- What is written to log files: lines of the daemon's own, and what processes wrote (the manual's
+-- chapter on logging).
 use Rattle.std.specs.Prelude.{ℕ, List, [], ◌∷◌, ◌++◌, Option, Some, None}
 use Rattle.sv_base.specs.declared.spec.LogSpec.{LogSpec}
 use Rattle.sv_core.specs.World.{World}
@@ -11,7 +12,8 @@ use Rattle.sv_out.specs.declared.order.Order.TheVariants as order
 
 -- a piece is added to a log, if it has a file
 abbrev pub logs : LogSpec → List ℕ → World → World
-logs log piece w = record w { sizes = logged log piece w.sizes; given = w.given ++ log_orders log piece w.sizes }
+logs log piece w =
+    record w { sizes = logged log piece w.sizes; given = w.given ++ log_orders log piece w.sizes }
 
 -- bytes that may be there are added to a log
 abbrev pub logs_if : LogSpec → Option (List ℕ) → World → World

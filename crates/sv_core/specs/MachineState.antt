@@ -1,5 +1,6 @@
 -- The machine: its state, which inputs it accepts, and what comes next.
-use Rattle.std.specs.Prelude.{ℕ, List, [], ◌∷◌, ◌++◌, Option, Some, None, Bool, true, false, ◌&&◌, not, nat_lt, is_none, is_some, length, drop, map, slice_get, ◌^◌, ◌%◌}
+use Rattle.std.specs.Prelude.{ℕ, List, [], ◌∷◌, ◌++◌, Option, Some, None, Bool, true, false, ◌&&◌}
+use Rattle.std.specs.Prelude.{not, nat_lt, is_none, is_some, length, drop, map, slice_get, ◌^◌, ◌%◌}
 use Rattle.std.specs.List.{list_all}
 use Rattle.sv_base.specs.declared.config.Config.{Config}
 use Rattle.sv_base.specs.declared.config.Host.{Host}
@@ -37,9 +38,9 @@ pub record Begin : Type 0 where
   pub at : ℕ
   pub cause : Cause
 
--- the state: the world when the turn in hand began, what began it, and what followed since: answers and failed orders;
--- how many orders had been given before the last input that wasn't a failed order; and the numbers of the orders that
--- failed since
+-- the state: the world when the turn in hand began, what began it, and what followed since: answers
+-- and failed orders; how many orders had been given before the last input that wasn't a failed
+-- order; and the numbers of the orders that failed since
 pub record Model : Type 0 where
   pub base : World
   pub begun : Option Begin
@@ -89,17 +90,19 @@ opening config sizes host = resting (record {
   given = [];
 })
 
--- the failure of the order of this number, where it was given since the last input that wasn't a failed order
+-- the failure of the order of this number, where it was given since the last input that wasn't a
+-- failed order
 abbrev pub failure_named : Model → ℕ → Option Failure
 failure_named m number =
     slice_get (map failure_of (drop m.since (now m).given)) (behind (m.since % 2 ^ 64) number)
 
--- the order of this number can be named now: it is one of those, it can fail, and its number is above each that failed
+-- the order of this number can be named now: it is one of those, it can fail, and its number is
+-- above each that failed
 abbrev pub can_be_named : Model → ℕ → Bool
 can_be_named m number = can_fail (failure_named m number) && list_all (λ n. nat_lt n number) m.named
 
--- what is asked of the number of a link: whether it is the next, whether a link of it was opened, and whether a piece of
--- that may come
+-- what is asked of the number of a link: whether it is the next, whether a link of it was opened,
+-- and whether a piece of that may come
 pub record LinkTests : Type 0 where
   pub next : LinkId → Bool
   pub opened : LinkId → Bool
@@ -117,8 +120,8 @@ tests_of links = record {
 abbrev pub is_issued_run : Run → ℕ → Bool
 is_issued_run run next_run = nat_lt 0 run.0 && nat_lt run.0 next_run
 
--- a run that a cause names was issued, and a link opened; a link is opened by the next number and where there is a server, and
--- a piece of it comes where its last order is More
+-- a run that a cause names was issued, and a link opened; a link is opened by the next number and
+-- where there is a server, and a piece of it comes where its last order is More
 abbrev pub may_begin : Cause → ℕ → LinkTests → List ServerSpec → Bool
 may_begin (cause_is.Exit run how) next_run links servers = is_issued_run run next_run
 may_begin (cause_is.Heard run stream bytes) next_run links servers = is_issued_run run next_run
@@ -130,8 +133,8 @@ may_begin (cause_is.Brought link bytes) next_run links servers =
 may_begin (cause_is.LinkEnd link) next_run links servers = links.opened link
 may_begin cause next_run links servers = true
 
--- a turn begins while no question stands, and may begin; an answer is accepted where it fits the question that stands; and a
--- failed order where it can be named
+-- a turn begins while no question stands, and may begin; an answer is accepted where it fits the
+-- question that stands; and a failed order where it can be named
 abbrev pub is_accepted : Part → Option Question → (Cause → Bool) → (ℕ → Bool) → Bool
 is_accepted (Begins at cause) asked may named = is_none asked && may cause
 is_accepted (Answers reply) asked may named = fits asked reply

@@ -1,5 +1,7 @@
--- What becomes of one child in a turn, and which orders that gives (the manual's chapter on subprocesses).
-use Rattle.std.specs.Prelude.{ℕ, List, [], ◌∷◌, ◌++◌, Option, Some, None, Bool, false, is_some, ◌+◌, codes}
+-- What becomes of one child in a turn, and which orders that gives (the manual's chapter on
+-- subprocesses).
+use Rattle.std.specs.Prelude.{ℕ, List, [], ◌∷◌, ◌++◌, Option, Some, None, Bool, false, is_some, ◌+◌}
+use Rattle.std.specs.Prelude.{codes}
 use Rattle.sv_base.specs.declared.ids.Run.{Run}
 use Rattle.sv_base.specs.declared.signal.Signal.{Signal}
 use Rattle.sv_base.specs.declared.state.How.{How}
@@ -33,12 +35,13 @@ says stimulus c w = said_at stimulus c w.course.mood w.moment w.children
 abbrev pub changed : ℕ → Option Answer → World → World
 changed c answer w = record w { children = moved c answer w.children }
 
--- an edge that it took is reported, then its line written to the main log, and then its event offered; the process ended so
--- where an exit was the cause, and had this number before
+-- an edge that it took is reported, then its line written to the main log, and then its event
+-- offered; the process ended so where an exit was the cause, and had this number before
 abbrev pub goes_edge : Option How → ℕ → ℕ → Edge → World → World
 goes_edge how c pid edge w =
     let told = record w { given = w.given ++ reports_at w.children c (Some edge ∷ []) } in
-    offers_if (kind_of edge.to) (fact_at w.children c pid edge) (notes_if (line_at w.children c how edge) told)
+    offers_if (kind_of edge.to) (fact_at w.children c pid edge)
+    (notes_if (line_at w.children c how edge) told)
 
 -- if it took one
 abbrev pub goes_edge_if : Option How → ℕ → ℕ → Option Edge → World → World
@@ -69,7 +72,8 @@ kills c signal group w = record w { given = w.given ++ kill_at w.children c sign
 
 -- a spawn is ordered, and the run numbered
 abbrev pub orders_spawn : SpawnOrder → World → World
-orders_spawn spawning w = record w { given = w.given ++ order.Spawn spawning ∷ []; next_run = w.next_run + 1 }
+orders_spawn spawning w =
+    record w { given = w.given ++ order.Spawn spawning ∷ []; next_run = w.next_run + 1 }
 
 -- what a child is told of its spawn, with the fault text of each refusal
 abbrev pub told_of : Reply → Told
@@ -93,7 +97,9 @@ started_as reply = None
 abbrev pub begins_output_of : ℕ → Run → ℕ → Option Member → World → World
 begins_output_of c run pid None w = w
 begins_output_of c run pid (Some m) w = record w {
-  streams = output.begun run c pid m.spec.redirect_stderr m.spec.stdout.capture m.spec.stderr.capture w.streams;
+  streams =
+      output.begun run c pid m.spec.redirect_stderr m.spec.stdout.capture m.spec.stderr.capture
+      w.streams;
 }
 
 -- the process of a place
@@ -114,7 +120,8 @@ begins_as c run (Some pid) w = begins_run c run pid w
 
 -- the spawn of a child is answered, after which nothing is to be done
 abbrev pub answered : ℕ → Run → Reply → World → World
-answered c run reply w = begins_as c run (started_as reply) (comes None (stimulus_told run (told_of reply)) c w)
+answered c run reply w =
+    begins_as c run (started_as reply) (comes None (stimulus_told run (told_of reply)) c w)
 
 -- no number is left for a run: the spawn fails by itself
 abbrev pub fails : ℕ → World → World

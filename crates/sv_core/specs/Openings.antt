@@ -1,5 +1,5 @@
--- Links are opened at the servers, and all that are open are closed in the end (the manual's chapter on its configuration file,
--- the sections of the two HTTP servers).
+-- Links are opened at the servers, and all that are open are closed in the end (the manual's
+-- chapter on its configuration file, the sections of the two HTTP servers).
 use Rattle.std.specs.Prelude.{List, [], ◌∷◌, Option, Some, None, Bool, true, false, find}
 use Rattle.std.specs.Option.{option_map}
 use Rattle.sv_base.specs.declared.config.Place.{Place}

@@ -1,9 +1,11 @@
--- What processes write on their pipes: bytes for their logs, messages between the tokens of a capture, and what a listener
--- says (the manual's chapters on logging and on events).
+-- What processes write on their pipes: bytes for their logs, messages between the tokens of a
+-- capture, and what a listener says (the manual's chapters on logging and on events).
 use Rattle.std.specs.Prelude.{ℕ, List, [], ◌∷◌, Option, Some, None, if◌then◌else◌}
 use Rattle.sv_base.specs.declared.ids.Run.{Run}
 use Rattle.sv_base.specs.declared.kind.Kind.{Kind}
-use Rattle.sv_base.specs.declared.kind.Kind.TheVariants.{ProcessCommunicationStderr, ProcessCommunicationStdout, ProcessLogStderr, ProcessLogStdout}
+use Rattle.sv_base.specs.declared.kind.Kind.TheVariants.{ProcessCommunicationStderr}
+use Rattle.sv_base.specs.declared.kind.Kind.TheVariants.{ProcessCommunicationStdout}
+use Rattle.sv_base.specs.declared.kind.Kind.TheVariants.{ProcessLogStderr, ProcessLogStdout}
 use Rattle.sv_base.specs.declared.spec.LogSpec.{LogSpec}
 use Rattle.sv_base.specs.declared.spec.Spec.{Spec}
 use Rattle.sv_base.specs.declared.state.Stream.{Stream}
@@ -36,7 +38,8 @@ abbrev pub message_kind : Stream → Kind
 message_kind Out = ProcessCommunicationStdout
 message_kind Err = ProcessCommunicationStderr
 
--- what the event of a logged piece tells of a process, whose run has this number, where its log asks for it
+-- what the event of a logged piece tells of a process, whose run has this number, where its log
+-- asks for it
 abbrev pub log_fact : ℕ → Stream → Option Member → List ℕ → Option Fact
 log_fact pid channel None bytes = None
 log_fact pid channel (Some m) bytes =
@@ -57,13 +60,16 @@ logs_of channel (Some m) bytes w = logs (log_of channel m.spec) bytes w
 abbrev pub logs_at : Stream → ℕ → List ℕ → World → World
 logs_at channel c bytes w = logs_of channel (member_at w.children c) bytes w
 
--- a part of what a process wrote: bytes are logged, and then offered as an event; a message is offered alone
+-- a part of what a process wrote: bytes are logged, and then offered as an event; a message is
+-- offered alone
 abbrev pub takes_part : Owner → Stream → Part → World → World
 takes_part owner channel (part.Logged bytes) w =
-    offers_if (log_kind channel) (log_fact owner.pid channel (member_at w.children owner.child) bytes)
+    offers_if (log_kind channel)
+    (log_fact owner.pid channel (member_at w.children owner.child) bytes)
     (logs_at channel owner.child bytes w)
 takes_part owner channel (part.Message bytes) w =
-    offers_if (message_kind channel) (message_fact owner.pid (member_at w.children owner.child) bytes) w
+    offers_if (message_kind channel)
+    (message_fact owner.pid (member_at w.children owner.child) bytes) w
 
 -- one after the other
 abbrev pub takes_parts : Owner → Stream → List Part → World → World
@@ -81,7 +87,8 @@ abbrev pub says_on : Stream → Run → List ℕ → World → World
 says_on Out run bytes w = hears run bytes w
 says_on Err run bytes w = w
 
--- bytes come on a pipe of a run: what they decide is logged and told, and then a listener's tokens are taken
+-- bytes come on a pipe of a run: what they decide is logged and told, and then a listener's tokens
+-- are taken
 abbrev pub hears_on : Stream → Run → List ℕ → World → World
 hears_on pipe run bytes w =
     says_on pipe run bytes
@@ -94,4 +101,7 @@ abbrev pub ends_pipe : Run → Stream → World → World
 ends_pipe run pipe w =
     takes_all (output.owner_in run w.streams) (output.channel_in run pipe w.streams)
     (output.last_parts run pipe w.streams)
-    (record w { runs = runs_of.pipe_ended run pipe w.runs; streams = output.pipe_ended run pipe w.streams })
+    (record w {
+      runs = runs_of.pipe_ended run pipe w.runs;
+      streams = output.pipe_ended run pipe w.streams;
+    })

@@ -1,4 +1,5 @@
--- What an input is to the machine: it begins a turn, it answers a question, or it says that an order failed.
+-- What an input is to the machine: it begins a turn, it answers a question, or it says that an
+-- order failed.
 use Rattle.std.specs.Prelude.{Bool, true, false, Option, Some, length, nat_le}
 use Rattle.sv_core.specs.declared.part.Cause.TheVariants as cause
 use Rattle.sv_core.specs.declared.part.Part.{Part}
@@ -8,7 +9,10 @@ use Rattle.sv_core.specs.declared.part.Question.TheVariants as question
 use Rattle.sv_core.specs.declared.part.Reply.{Reply}
 use Rattle.sv_core.specs.declared.part.Reply.TheVariants as reply
 use Rattle.sv_out.specs.declared.input.Input.{Input}
-use Rattle.sv_out.specs.declared.input.Input.TheVariants.{Tick, Exit, Out, OutEnd, Open, Piece, LinkEnd, Start, Stop, Signal, Pid, NoFile, NotExecutable, Refused, Read, Done, Missing, Names, Size, Failed}
+use Rattle.sv_out.specs.declared.input.Input.TheVariants.{Tick, Exit, Out, OutEnd, Open, Piece}
+use Rattle.sv_out.specs.declared.input.Input.TheVariants.{LinkEnd, Start, Stop, Signal, Pid, NoFile}
+use Rattle.sv_out.specs.declared.input.Input.TheVariants.{NotExecutable, Refused, Read, Done}
+use Rattle.sv_out.specs.declared.input.Input.TheVariants.{Missing, Names, Size, Failed}
 
 -- the moment and the cause of a turn; an answer; or the number of the order that failed
 abbrev pub part_of : Input → Part
@@ -33,9 +37,9 @@ part_of (Names names) = Answers (reply.Names names)
 part_of (Size size) = Answers (reply.Size size)
 part_of (Failed number) = Fails number
 
--- an answer fits the question that stands: these four fit a spawn; no more bytes than were asked for, or that there is no such
--- file, a read; and that it is empty now, or that there is no such file, the clear of a file. Names and a size fit none, since
--- nobody asks for them
+-- an answer fits the question that stands: these four fit a spawn; no more bytes than were asked
+-- for, or that there is no such file, a read; and that it is empty now, or that there is no such
+-- file, the clear of a file. Names and a size fit none, since nobody asks for them
 abbrev pub fits : Option Question → Reply → Bool
 fits (Some question.Spawn) (reply.Started pid) = true
 fits (Some question.Spawn) reply.NoFile = true

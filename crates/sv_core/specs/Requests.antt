@@ -1,7 +1,9 @@
--- What a method that acts asks the daemon to do: its requests are carried out one after the other (the manual's chapter on its
--- XML-RPC interface, process control). The start of a process and the clearing of a file are questions, at which the turn stops;
--- what goes wrong with one is told to the call.
-use Rattle.std.specs.Prelude.{ℕ, zero, suc, List, [], ◌∷◌, Option, Some, None, Bool, true, false, nat_le, slice_get, if◌then◌else◌}
+-- What a method that acts asks the daemon to do: its requests are carried out one after the other
+-- (the manual's chapter on its XML-RPC interface, process control). The start of a process and the
+-- clearing of a file are questions, at which the turn stops; what goes wrong with one is told to
+-- the call.
+use Rattle.std.specs.Prelude.{ℕ, zero, suc, List, [], ◌∷◌, Option, Some, None, Bool, true, false}
+use Rattle.std.specs.Prelude.{nat_le, slice_get, if◌then◌else◌}
 use Rattle.sv_base.specs.declared.ids.LinkId.{LinkId}
 use Rattle.sv_base.specs.declared.ids.Run.{Run}
 use Rattle.sv_base.specs.declared.kind.Kind.TheVariants as kind
@@ -123,7 +125,8 @@ clear_setback reply = Some setback.NotCleared
 
 -- the clear of a file for the call of a link is answered
 abbrev pub clear_answered : LinkId → List ℕ → Reply → World → World
-clear_answered link file reply w = tells_call link (clear_setback reply) (empties_if file (is_empty reply) w)
+clear_answered link file reply w =
+    tells_call link (clear_setback reply) (empties_if file (is_empty reply) w)
 
 -- the clear of a file for the call of a link was asked for
 unfoldable pub asks_clear : LinkId → List ℕ → World → (World → Turn) → Turn

@@ -1,5 +1,6 @@
--- Step 5 of a turn: the links. The call in hand of a link goes on, and its requests are answered in the order in which they came
--- (RFC 9112, section 9.3). Where a call asks a question the turn stops.
+-- Step 5 of a turn: the links. The call in hand of a link goes on, and its requests are answered in
+-- the order in which they came (RFC 9112, section 9.3). Where a call asks a question the turn
+-- stops.
 use Rattle.std.specs.Prelude.{ℕ, zero, suc, List, [], ◌∷◌, Option, Some, None, if◌then◌else◌}
 use Rattle.sv_answers.specs.Served.{heard}
 use Rattle.sv_base.specs.declared.ids.LinkId.{LinkId}

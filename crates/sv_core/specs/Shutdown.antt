@@ -1,5 +1,5 @@
--- The end of the daemon (the manual's chapter on running supervisord, its signals): a signal begins it, the groups are
--- stopped one after the other, and when all are at rest the daemon halts.
+-- The end of the daemon (the manual's chapter on running supervisord, its signals): a signal begins
+-- it, the groups are stopped one after the other, and when all are at rest the daemon halts.
 use Rattle.std.specs.Prelude.{ℕ, zero, suc, [], ◌∷◌, ◌++◌, Bool, true, false, ◌||◌, if◌then◌else◌}
 use Rattle.sv_base.specs.declared.kind.Kind.TheVariants.{SupervisorStateChangeStopping}
 use Rattle.sv_base.specs.declared.signal.Signal.{Signal}
@@ -44,13 +44,15 @@ has_come_to_rest group w = are_at_rest (span_of group w.children.roster) w.child
 abbrev pub tells_group : ℕ → World → World
 tells_group group w =
     if w.course.is_told || has_come_to_rest group w then w
-    else stops_all (span_of group w.children.roster) (record w { course = record w.course { is_told = true } })
+    else stops_all (span_of group w.children.roster)
+    (record w { course = record w.course { is_told = true } })
 
 -- a group that is at rest is done with
 abbrev pub drops_group : ℕ → World → World
 drops_group left w = record w { course = record w.course { left = left; is_told = false } }
 
--- so many groups of the start order are left to be stopped: the last is told; when it is at rest, the one before
+-- so many groups of the start order are left to be stopped: the last is told; when it is at rest,
+-- the one before
 abbrev pub moves_on : ℕ → World → World
 moves_on zero w = w
 moves_on (suc left) w =
@@ -65,7 +67,8 @@ follows_plan w = if is_running w.course.mood then w else moves_on w.course.left 
 abbrev pub halts_after : ℕ → World → World
 halts_after zero w =
     let closed = closes_links w in
-    record closed { course = record closed.course { halted = true }; given = closed.given ++ order.Halt ∷ [] }
+    record closed
+    { course = record closed.course { halted = true }; given = closed.given ++ order.Halt ∷ [] }
 halts_after (suc left) w = w
 
 -- step 8: only while the daemon ends

@@ -1,5 +1,7 @@
 -- What the machine keeps, and which state of the model it stands for.
-use Rattle.std.specs.Prelude.{◌≡◌, ◌≤◌, ℕ, List, [], ◌++◌, Option, Some, None, Bool, true, false, not, ◌&&◌, if◌then◌else◌, nat_lt, length, drop, map, slice_get, ◌-◌, ◌+◌, ◌^◌, ◌%◌}
+use Rattle.std.specs.Prelude.{◌≡◌, ◌≤◌, ℕ, List, [], ◌++◌, Option, Some, None, Bool, true, false}
+use Rattle.std.specs.Prelude.{not, ◌&&◌, if◌then◌else◌, nat_lt, length, drop, map, slice_get, ◌-◌}
+use Rattle.std.specs.Prelude.{◌+◌, ◌^◌, ◌%◌}
 use Rattle.std.specs.List.{list_all}
 use Rattle.sv_calls.specs.CallBook.{CallBook}
 use Rattle.sv_calls.specs.StandsFor as kept_calls
@@ -24,9 +26,9 @@ use Rattle.sv_core.specs.declared.part.Cause.{Cause}
 use Rattle.sv_core.specs.declared.part.Cause.TheVariants as cause_is
 use Rattle.sv_core.specs.declared.place.Asked.{Asked}
 use Rattle.sv_core.specs.declared.place.Paused.{Paused}
-use Rattle.sv_core.specs.declared.place.Place.{Place}
-use Rattle.sv_core.specs.declared.place.Place.TheVariants.{Stimulus, Pass, Links as InLinks}
-use Rattle.sv_core.specs.declared.place.Stop.{Stop}
+use Rattle.sv_core.specs.declared.place.Suspended.{Suspended}
+use Rattle.sv_core.specs.declared.place.Suspended.TheVariants.{Stimulus, Pass, Links as InLinks}
+use Rattle.sv_core.specs.declared.place.Pause.{Pause}
 use Rattle.sv_links.specs.LinkBook.{LinkRecord}
 use Rattle.sv_links.specs.StandsFor as kept_links
 use Rattle.sv_links.specs.StandsFor.{follows, has_opened, may_bring}
@@ -40,8 +42,10 @@ use Rattle.sv_runs.specs.StandsFor as kept_runs
 use Rattle.sv_streams.specs.StandsFor as kept_streams
 use Rattle.sv_streams.specs.StreamBook.{StreamRecord}
 
--- the world that the machine's fields show, after these older orders and with these pools, runs, output, links and calls
-abbrev pub shown : Machine → List Order → EventPools → RunBook → List StreamRecord → List LinkRecord → CallBook → World
+-- the world that the machine's fields show, after these older orders and with these pools, runs,
+-- output, links and calls
+abbrev pub shown : Machine → List Order → EventPools → RunBook → List StreamRecord → List LinkRecord
+    → CallBook → World
 shown x older pools runs streams links calls = record {
   config = x.config;
   pid = x.pid;
@@ -59,9 +63,9 @@ shown x older pools runs streams links calls = record {
   given = older ++ x.hand.given.items;
 }
 
--- the machine shows this world, after these older orders: of its pools it keeps the events that wait or are held, of its
--- runs those that aren't over, of what these wrote what isn't decided, of its links those that are open or have a request in
--- hand, and the calls in hand
+-- the machine shows this world, after these older orders: of its pools it keeps the events that
+-- wait or are held, of its runs those that aren't over, of what these wrote what isn't decided, of
+-- its links those that are open or have a request in hand, and the calls in hand
 pub record Shows (x : Machine) (older : List Order) (w : World) : Type 0 where
   pub pools : EventPools
   pub runs : RunBook
@@ -87,7 +91,7 @@ stopped None k w = k w
 stopped (Some asked) k w = asks asked.child asked.run w k
 
 -- what is left of a sweep up to before this place, that stopped at a question, or that is done
-unfoldable pub swept : News → ℕ → Option Stop → (World → Turn) → World → Turn
+unfoldable pub swept : News → ℕ → Option Pause → (World → Turn) → World → Turn
 swept news to None k w = k w
 swept news to (Some stop) k w =
     asks stop.asked.child stop.asked.run w (λ v. sweeps news (to - stop.next) stop.next v k)
@@ -98,14 +102,14 @@ paused None k w = k w
 paused (Some p) k w = swept p.news p.to (Some p.stop) k w
 
 -- what is left of the turn
-unfoldable pub rest : Option Place → World → Turn
+unfoldable pub rest : Option Suspended → World → Turn
 rest None w = Done w
 rest (Some (Stimulus p)) w = paused (Some p) after_stimulus w
 rest (Some (Pass p)) w = paused (Some p) after_pass w
 rest (Some (InLinks p)) w = serving (Some p) after_links w
 
 -- the question that stands
-abbrev pub question_of : Option Place → Option Question
+abbrev pub question_of : Option Suspended → Option Question
 question_of None = None
 question_of (Some (Stimulus p)) = Some question.Spawn
 question_of (Some (Pass p)) = Some question.Spawn
@@ -185,7 +189,8 @@ pub record Takes (x : Machine) (input : Input) (given : List Order) (y : Machine
   pub idle : y.hand.given.items ≡ []
   pub notes : Notes x.numbers y.numbers (part_of input) given
   pub turn : (older : List Order) (w : World) → x.hand.given.items ≡ [] → Shows x older w
-      → At y (older ++ given) (turn_after x.numbers (part_of input) (rest x.hand.place w)) (rest y.hand.place)
+      → At y (older ++ given) (turn_after x.numbers (part_of input) (rest x.hand.place w))
+      (rest y.hand.place)
 
 -- the order of this number can be named now
 abbrev pub can_name : Numbers → ℕ → Bool

@@ -16,7 +16,9 @@ signals None c w = w
 
 -- the child of a place takes the step of a stop
 abbrev pub stops : ℕ → World → World
-stops c w = let answer = says (stimulus_of news_is.Stop) c w in signals (deed_of (step_of answer)) c (moves None c answer w)
+stops c w =
+    let answer = says (stimulus_of news_is.Stop) c w in signals (deed_of (step_of answer)) c
+    (moves None c answer w)
 
 -- so many children from this place on are stopped, the last of them first
 abbrev pub stops_from : ℕ → ℕ → World → World

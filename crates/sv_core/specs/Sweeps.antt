@@ -1,5 +1,7 @@
--- News on their way over children that are side by side, in start order. A spawn is a question, at which the turn stops.
-use Rattle.std.specs.Prelude.{◌≡◌, ◌≤◌, ◌<◌, ℕ, zero, suc, Option, Some, None, Bool, true, false, not, ◌+◌, ◌-◌, length, nat_le, if◌then◌else◌}
+-- News on their way over children that are side by side, in start order. A spawn is a question, at
+-- which the turn stops.
+use Rattle.std.specs.Prelude.{◌≡◌, ◌≤◌, ◌<◌, ℕ, zero, suc, Option, Some, None, Bool, true, false}
+use Rattle.std.specs.Prelude.{not, ◌+◌, ◌-◌, length, nat_le, if◌then◌else◌}
 use Rattle.sv_base.specs.declared.ids.Run.{Run}
 use Rattle.sv_child.specs.declared.step.ChildDeed.{ChildDeed}
 use Rattle.sv_child.specs.declared.step.ChildDeed.TheVariants.{Spawn, Kill}
@@ -19,7 +21,8 @@ use Rattle.sv_groups.specs.declared.order.Span.{Span}
 use Rattle.sv_lines.specs.EdgeLines.{how_of, killing_at}
 use Rattle.sv_out.specs.declared.order.SpawnOrder.{SpawnOrder}
 
--- a turn that is done, or that stopped at a question of a kind and goes on with its answer, in the world as it is then
+-- a turn that is done, or that stopped at a question of a kind and goes on with its answer, in the
+-- world as it is then
 pub data Turn : Type 0 where
   Done : World → Turn
   Ask : World → Question → (World → Reply → Turn) → Turn
@@ -36,7 +39,8 @@ spawns_as (Some spawning) c w k = asks c (record { 0 = w.next_run }) (orders_spa
 -- the spawn of a child is ordered, while a number is left for its run
 abbrev pub spawns : ℕ → World → (World → Turn) → Turn
 spawns c w k =
-    if nat_le w.next_run 4294967295 then spawns_as (spawn_at w.children c w.next_run) c w k else k (fails c w)
+    if nat_le w.next_run 4294967295 then spawns_as (spawn_at w.children c w.next_run) c w k
+    else k (fails c w)
 
 -- a signal is sent, or the spawn ordered
 abbrev pub carries_out : ChildDeed → ℕ → World → (World → Turn) → Turn

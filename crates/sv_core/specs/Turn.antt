@@ -1,5 +1,5 @@
--- One turn of the machine, in its named steps. A step works on the world and hands it to what comes next; a question
--- stops the turn until its answer comes.
+-- One turn of the machine, in its named steps. A step works on the world and hands it to what comes
+-- next; a question stops the turn until its answer comes.
 use Rattle.std.specs.Prelude.{ℕ, List, [], ◌∷◌, Bool, Option, Some, None, is_some, if◌then◌else◌}
 use Rattle.sv_child.specs.Moves.{is_running}
 use Rattle.sv_children.specs.Rewound.{crew_rewound}
@@ -18,7 +18,9 @@ use Rattle.sv_core.specs.Sweeps.{Turn, sweeps_all, sweeps_over}
 use Rattle.sv_core.specs.Sweeps.Turn.{Done, Ask}
 use Rattle.sv_core.specs.World.{World}
 use Rattle.sv_core.specs.declared.failure.Failure.{Failure}
-use Rattle.sv_core.specs.declared.failure.Failure.TheVariants.{NeverFails, ChangesNothing, LosesStdin, LosesLink, RefusesQuestion}
+use Rattle.sv_core.specs.declared.failure.Failure.TheVariants.{NeverFails, ChangesNothing}
+use Rattle.sv_core.specs.declared.failure.Failure.TheVariants.{LosesStdin, LosesLink}
+use Rattle.sv_core.specs.declared.failure.Failure.TheVariants.{RefusesQuestion}
 use Rattle.sv_core.specs.declared.part.Cause.{Cause}
 use Rattle.sv_core.specs.declared.part.Cause.TheVariants as cause_is
 use Rattle.sv_core.specs.declared.part.Followed.{Followed}
@@ -32,7 +34,8 @@ use Rattle.sv_links.specs.LinkBook.Ending.{Ended}
 abbrev pub rewinds : ℕ → World → World
 rewinds at w = record w { children = crew_rewound at w.children; moment = at }
 
--- step 2, the stimulus: what began the turn is applied. While the daemon ends, the console starts nothing.
+-- step 2, the stimulus: what began the turn is applied. While the daemon ends, the console starts
+-- nothing.
 abbrev pub applies : Cause → World → (World → Turn) → Turn
 applies cause_is.Tick w k = k w
 applies (cause_is.Exit run how) w k = k (exits run how w)
@@ -42,7 +45,8 @@ applies (cause_is.Opened link side) w k = k (opens link side w)
 applies (cause_is.Brought link bytes) w k = k (record w { links = fed link bytes w.links })
 applies (cause_is.LinkEnd link) w k = k (record w { links = ended link Ended w.links })
 applies (cause_is.Start name) w k =
-    if is_running w.course.mood then sweeps_over news_is.Start (span_meant name w.children.roster) w k else k w
+    if is_running w.course.mood
+    then sweeps_over news_is.Start (span_meant name w.children.roster) w k else k w
 applies (cause_is.Stop name) w k = k (stops_all (span_meant name w.children.roster) w)
 applies (cause_is.Signal signal) w k = k (heeds signal w)
 

@@ -10,10 +10,11 @@ use Rattle.sv_pools.specs.EventPools.{EventPools}
 use Rattle.sv_runs.specs.RunBook.{RunBook}
 use Rattle.sv_streams.specs.StreamBook.{StreamRecord}
 
--- the configuration, and the daemon's process number; the groups with their children, both in start order; what the
--- daemon is about; the number that the next run gets; the moment of the turn, and that at which the clock's ticks were
--- last looked at; the known sizes of files, by their names; the event pools; the runs of the processes, and what they wrote;
--- the links of clients, and their calls in hand; and all orders that were given since the beginning
+-- the configuration, and the daemon's process number; the groups with their children, both in start
+-- order; what the daemon is about; the number that the next run gets; the moment of the turn, and
+-- that at which the clock's ticks were last looked at; the known sizes of files, by their names;
+-- the event pools; the runs of the processes, and what they wrote; the links of clients, and their
+-- calls in hand; and all orders that were given since the beginning
 pub record World : Type 0 where
   pub config : Config
   pub pid : ℕ

@@ -4,9 +4,15 @@ ghost use Rattle.std.specs.Option.{option_map};
 ghost use Rattle.sv_answers.specs.Heard.{found_parts, request_view};
 ghost use Rattle.sv_answers.specs.Served.{parts_in};
 ghost use Rattle.sv_calls.specs.StandsFor.{answer_view};
-ghost use Rattle.sv_core.specs.Calling.{acts_for, acts_left, answers_call, answers_if, begins_call, begins_one, begins_part, begins_part_if, begins_several, calls, calls_all, calls_left, calls_next, calls_parts, checks_wait, comes_of, end_of_wait, ends_call, file_reply, goes_on, read_answered, reads, replies, replies_if, scene_of, takes_up};
+ghost use Rattle.sv_core.specs.Calling.{acts_for, acts_left, answers_call, answers_if, begins_call};
+ghost use Rattle.sv_core.specs.Calling.{begins_one, begins_part, begins_part_if, begins_several};
+ghost use Rattle.sv_core.specs.Calling.{calls, calls_all, calls_left, calls_next, calls_parts};
+ghost use Rattle.sv_core.specs.Calling.{checks_wait, comes_of, end_of_wait, ends_call, file_reply};
+ghost use Rattle.sv_core.specs.Calling.{goes_on, read_answered, reads, replies, replies_if};
+ghost use Rattle.sv_core.specs.Calling.{scene_of, takes_up};
 ghost use Rattle.sv_core.specs.Frames.{AnswersCalls, Makes, MovesOn, Stops};
-ghost use Rattle.sv_core.specs.Left.{acting_answered, acting_of, calling, calling_answered, going, going_answered, going_of, reading};
+ghost use Rattle.sv_core.specs.Left.{acting_answered, acting_of, calling, calling_answered, going};
+ghost use Rattle.sv_core.specs.Left.{going_answered, going_of, reading};
 ghost use Rattle.sv_core.specs.StandsFor.{Shows};
 ghost use Rattle.sv_core.specs.World.{World};
 ghost use Rattle.sv_methods.specs.MethodTable.{planned};
@@ -22,7 +28,7 @@ use crate::part::Reply;
 use crate::place::{Acting, Calling, Going};
 use std::alloc::AllocError;
 use sv_answers::{
-    FileReply, Heard, Reading, Sent, is_several, no_parts, parts_asked, read_back, say, subject_of,
+    FileReply, Heard, LogRead, Sent, is_several, no_parts, parts_asked, read_back, say, subject_of,
 };
 use sv_base::ids::LinkId;
 use sv_base::items::Items;
@@ -174,7 +180,7 @@ impl Machine {
     fn answer_read(
         &mut self,
         link: LinkId,
-        reading: &Reading,
+        reading: &LogRead,
         reply: Reply,
     ) -> Result<(), AllocError>
         ensures kept { AnswersCalls self.old self.new }
@@ -187,7 +193,7 @@ impl Machine {
     }
 
     /// A part of a log is asked for.
-    fn read(&mut self, link: LinkId, part: Reading) -> Result<Option<Reading>, AllocError>
+    fn read(&mut self, link: LinkId, part: LogRead) -> Result<Option<LogRead>, AllocError>
         ensures kept { AnswersCalls self.old self.new }
         ensures reads { IfOk result (λ left.
             Stops (reads link part) (reading link left) self.old self.new) }
@@ -261,7 +267,7 @@ impl Machine {
                 Some(acting) => Ok(Some(Calling::Act(acting))),
             },
             Planned::Read(file, span, shape) => {
-                let reading = Reading {
+                let reading = LogRead {
                     file,
                     span,
                     shape,

@@ -1,7 +1,8 @@
 //! What becomes an event: steps 0 and 3 of a turn, and the edges that children take.
 ghost use Rattle.std.specs.Prelude.{◌≡◌, IfOk, OnOk};
 ghost use Rattle.sv_child.specs.declared.step.Edge.{Edge};
-ghost use Rattle.sv_core.specs.Events.{announces, offers, offers_change, offers_if, offers_tick, ticks};
+ghost use Rattle.sv_core.specs.Events.{announces, offers, offers_change, offers_if, offers_tick};
+ghost use Rattle.sv_core.specs.Events.{ticks};
 ghost use Rattle.sv_core.specs.Frames.{ChangesCourse, GivesOrders, Makes};
 ghost use Rattle.sv_core.specs.Moves.{goes_edge, goes_edge_if, goes_edges};
 

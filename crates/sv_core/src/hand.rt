@@ -1,5 +1,5 @@
 //! The turn in hand.
-use crate::place::Place;
+use crate::place::Suspended;
 use sv_base::moment::Moment;
 use sv_out::order::Order;
 
@@ -9,7 +9,7 @@ pub struct Hand {
     /// Its moment.
     pub(crate) moment: Moment,
     /// Where it was left at a question.
-    pub(crate) place: Option<Place>,
+    pub(crate) place: Option<Suspended>,
     /// The orders of the input in hand.
     pub(crate) given: Vec<Order>,
 }

@@ -1,7 +1,8 @@
 //! Step 7 of a turn, the pools hand out.
 ghost use Rattle.std.specs.Prelude.{◌≡◌, List, OnOk, slice_get};
 ghost use Rattle.sv_core.specs.Frames.{HearsListeners, Makes};
-ghost use Rattle.sv_core.specs.HandingOut.{hands_out, hands_to, is_up, ready_of, ready_one, sends_to};
+ghost use Rattle.sv_core.specs.HandingOut.{hands_out, hands_to, is_up, ready_of, ready_one};
+ghost use Rattle.sv_core.specs.HandingOut.{sends_to};
 ghost use Rattle.sv_core.specs.StandsFor.{Shows};
 ghost use Rattle.sv_core.specs.World.{World};
 ghost use Rattle.sv_out.specs.declared.order.Order.{Order};

@@ -1,7 +1,9 @@
 //! What listeners say, and what becomes of the events that they hold.
 ghost use Rattle.std.specs.Prelude.{◌≡◌, OnOk};
 ghost use Rattle.sv_core.specs.Frames.{GivesOrders, HearsListeners, Makes, StartsRuns};
-ghost use Rattle.sv_core.specs.Listening.{exits, exits_of, gives_back, hears, id_of, is_done_with, loses_of, loses_stdin, takes_result, tells, tells_all, tells_by};
+ghost use Rattle.sv_core.specs.Listening.{exits, exits_of, gives_back, hears, id_of, is_done_with};
+ghost use Rattle.sv_core.specs.Listening.{loses_of, loses_stdin, takes_result, tells, tells_all};
+ghost use Rattle.sv_core.specs.Listening.{tells_by};
 
 use crate::machine::Machine;
 use std::alloc::AllocError;

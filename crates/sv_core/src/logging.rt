@@ -1,7 +1,8 @@
 //! What is written to log files, and what full pools drop with its line in the main log.
 ghost use Rattle.std.specs.Prelude.{◌≡◌, IfOk, OnOk};
 ghost use Rattle.sv_core.specs.Frames.{GivesOrders, Makes};
-ghost use Rattle.sv_core.specs.Logging.{drop_line, logs_if, notes, notes_if, tells_drop, tells_drops};
+ghost use Rattle.sv_core.specs.Logging.{drop_line, logs_if, notes, notes_if, tells_drop};
+ghost use Rattle.sv_core.specs.Logging.{tells_drops};
 
 use crate::machine::Machine;
 use std::alloc::{AllocError, Global};

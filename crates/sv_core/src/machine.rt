@@ -62,10 +62,12 @@ pub struct Machine {
 
 impl Machine {
     ghost use Rattle.sv_files.specs.Sizes.{rise};
-    ghost use Rattle.sv_core.specs.MachineState.{Model, opening, accepts, next, orders, hand, is_issued_run, now};
+    ghost use Rattle.sv_core.specs.MachineState.{Model, opening, accepts, next, orders, hand};
+    ghost use Rattle.sv_core.specs.MachineState.{is_issued_run, now};
     ghost use Rattle.sv_core.specs.Parts.{part_of};
     ghost use Rattle.sv_core.specs.Openings.{server_of};
-    ghost use Rattle.sv_core.specs.StandsFor.{StandsFor, Takes, Notes, GoesOnWith, asked_by, has_halted, is_broken, is_fitting, is_sound_part};
+    ghost use Rattle.sv_core.specs.StandsFor.{StandsFor, Takes, Notes, GoesOnWith, asked_by};
+    ghost use Rattle.sv_core.specs.StandsFor.{has_halted, is_broken, is_fitting, is_sound_part};
     ghost use Rattle.sv_core.specs.Turn.{is_asking};
 
     /// The machine of this configuration as the daemon begins: each child is stopped and was never started. `sizes` are

@@ -2,7 +2,8 @@
 ghost use Rattle.std.specs.Prelude.{◌≡◌, IfOk, IsTrue, OnOk};
 ghost use Rattle.std.specs.Option.{option_copied};
 ghost use Rattle.sv_core.specs.Frames.{Makes, ServesLinks};
-ghost use Rattle.sv_core.specs.Openings.{closes_all, closes_links, guard_at, guard_of, is_at, opens, server_of, welcome};
+ghost use Rattle.sv_core.specs.Openings.{closes_all, closes_links, guard_at, guard_of, is_at};
+ghost use Rattle.sv_core.specs.Openings.{opens, server_of, welcome};
 ghost use Rattle.sv_links.specs.StandsFor.{follows};
 
 use crate::machine::Machine;

@@ -2,7 +2,9 @@
 ghost use Rattle.std.specs.Prelude.{◌≡◌, IfOk, OnOk};
 ghost use Rattle.sv_children.specs.Crew.{member_at};
 ghost use Rattle.sv_core.specs.Frames.{GivesOrders, HearsListeners, Makes};
-ghost use Rattle.sv_core.specs.Output.{ends_pipe, hears_on, log_fact, log_kind, log_of, logs_at, message_fact, message_kind, says_on, takes_all, takes_part, takes_parts};
+ghost use Rattle.sv_core.specs.Output.{ends_pipe, hears_on, log_fact, log_kind, log_of, logs_at};
+ghost use Rattle.sv_core.specs.Output.{message_fact, message_kind, says_on, takes_all, takes_part};
+ghost use Rattle.sv_core.specs.Output.{takes_parts};
 
 use crate::machine::Machine;
 use std::alloc::AllocError;

@@ -4,7 +4,7 @@ ghost use Rattle.sv_core.specs.Left.{question_called, question_wanted};
 ghost use Rattle.sv_core.specs.StandsFor.{question_of};
 
 use crate::part::Question;
-use sv_answers::Reading;
+use sv_answers::LogRead;
 use sv_base::ids::{LinkId, Run};
 use sv_base::items::Items;
 use sv_base::text::Text;
@@ -19,7 +19,7 @@ pub struct Asked {
 
 /// Where a sweep was left at a question: it goes on in place `next`.
 #[derive(Clone, Copy, Debug)]
-pub struct Stop {
+pub struct Pause {
     pub next: usize,
     pub asked: Asked,
 }
@@ -29,7 +29,7 @@ pub struct Stop {
 pub struct Paused {
     pub news: News,
     pub to: usize,
-    pub stop: Stop,
+    pub stop: Pause,
 }
 
 /// Where files that are cleared were left at the clear of this one: they go on in place `next`.
@@ -62,7 +62,7 @@ pub enum Calling {
     /// For one of its requests.
     Act(Acting),
     /// For a part of a log.
-    Read(Reading),
+    Read(LogRead),
 }
 
 /// Where several calls in one were left at a question, and how many of them are left after the one that asked; of one call none.
@@ -90,7 +90,7 @@ pub struct Serving {
 
 /// Where a turn was left at a question: in which of its steps, and where in it.
 #[derive(Debug, Drop)]
-pub enum Place {
+pub enum Suspended {
     /// In step 2, the stimulus.
     Stimulus(Paused),
     /// In step 4, the pass.
@@ -100,13 +100,13 @@ pub enum Place {
 }
 
 /// The question that stands where a turn was left.
-pub(crate) fn question_of(place: &Option<Place>) -> Option<Question>
+pub(crate) fn question_of(place: &Option<Suspended>) -> Option<Question>
     ensures { result ≡ question_of place.now }
 {
     match place {
         None => None,
-        Some(Place::Stimulus(_)) | Some(Place::Pass(_)) => Some(Question::Spawn),
-        Some(Place::Links(serving)) => Some(question_called(&serving.asking.going.calling)),
+        Some(Suspended::Stimulus(_)) | Some(Suspended::Pass(_)) => Some(Question::Spawn),
+        Some(Suspended::Links(serving)) => Some(question_called(&serving.asking.going.calling)),
     }
 }
 

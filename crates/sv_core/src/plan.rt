@@ -2,9 +2,11 @@
 //! the halt.
 ghost use Rattle.std.specs.Prelude.{◌≡◌, OnOk};
 ghost use Rattle.sv_base.specs.declared.signal.Signal.{Signal};
-ghost use Rattle.sv_core.specs.Frames.{ChangesCourse, EndsCourse, GivesOrders, Makes, MovesChildren, MovesPlan};
+ghost use Rattle.sv_core.specs.Frames.{ChangesCourse, EndsCourse, GivesOrders, Makes};
+ghost use Rattle.sv_core.specs.Frames.{MovesChildren, MovesPlan};
 ghost use Rattle.sv_children.specs.Spans.{are_at_rest};
-ghost use Rattle.sv_core.specs.Shutdown.{is_ending, begins_shutdown, heeds, tells_group, follows_plan, halts};
+ghost use Rattle.sv_core.specs.Shutdown.{is_ending, begins_shutdown, heeds, tells_group};
+ghost use Rattle.sv_core.specs.Shutdown.{follows_plan, halts};
 ghost use Rattle.sv_core.specs.Stops.{signals, stops, stops_all};
 ghost use Rattle.sv_groups.specs.StartOrder.{span_of};
 
@@ -15,7 +17,7 @@ use sv_base::signal::{DaemonSignal, Signal};
 use sv_base::state::Mood;
 use sv_child::step::ChildDeed;
 use sv_children::News;
-use sv_groups::Span;
+use sv_groups::{Span, next_to_stop};
 use sv_out::order::Order;
 
 fn is_ending(signal: Signal) -> bool
@@ -120,7 +122,7 @@ impl Machine {
             return Ok(());
         }
         while self.course.left > 0 {
-            let last = self.course.left - 1;
+            let last = next_to_stop(self.course.left);
             self.tell_group(last)?;
             if !self.has_come_to_rest(last) {
                 return Ok(());

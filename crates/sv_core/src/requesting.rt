@@ -2,7 +2,11 @@
 ghost use Rattle.std.specs.Prelude.{◌≡◌, IfOk, OnOk, drop, slice_get};
 ghost use Rattle.sv_core.specs.Frames.{Makes, MovesOn, Stops};
 ghost use Rattle.sv_core.specs.Left.{acting, clearing, starting, wanting, wanting_answered};
-ghost use Rattle.sv_core.specs.Requests.{carries_if, carries_request, clear_answered, clear_setback, clears_all, does_all, does_next, empties_if, is_empty, run_of, spawns_for, start_answered, start_fails, start_setback, starts, starts_by, starts_deed, tells_call, writes};
+ghost use Rattle.sv_core.specs.Requests.{carries_if, carries_request, clear_answered};
+ghost use Rattle.sv_core.specs.Requests.{clear_setback, clears_all, does_all, does_next};
+ghost use Rattle.sv_core.specs.Requests.{empties_if, is_empty, run_of, spawns_for, start_answered};
+ghost use Rattle.sv_core.specs.Requests.{start_fails, start_setback, starts, starts_by};
+ghost use Rattle.sv_core.specs.Requests.{starts_deed, tells_call, writes};
 
 use crate::machine::Machine;
 use crate::part::Reply;

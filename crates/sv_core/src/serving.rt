@@ -1,8 +1,10 @@
 //! Step 5 of a turn: the calls in hand and the requests of the links, up to a question, and More where it is due.
 ghost use Rattle.std.specs.Prelude.{◌≡◌, IfOk, OnOk, drop, slice_get};
 ghost use Rattle.sv_core.specs.Frames.{AnswersCalls, Makes, MovesOn, Stops};
-ghost use Rattle.sv_core.specs.Left.{asking, asking_answered, asking_of, going_of, serving, serving_answered};
-ghost use Rattle.sv_core.specs.Serving.{gives_more, serves_all, serves_asks, serves_from, serves_left, serves_links, serves_next};
+ghost use Rattle.sv_core.specs.Left.{asking, asking_answered, asking_of, going_of, serving};
+ghost use Rattle.sv_core.specs.Left.{serving_answered};
+ghost use Rattle.sv_core.specs.Serving.{gives_more, serves_all, serves_asks, serves_from};
+ghost use Rattle.sv_core.specs.Serving.{serves_left, serves_links, serves_next};
 
 use crate::machine::Machine;
 use crate::part::Reply;

@@ -2,17 +2,20 @@
 ghost use Rattle.std.specs.Prelude.{◌≡◌, ◌≤◌, ◌-◌, ℕ, List, MatchOption, None, IfOk, OnOk};
 ghost use Rattle.sv_children.specs.Crew.{member_at};
 ghost use Rattle.sv_children.specs.News.{deed_of, step_of, stimulus_of, stimulus_told};
-ghost use Rattle.sv_core.specs.Frames.{GivesOrders, HearsListeners, Makes, MovesChildren, StartsRuns, Stops};
-ghost use Rattle.sv_core.specs.Moves.{answered, begins_as, begins_output, comes, is_listener_of, kills, reported, says};
+ghost use Rattle.sv_core.specs.Frames.{GivesOrders, HearsListeners, Makes, MovesChildren};
+ghost use Rattle.sv_core.specs.Frames.{StartsRuns, Stops};
+ghost use Rattle.sv_core.specs.Moves.{answered, begins_as, begins_output, comes, is_listener_of};
+ghost use Rattle.sv_core.specs.Moves.{kills, reported, says};
 ghost use Rattle.sv_core.specs.StandsFor.{Shows, paused, stopped, swept};
-ghost use Rattle.sv_core.specs.Sweeps.{IsMet, PassBy, carries_out, spawns, does, does_noted, meets, sweeps};
+ghost use Rattle.sv_core.specs.Sweeps.{IsMet, PassBy, carries_out, spawns, does, does_noted, meets};
+ghost use Rattle.sv_core.specs.Sweeps.{sweeps};
 ghost use Rattle.sv_core.specs.World.{World};
 ghost use Rattle.sv_lines.specs.EdgeLines.{how_of};
 ghost use Rattle.sv_out.specs.declared.order.Order.{Order};
 
 use crate::machine::Machine;
 use crate::part::{Reply, started_as, told_of};
-use crate::place::{Asked, Paused, Stop};
+use crate::place::{Asked, Pause, Paused};
 use std::alloc::AllocError;
 use sv_base::ids::Run;
 use sv_base::signal::Signal;
@@ -279,7 +282,7 @@ impl Machine {
     }
 
     /// News go over the places from the one to before the other, up to a question. Those that they pass by aren't looked at.
-    fn sweep(&mut self, news: &News, from: usize, to: usize) -> Result<Option<Stop>, AllocError>
+    fn sweep(&mut self, news: &News, from: usize, to: usize) -> Result<Option<Pause>, AllocError>
         ensures kept { StartsRuns self.old self.new }
         ensures sweeps { IfOk result (λ stop.
             Stops (sweeps news.now (to - from) from) (swept news.now to stop) self.old self.new) }
@@ -288,7 +291,7 @@ impl Machine {
         while let Some(place) = self.next_met(news, next, to) {
             next = place + 1;
             match self.meet(news, place)? {
-                Some(asked) => return Ok(Some(Stop { next, asked })),
+                Some(asked) => return Ok(Some(Pause { next, asked })),
                 None => {}
             }
         }

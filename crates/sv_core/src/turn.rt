@@ -4,7 +4,8 @@ ghost use Rattle.sv_core.specs.Frames.{GoesOn, Makes};
 ghost use Rattle.sv_core.specs.Left.{serving_answered};
 ghost use Rattle.sv_core.specs.Failure.{refusal_of};
 ghost use Rattle.sv_core.specs.StandsFor.{At, Shows, is_sound, question_of, rest};
-ghost use Rattle.sv_core.specs.Turn.{turn, come, after_links, after_pass, after_stimulus, rewinds, world_of};
+ghost use Rattle.sv_core.specs.Turn.{turn, come, after_links, after_pass, after_stimulus, rewinds};
+ghost use Rattle.sv_core.specs.Turn.{world_of};
 ghost use Rattle.sv_core.specs.Sweeps.{sweeps};
 ghost use Rattle.sv_core.specs.Moves.{answered};
 ghost use Rattle.sv_core.specs.World.{World};
@@ -13,7 +14,7 @@ ghost use Rattle.sv_out.specs.declared.order.Order.{Order};
 use crate::failure::Failure;
 use crate::machine::Machine;
 use crate::part::{Cause, Followed, Reply, refusal_of};
-use crate::place::{Paused, Place, Serving, question_of};
+use crate::place::{Paused, Serving, Suspended, question_of};
 use std::alloc::AllocError;
 use sv_base::moment::Moment;
 use sv_children::News;
@@ -31,7 +32,7 @@ impl Machine {
         self.rewind(at);
         match self.apply(cause)? {
             Some(paused) => {
-                self.hand.place = Some(Place::Stimulus(paused));
+                self.hand.place = Some(Suspended::Stimulus(paused));
                 Ok(())
             }
             None => {
@@ -51,7 +52,7 @@ impl Machine {
         let all = self.children.len();
         match self.sweep_over(News::Time, 0, all)? {
             Some(paused) => {
-                self.hand.place = Some(Place::Pass(paused));
+                self.hand.place = Some(Suspended::Pass(paused));
                 Ok(())
             }
             None => {
@@ -69,7 +70,7 @@ impl Machine {
     {
         match self.serve_links()? {
             Some(serving) => {
-                self.hand.place = Some(Place::Links(serving));
+                self.hand.place = Some(Suspended::Links(serving));
                 Ok(())
             }
             None => {
@@ -160,22 +161,22 @@ impl Machine {
     }
 
     /// The turn goes on from where it was left, with the answer of its question.
-    fn go_on_from(&mut self, place: Place, reply: Reply) -> Result<(), AllocError>
+    fn go_on_from(&mut self, place: Suspended, reply: Reply) -> Result<(), AllocError>
         ensures kept { GoesOn self.old self.new }
         ensures turn { OnOk result ((older : List Order) (w : World) → Shows self.old older w
             → At self.new older (come (rest (Some place) w) (Followed.Answered reply))
             (rest self.new.hand.place)) }
     {
         match place {
-            Place::Stimulus(paused) => {
+            Suspended::Stimulus(paused) => {
                 self.go_on_in_stimulus(paused, reply)?;
                 Ok(())
             }
-            Place::Pass(paused) => {
+            Suspended::Pass(paused) => {
                 self.go_on_in_pass(paused, reply)?;
                 Ok(())
             }
-            Place::Links(serving) => {
+            Suspended::Links(serving) => {
                 self.go_on_in_links(serving, reply)?;
                 Ok(())
             }
@@ -193,7 +194,7 @@ impl Machine {
         self.answer(paused.stop.asked, reply)?;
         match self.sweep_over(paused.news, paused.stop.next, paused.to)? {
             Some(paused) => {
-                self.hand.place = Some(Place::Stimulus(paused));
+                self.hand.place = Some(Suspended::Stimulus(paused));
                 Ok(())
             }
             None => {
@@ -214,7 +215,7 @@ impl Machine {
         self.answer(paused.stop.asked, reply)?;
         match self.sweep_over(paused.news, paused.stop.next, paused.to)? {
             Some(paused) => {
-                self.hand.place = Some(Place::Pass(paused));
+                self.hand.place = Some(Suspended::Pass(paused));
                 Ok(())
             }
             None => {
@@ -233,7 +234,7 @@ impl Machine {
     {
         match self.go_on_serving(left, reply)? {
             Some(serving) => {
-                self.hand.place = Some(Place::Links(serving));
+                self.hand.place = Some(Suspended::Links(serving));
                 Ok(())
             }
             None => {

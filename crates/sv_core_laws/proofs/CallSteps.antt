@@ -3,7 +3,7 @@ use Rattle.std.proofs.Common.{ℕ, pos, zero, suc, List, [], ◌∷◌, Bool, tr
 use Rattle.std.proofs.lemmas.Bool.{eq-eqb}
 use Rattle.std.specs.Prelude.{is_some, length, nat_le, slice_get}
 use Rattle.sv_answers.specs.Served.{Request as Asked, Refuses as Refused_by, Calls as Asks, heard as ask_heard, is_several, no_parts, parts_in, reads_back, said, subject_of}
-use Rattle.sv_answers.specs.declared.read.Reading.{Reading}
+use Rattle.sv_answers.specs.declared.read.LogRead.{LogRead}
 use Rattle.sv_base.specs.declared.ids.LinkId.{LinkId}
 use Rattle.sv_base.specs.declared.ids.Run.{Run}
 use Rattle.sv_base.specs.declared.kind.Kind.TheVariants as kind
@@ -216,7 +216,7 @@ module _ (R : World → World → Type 0) (s : Steps R) (G : World → Turn → 
 
   -- ---- calls
 
-  kept_asks_read : (link : LinkId) (reading : Reading) (w : World) (k : World → Turn) → MayReply s.may link → waiting_at link w.calls ≡ None
+  kept_asks_read : (link : LinkId) (reading : LogRead) (w : World) (k : World → Turn) → MayReply s.may link → waiting_at link w.calls ≡ None
       → ((v : World) → G v (k v))
       → G w (asks_read link reading w k)
   unfolding asks_read
@@ -226,7 +226,7 @@ module _ (R : World → World → Type 0) (s : Steps R) (G : World → Turn → 
       (s.answered link (reads_back reading (file_reply reply)) v ok (waits_not link v (ap (waiting_at link) between.calls ∙ free)))
       (goes (read_answered link reading reply v)))
 
-  kept_reads : (link : LinkId) (reading : Reading) (w : World) (k : World → Turn) → MayReply s.may link → waiting_at link w.calls ≡ None
+  kept_reads : (link : LinkId) (reading : LogRead) (w : World) (k : World → Turn) → MayReply s.may link → waiting_at link w.calls ≡ None
       → ((v : World) → G v (k v))
       → G w (reads link reading w k)
   kept_reads link reading w k ok free goes =

@@ -1,6 +1,7 @@
 -- The account of the event pools: each event that a pool took is in one place, each that it dropped
 -- is reported, and each that a listener got is written to it (the manual's chapter on events).
-use Rattle.std.specs.Prelude.{◌≡◌, ◌<◌, ◌^◌, ◌≤◌, ℕ, List, [], ◌∷◌, ◌++◌, Bool, true, false, Option, Some, IfSome, length, map, filter, slice_get, if◌then◌else◌}
+use Rattle.std.specs.Prelude.{◌≡◌, ◌<◌, ◌^◌, ◌≤◌, ℕ, List, [], ◌∷◌, ◌++◌, Bool, true, false, Option}
+use Rattle.std.specs.Prelude.{Some, IfSome, length, map, filter, slice_get, if◌then◌else◌}
 use Rattle.std.specs.List.{flat_map}
 use Rattle.std.specs.Str.{bytes_eq}
 use Rattle.sv_base.specs.declared.config.Config.{Config}
@@ -21,7 +22,8 @@ use Rattle.sv_pools.specs.Offers.{offer_reports, offered}
 -- the report of an event that the pool of this group dropped, if the order is one
 abbrev pub drop_told : List ℕ → Order → List Dropped
 drop_told group (order.Dropped its_group serial poolserial) =
-    if bytes_eq its_group group then record { serial = serial; poolserial = poolserial } ∷ [] else []
+    if bytes_eq its_group group then record { serial = serial; poolserial = poolserial } ∷ []
+    else []
 drop_told group given = []
 
 -- what the orders report of that pool, in order
@@ -30,7 +32,8 @@ drops_told group orders = flat_map (drop_told group) orders
 
 -- a pool that was opened so is there, and each of its listeners has one place; its events stand in
 -- one place each, and no more wait than can; those that it dropped are those reported, in order
-pub record IsAccountedFor (opened : EventPool) (found : Option EventPool) (given : List Order) : Type 0 where
+pub record IsAccountedFor (opened : EventPool) (found : Option EventPool) (given : List Order)
+    : Type 0 where
   pub pool : EventPool
   pub is : found ≡ Some pool
   pub group : pool.group ≡ opened.group
@@ -72,7 +75,8 @@ ordered server (Handed run place) ps = hand_orders server run place ps
 ordered server (Acknowledged place) ps = []
 ordered server (Rejected place) ps = rejection_reports place ps
 
--- an entry of the account: something happened to the pools, or bytes of a client are written to a run
+-- an entry of the account: something happened to the pools, or bytes of a client are written to a
+-- run
 pub data Entry : Type 0 where
   Happens : Happening → Entry
   Writes : (run : Run) (bytes : List ℕ) → Entry
@@ -103,8 +107,8 @@ is_of_pools (order.Stdin run bytes) = true
 is_of_pools (order.Dropped group serial poolserial) = true
 is_of_pools other = false
 
--- the pools are what became of the opened ones; and what happened to them, and clients wrote, is in order all that is written to
--- a run or reported as dropped
+-- the pools are what became of the opened ones; and what happened to them, and clients wrote, is in
+-- order all that is written to a run or reported as dropped
 pub record PoolsHaveAHistory (config : Config) (m : Model) (given : List Order) : Type 0 where
   pub all : List Entry
   pub pools : (now m).pools ≡ all_entered all (opening config.groups)

@@ -1,6 +1,8 @@
--- What is done with the calls of clients, and the replies that are sent (the manual's chapter on its XML-RPC interface, startProcess:
--- a start that waits isn't answered while its process is STARTING).
-use Rattle.std.specs.Prelude.{◌≡◌, ◌++◌, ◌∷◌, ℕ, List, [], Bool, true, false, Option, Some, None, filter, is_some, slice_get, if◌then◌else◌}
+-- What is done with the calls of clients, and the replies that are sent (the manual's chapter on
+-- its XML-RPC interface, startProcess: a start that waits isn't answered while its process is
+-- STARTING).
+use Rattle.std.specs.Prelude.{◌≡◌, ◌++◌, ◌∷◌, ℕ, List, [], Bool, true, false, Option, Some, None}
+use Rattle.std.specs.Prelude.{filter, is_some, slice_get, if◌then◌else◌}
 use Rattle.std.specs.List.{list_any}
 use Rattle.sv_answers.specs.Served.{said}
 use Rattle.sv_answers.specs.declared.sent.Sent.{Sent}
@@ -10,7 +12,9 @@ use Rattle.sv_base.specs.declared.ids.LinkId.{LinkId}
 use Rattle.sv_base.specs.declared.spec.GroupSpec.{GroupSpec}
 use Rattle.sv_base.specs.declared.spec.Spec.{Spec}
 use Rattle.sv_base.specs.declared.state.State.TheVariants.{Starting}
-use Rattle.sv_calls.specs.CallBook.{AnswerTree, CallBook, CallRecord, acting, answer_at, answered, begun, end_at, ended, no_calls, part_taken, request_taken, set_back, waiting_at}
+use Rattle.sv_calls.specs.CallBook.{AnswerTree, CallBook, CallRecord, acting, answer_at, answered}
+use Rattle.sv_calls.specs.CallBook.{begun, end_at, ended, no_calls, part_taken, request_taken}
+use Rattle.sv_calls.specs.CallBook.{set_back, waiting_at}
 use Rattle.sv_calls.specs.declared.setback.Setback.{Setback}
 use Rattle.sv_child.specs.declared.step.Edge.{Edge}
 use Rattle.sv_children.specs.Reported.{edge_told}
@@ -27,8 +31,9 @@ use Rattle.sv_xmlcall.specs.Trees.{Reply}
 
 -- ---- what happens
 
--- what is done with the call in hand of a link, and gives no reply: it is begun; of several calls in one the next is begun; the requests
--- of a method that acts are to be carried out, and then it waits for this; the next of them is begun; it went wrong
+-- what is done with the call in hand of a link, and gives no reply: it is begun; of several calls
+-- in one the next is begun; the requests of a method that acts are to be carried out, and then it
+-- waits for this; the next of them is begun; it went wrong
 pub data CallDeed : Type 0 where
   Begins : (link : LinkId) (call : CallRecord) → CallDeed
   TakesPart : (link : LinkId) → CallDeed
@@ -36,9 +41,9 @@ pub data CallDeed : Type 0 where
   TakesRequest : (link : LinkId) → CallDeed
   SetsBack : (link : LinkId) (setback : Setback) → CallDeed
 
--- one thing after the other: orders are given that send nothing to a client; something is done with a call; the call of a link that
--- was begun last is answered; several calls in one are answered, if all of them were; a request that makes no call is answered. A
--- reply is sent, or its link is over
+-- one thing after the other: orders are given that send nothing to a client; something is done with
+-- a call; the call of a link that was begun last is answered; several calls in one are answered, if
+-- all of them were; a request that makes no call is answered. A reply is sent, or its link is over
 pub data CallEntry : Type 0 where
   Gives : (orders : List Order) → CallEntry
   Does : (deed : CallDeed) → CallEntry
@@ -83,7 +88,8 @@ sends_if is_sent link (Some sent) = if is_sent then reply_orders link sent.close
 abbrev pub call_orders : CallEntry → CallBook → List Order
 call_orders (Gives orders) book = orders
 call_orders (Does deed) book = []
-call_orders (Answers link reply is_sent) book = sends_if is_sent link (said_of (answer_at link reply book))
+call_orders (Answers link reply is_sent) book =
+    sends_if is_sent link (said_of (answer_at link reply book))
 call_orders (Ends link is_sent) book = sends_if is_sent link (said_of (end_at link book))
 call_orders (Replies link sent is_sent) book = sends_if is_sent link (Some sent)
 
@@ -114,7 +120,8 @@ HasLeftStarting group name orders = (one two : List Order) (report : Order) (edg
 
 -- so each process that was started and is waited for
 abbrev pub StartsHaveEnded : List GroupSpec → Waiting → List Order → Type 0
-StartsHaveEnded groups waiting before = (row : Asked) (place : ℕ) (child : ChildId) (group : GroupSpec) (spec : Spec)
+StartsHaveEnded groups waiting before =
+    (row : Asked) (place : ℕ) (child : ChildId) (group : GroupSpec) (spec : Spec)
     → waiting.wait ≡ true
     → slice_get waiting.rows place ≡ Some row
     → row.aim ≡ Started
@@ -125,10 +132,11 @@ StartsHaveEnded groups waiting before = (row : Asked) (place : ℕ) (child : Chi
 -- where the call of a link waits, and these orders were given before
 abbrev pub WaitsHaveEnded : List GroupSpec → LinkId → CallBook → List Order → Type 0
 WaitsHaveEnded groups link book before =
-    (waiting : Waiting) → waiting_at link book ≡ Some waiting → StartsHaveEnded groups waiting before
+    (waiting : Waiting) → waiting_at link book ≡ Some waiting
+    → StartsHaveEnded groups waiting before
 
--- what holds of an entry, where these orders were given before: orders that it gives send nothing, and a call that waits is answered
--- once its processes have left STARTING
+-- what holds of an entry, where these orders were given before: orders that it gives send nothing,
+-- and a call that waits is answered once its processes have left STARTING
 abbrev pub Holds : List GroupSpec → CallBook → List Order → CallEntry → Type 0
 Holds groups book before (Gives orders) = filter is_send orders ≡ []
 Holds groups book before (Does deed) = Unit {0}
@@ -143,7 +151,8 @@ AllHold groups book before (entry ∷ entries) =
     Holds groups book before entry
     × AllHold groups (calls_after entry book) (before ++ call_orders entry book) entries
 
--- these things happened to calls, one after the other: the calls in hand are those after them, and all orders are theirs, in order
+-- these things happened to calls, one after the other: the calls in hand are those after them, and
+-- all orders are theirs, in order
 pub record CallsHaveAHistory (config : Config) (m : Model) (given : List Order) : Type 0 where
   pub all : List CallEntry
   pub calls : (now m).calls ≡ all_calls_after all no_calls

@@ -1,5 +1,5 @@
--- At the halt of the daemon each request of a client has its reply (RFC 9112, section 9.3), but for those of a link that was over
--- before, and a call that still waits.
+-- At the halt of the daemon each request of a client has its reply (RFC 9112, section 9.3), but for
+-- those of a link that was over before, and a call that still waits.
 use Rattle.std.specs.Prelude.{◌≡◌, ◌∷◌, ℕ, List, [], Bool, false, length, Some}
 use Rattle.sv_core.specs.MachineState.{Model, now}
 use Rattle.sv_core_laws.specs.LinkReplies.{SentReply, bytes_in, replies_in, sent_on}
@@ -20,10 +20,12 @@ pub record RequestsAreAnswered (number : ℕ) (m : Model) (given : List Order) :
   -- these are sent on it, and nothing else is
   pub sent : sent_on number given ≡ bytes_in replies
   -- they are the replies to its first requests, in order, each once
-  pub in_order : (r : LinkRecord) → link_at number (now m).links ≡ Some r → AreInOrder (replies_in replies) r
+  pub in_order : (r : LinkRecord) → link_at number (now m).links ≡ Some r
+      → AreInOrder (replies_in replies) r
   -- it is over
   pub over : (r : LinkRecord) → link_at number (now m).links ≡ Some r → is_open r ≡ false
-  -- and they are the replies to all its requests, unless its client ended it, an order to it failed, the last reply closes it, or
-  -- a call of it still waits
-  pub all : (r : LinkRecord) → link_at number (now m).links ≡ Some r → r.ending ≡ Some Closed → r.in_hand ≡ false
+  -- and they are the replies to all its requests, unless its client ended it, an order to it
+  -- failed, the last reply closes it, or a call of it still waits
+  pub all : (r : LinkRecord) → link_at number (now m).links ≡ Some r → r.ending ≡ Some Closed
+      → r.in_hand ≡ false
       → closes_last (replies_in replies) ≡ false → length replies ≡ length (asks r)

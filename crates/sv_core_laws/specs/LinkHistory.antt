@@ -1,5 +1,7 @@
--- What was done with the links of clients, and the orders to them that tell of it (RFC 9112, section 9.3).
-use Rattle.std.specs.Prelude.{◌≡◌, ◌+◌, ℕ, List, [], ◌∷◌, ◌++◌, Bool, true, false, filter, length, map, if◌then◌else◌}
+-- What was done with the links of clients, and the orders to them that tell of it (RFC 9112,
+-- section 9.3).
+use Rattle.std.specs.Prelude.{◌≡◌, ◌+◌, ℕ, List, [], ◌∷◌, ◌++◌, Bool, true, false, filter, length}
+use Rattle.std.specs.Prelude.{map, if◌then◌else◌}
 use Rattle.sv_base.specs.declared.ids.LinkId.{LinkId}
 use Rattle.sv_core.specs.MachineState.{Model, now}
 use Rattle.sv_core.specs.Openings.{welcome}
@@ -31,15 +33,17 @@ abbrev pub reply_orders : LinkId → (closes : Bool) → List ℕ → List Order
 reply_orders link true bytes = order.Send link bytes ∷ order.Close link ∷ []
 reply_orders link false bytes = order.Send link bytes ∷ []
 
--- the orders of a deed, among the links as they are before it: an opening gives More, or Close where there is no room; an answer
--- gives its reply, where it is sent; More is given where it is due; and a link that the daemon ends gets Close
+-- the orders of a deed, among the links as they are before it: an opening gives More, or Close
+-- where there is no room; an answer gives its reply, where it is sent; More is given where it is
+-- due; and a link that the daemon ends gets Close
 abbrev pub deed_orders : Deed → List ℕ → List LinkRecord → List Order
 deed_orders (Open guard) bytes book = welcome (next_link book) (has_room book) ∷ []
 deed_orders (Feed link piece) bytes book = []
 deed_orders (End link Closed) bytes book = order.Close link ∷ []
 deed_orders (End link ending) bytes book = []
 deed_orders (Take link) bytes book = []
-deed_orders (Answer link closes) bytes book = if is_sent link book then reply_orders link closes bytes else []
+deed_orders (Answer link closes) bytes book =
+    if is_sent link book then reply_orders link closes bytes else []
 deed_orders (GiveMore link) bytes book = if more_is_due link book then order.More link ∷ [] else []
 
 -- the same of an entry
@@ -56,8 +60,8 @@ all_link_orders (entry ∷ entries) book =
 abbrev pub deeds_of : List LinkEntry → List Deed
 deeds_of entries = map (λ (entry : LinkEntry). entry.deed) entries
 
--- this was done with links, one thing after the other: the links are those after it, and the orders to links are those of it, in
--- order
+-- this was done with links, one thing after the other: the links are those after it, and the orders
+-- to links are those of it, in order
 pub record LinksHaveAHistory (m : Model) (given : List Order) : Type 0 where
   pub all : List LinkEntry
   pub links : (now m).links ≡ links_after (deeds_of all)

@@ -1,5 +1,6 @@
 -- What is sent to a client: its requests get one reply each, in order (RFC 9112, section 9.3).
-use Rattle.std.specs.Prelude.{◌≡◌, ◌+◌, ◌++◌, ◌∷◌, ◌==◌, ℕ, List, [], true, length, map, Some, None, if◌then◌else◌}
+use Rattle.std.specs.Prelude.{◌≡◌, ◌+◌, ◌++◌, ◌∷◌, ◌==◌, ℕ, List, [], true, length, map, Some, None}
+use Rattle.std.specs.Prelude.{if◌then◌else◌}
 use Rattle.sv_core.specs.MachineState.{Model, now}
 use Rattle.sv_links.specs.LinkBook.{LinkRecord, is_open, link_at}
 use Rattle.sv_links.specs.LinkDeeds.{AreInOrder, OnlyLastCloses, Reply, in_hand_of}
@@ -35,7 +36,8 @@ pub record RequestsGetReplies (number : ℕ) (m : Model) (given : List Order) : 
   -- these are sent on it, and nothing else is
   pub sent : sent_on number given ≡ bytes_in replies
   -- they are the replies to its first requests, in order, each once
-  pub in_order : (r : LinkRecord) → link_at number (now m).links ≡ Some r → AreInOrder (replies_in replies) r
+  pub in_order : (r : LinkRecord) → link_at number (now m).links ≡ Some r
+      → AreInOrder (replies_in replies) r
   -- while it is open, to all that were begun but the one in hand
   pub all_begun : (r : LinkRecord) → link_at number (now m).links ≡ Some r → is_open r ≡ true
       → length (replies_in replies) + in_hand_of r ≡ r.begun

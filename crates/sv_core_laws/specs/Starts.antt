@@ -29,6 +29,8 @@ starts_told orders = flat_map starting_told orders
 abbrev pub spawns_told : List Order → List (List ℕ × List ℕ)
 spawns_told orders = flat_map spawn_told orders
 
--- while a number is left for a run, each process that is reported to be STARTING is spawned, and no other, one after the other
+-- while a number is left for a run, each process that is reported to be STARTING is spawned, and no
+-- other, one after the other
 abbrev pub EachStartIsSpawned : List Order → Type 0
-EachStartIsSpawned given = length (spawns_told given) < 4294967295 → starts_told given ≡ spawns_told given
+EachStartIsSpawned given =
+    length (spawns_told given) < 4294967295 → starts_told given ≡ spawns_told given

@@ -1,6 +1,7 @@
--- How often a process is tried (the manual's chapter on subprocesses, startretries): a stretch is a list of edges of one child, one after
--- the other, that all end in STARTING or BACKOFF.
-use Rattle.std.specs.Prelude.{◌≡◌, ◌≤◌, ◌+◌, ◌++◌, ℕ, List, [], ◌∷◌, Bool, true, false, Option, Some, None, slice_get}
+-- How often a process is tried (the manual's chapter on subprocesses, startretries): a stretch is a
+-- list of edges of one child, one after the other, that all end in STARTING or BACKOFF.
+use Rattle.std.specs.Prelude.{◌≡◌, ◌≤◌, ◌+◌, ◌++◌, ℕ, List, [], ◌∷◌, Bool, true, false, Option}
+use Rattle.std.specs.Prelude.{Some, None, slice_get}
 use Rattle.sv_base.specs.declared.config.Config.{Config}
 use Rattle.sv_base.specs.declared.spec.GroupSpec.{GroupSpec}
 use Rattle.sv_base.specs.declared.spec.Spec.{Spec}

@@ -1,5 +1,6 @@
--- Journals of one program that were worked out by hand, one line for each input, and what the daemon then does.
--- Moments are in milliseconds; startsecs, startretries, autorestart and stopwaitsecs stand after `program spec`.
+-- Journals of one program that were worked out by hand, one line for each input, and what the
+-- daemon then does. Moments are in milliseconds; startsecs, startretries, autorestart and
+-- stopwaitsecs stand after `program spec`.
 use Rattle.std.specs.Prelude.{◌≡◌, ℕ, List, [], ◌∷◌, None, true, codes, length}
 use Rattle.sv_base.specs.declared.config.Config.{Config}
 use Rattle.sv_base.specs.declared.config.Host.{Host}
@@ -12,17 +13,20 @@ use Rattle.sv_base.specs.declared.state.Autorestart.TheVariants.{Never, Unexpect
 use Rattle.sv_base.specs.declared.state.How.TheVariants.{Code, Signal}
 use Rattle.sv_base.specs.declared.state.Level.TheVariants.{Critical}
 use Rattle.sv_base.specs.declared.state.State.{State}
-use Rattle.sv_base.specs.declared.state.State.TheVariants.{Stopped, Starting, Running, Backoff, Stopping, Exited, Fatal}
+use Rattle.sv_base.specs.declared.state.State.TheVariants.{Stopped, Starting, Running, Backoff}
+use Rattle.sv_base.specs.declared.state.State.TheVariants.{Stopping, Exited, Fatal}
 use Rattle.sv_child.specs.Examples.{program}
 use Rattle.sv_children.specs.Orders.{spawn}
 use Rattle.sv_core.specs.Deeds.{deeds}
 use Rattle.sv_core.specs.MachineState.{Model, opening, resting}
 use Rattle.sv_out.specs.declared.input.Input.{Input}
-use Rattle.sv_out.specs.declared.input.Input.TheVariants.{Tick, Exit, Stop, Signal as Told, Pid, Failed}
+use Rattle.sv_out.specs.declared.input.Input.TheVariants.{Tick, Exit, Stop, Signal as Told, Pid}
+use Rattle.sv_out.specs.declared.input.Input.TheVariants.{Failed}
 use Rattle.sv_out.specs.declared.order.Order.{Order}
 use Rattle.sv_out.specs.declared.order.Order.TheVariants as order
 
--- what the rest of the configuration, of the group, of the program, of the sizes and of the host is doesn't matter
+-- what the rest of the configuration, of the group, of the program, of the sizes and of the host is
+-- doesn't matter
 pub record Rest : Type 0 where
   pub config : Config
   pub group : GroupSpec
@@ -33,7 +37,8 @@ pub record Rest : Type 0 where
 -- the program x, alone in its group
 abbrev pub x_of : Rest → ℕ → ℕ → Autorestart → ℕ → Spec
 x_of rest startsecs startretries autorestart stopwaitsecs =
-    record (program rest.spec startsecs startretries autorestart stopwaitsecs) { group = codes "x"; name = codes "x" }
+    record (program rest.spec startsecs startretries autorestart stopwaitsecs)
+    { group = codes "x"; name = codes "x" }
 
 -- these groups alone, and no line of the main log is written
 abbrev pub only : Rest → List GroupSpec → Config
@@ -41,7 +46,8 @@ only rest groups = record rest.config { level = Critical; groups = groups }
 
 -- the configuration of this program alone
 abbrev pub alone : Rest → Spec → Config
-alone rest spec = only rest (record rest.group { name = codes "x"; members = spec ∷ []; pool = None } ∷ [])
+alone rest spec =
+    only rest (record rest.group { name = codes "x"; members = spec ∷ []; pool = None } ∷ [])
 
 -- the daemon starts at moment 0
 abbrev pub host_of : Rest → Host
@@ -157,25 +163,31 @@ GroupsStopOneByOne rest =
     let b = lone rest (codes "b") in
     let plain = record rest.group { pool = None } in
     let groups =
-    record plain { name = codes "a"; members = a ∷ [] } ∷ record plain { name = codes "b"; members = b ∷ [] } ∷ [] in
+    record plain { name = codes "a"; members = a ∷ [] }
+    ∷ record plain { name = codes "b"; members = b ∷ [] } ∷ [] in
     deeds (opening (only rest groups) rest.sizes (host_of rest))
     (Tick 0 ∷ Pid 1 ∷ Pid 2
     ∷ Tick 1000
     ∷ Told 5000 signal_is.Term
     ∷ Exit 5100 (run 2) (Code 0)
     ∷ Exit 5200 (run 1) (Signal 15) ∷ [])
-    ≡ goes a Stopped Starting ∷ order.Spawn (spawn a.group a 1) ∷ goes b Stopped Starting ∷ order.Spawn (spawn b.group b 2)
+    ≡ goes a Stopped Starting ∷ order.Spawn (spawn a.group a 1) ∷ goes b Stopped Starting
+    ∷ order.Spawn (spawn b.group b 2)
     ∷ goes a Starting Running ∷ goes b Starting Running
     ∷ goes b Running Stopping ∷ order.Kill (run 2) signal_is.Term b.stopasgroup
-    ∷ goes b Stopping Stopped ∷ goes a Running Stopping ∷ order.Kill (run 1) signal_is.Term a.stopasgroup
+    ∷ goes b Stopping Stopped ∷ goes a Running Stopping
+    ∷ order.Kill (run 1) signal_is.Term a.stopasgroup
     ∷ goes a Stopping Stopped ∷ order.Halt ∷ []
 
 -- the world in which the daemon begins, but that so many runs were numbered already
 abbrev pub numbered : Rest → Spec → ℕ → Model
 numbered rest spec next_run =
-    let w = (opening (alone rest spec) rest.sizes (host_of rest)).base in resting (record w { next_run = next_run })
+    let w =
+    (opening (alone rest spec) rest.sizes (host_of rest)).base in resting
+    (record w { next_run = next_run })
 
--- all numbers of runs but the last are taken: the last spawn gets it, and each further one fails by itself
+-- all numbers of runs but the last are taken: the last spawn gets it, and each further one fails by
+-- itself
 abbrev pub NoRunNumberLeft : Rest → Type 0
 NoRunNumberLeft rest =
     let x = x_of rest 1 3 Unexpected 10 in
@@ -187,14 +199,16 @@ NoRunNumberLeft rest =
     ∷ took Backoff Starting ∷ took Starting Backoff
     ∷ took Backoff Starting ∷ took Starting Backoff ∷ []
 
--- the world in which the daemon begins, but that it said that it runs, and these orders were given already
+-- the world in which the daemon begins, but that it said that it runs, and these orders were given
+-- already
 abbrev pub ordered : Rest → Spec → List Order → Model
 ordered rest spec older =
     let w = (opening (alone rest spec) rest.sizes (host_of rest)).base in
     resting (record w { given = older; course = record w.course { announced = true } })
 
--- one number of orders is left before they begin again: the report has the number 18446744073709551615 and can't fail, and
--- the spawn after it has the number 0; the number 1 isn't given yet
+-- one number of orders is left before they begin again: the report has the number
+-- 18446744073709551615 and can't fail, and the spawn after it has the number 0; the number 1 isn't
+-- given yet
 abbrev pub OrderNumbersBeginAgain : Rest → Type 0
 OrderNumbersBeginAgain rest = (older : List Order) → length older ≡ 18446744073709551615 →
     let x = x_of rest 1 3 Unexpected 10 in

@@ -20,7 +20,8 @@ use Rattle.sv_out.specs.Written.{AppendsFront}
 use Rattle.sv_out.specs.declared.connection.Exchange.{Exchange}
 
 -- the conversation with a server: one command, or those of the input's lines, which else isn't read
-abbrev pub Converses : Server → List (List ℕ) → Option (List Exchange) → Option (List Exchange) → Option (List ℕ)
+abbrev pub Converses : Server → List (List ℕ) → Option (List Exchange) → Option (List Exchange)
+    → Option (List ℕ)
     → Option (List ℕ) → Option (List ℕ) → Option (List ℕ) → Course → Type 0
 Converses server [] before after left left_after old new result =
     Talks server before after left left_after old new result
@@ -36,7 +37,8 @@ Refuses refusal old new result =
     Appends old new (refusal_told refusal).text × (result ≡ (refusal_told refusal).course)
 
 -- the conversation with the server, or why there is none; then neither dial nor input was touched
-abbrev pub Answers : Result Server Refusal → List (List ℕ) → Option (List Exchange) → Option (List Exchange)
+abbrev pub Answers : Result Server Refusal → List (List ℕ) → Option (List Exchange)
+    → Option (List Exchange)
     → Option (List ℕ) → Option (List ℕ) → Option (List ℕ) → Option (List ℕ) → Course → Type 0
 Answers (Ok server) command before after left left_after old new result =
     Converses server command before after left left_after old new result
@@ -44,14 +46,16 @@ Answers (Err refusal) command before after left left_after old new result =
     Refuses refusal old new result × (after ≡ before) × (left_after ≡ left)
 
 -- what the words of the client come to
-pub record ComesTo (words : List (List ℕ)) (host : Host) (files : Option Files) (before after : Option (List Exchange))
+pub record ComesTo (words : List (List ℕ)) (host : Host) (files : Option Files)
+    (before after : Option (List Exchange))
     (left left_after old new : Option (List ℕ)) (result : Course) : Type 0 where
   pub server : Result Server Refusal
   pub serves : ForSome files (λ told. Freely (Serves told host (options_in words)) server)
   pub answers : Answers server (command_in words) before after left left_after old new result
 
 -- the same, with the number of the status
-pub record Controls (words : List (List ℕ)) (host : Host) (files : Option Files) (before after : Option (List Exchange))
+pub record Controls (words : List (List ℕ)) (host : Host) (files : Option Files)
+    (before after : Option (List Exchange))
     (left left_after old new : Option (List ℕ)) (status : ℕ) : Type 0 where
   pub course : Course
   pub comes : ComesTo words host files before after left left_after old new course

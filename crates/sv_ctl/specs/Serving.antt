@@ -12,7 +12,8 @@ use Rattle.sv_options.specs.Options.{options_of}
 use Rattle.sv_options.specs.declared.options.Options.{Options}
 use Rattle.sv_out.specs.Files.{Files}
 use Rattle.sv_ctl.specs.declared.refusal.Refusal.{Refusal}
-use Rattle.sv_ctl.specs.declared.refusal.Refusal.TheVariants.{Words, Missing, Conf, Unreadable, OutOfMemory}
+use Rattle.sv_ctl.specs.declared.refusal.Refusal.TheVariants.{Words, Missing, Conf, Unreadable}
+use Rattle.sv_ctl.specs.declared.refusal.Refusal.TheVariants.{OutOfMemory}
 use Rattle.sv_talk.specs.declared.server.Server.{Server}
 
 -- this holds of what is given, or memory was refused
@@ -36,7 +37,8 @@ client_in file (Err load.OutOfMemory) = Err OutOfMemory
 abbrev pub Reads : Files → Host → Option (List ℕ) → Result ClientSpec Refusal → Type 0
 Reads files host None client = client ≡ Ok default_client
 Reads files host (Some file) client =
-    (loaded : Result Loaded LoadFault) × Loads files file host loaded × (client ≡ client_in file loaded)
+    (loaded : Result Loaded LoadFault) × Loads files file host loaded
+    × (client ≡ client_in file loaded)
 
 -- an option's value in place of the configuration's
 abbrev pub chosen : Option (List ℕ) → List ℕ → List ℕ
@@ -66,7 +68,8 @@ server_of options (Err refusal) = Err refusal
 abbrev pub ServesBy : Files → Host → Option Options → Result Server Refusal → Type 0
 ServesBy files host None server = server ≡ Err Words
 ServesBy files host (Some options) server =
-    (client : Result ClientSpec Refusal) × Reads files host options.file client × (server ≡ server_of options client)
+    (client : Result ClientSpec Refusal) × Reads files host options.file client
+    × (server ≡ server_of options client)
 
 -- the server by the words of the options
 abbrev pub Serves : Files → Host → List (List ℕ) → Result Server Refusal → Type 0

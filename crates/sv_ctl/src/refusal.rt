@@ -7,7 +7,7 @@ ghost use Rattle.sv_ctl.specs.Serving.{IsUnreadable};
 use std::alloc::{AllocError, Global};
 use sv_base::{Bytes, Text};
 use sv_commands::Status;
-use sv_conf::ConfFault;
+use sv_sections::ConfFault;
 use sv_talk::{Course, Told};
 
 /// Why there is no server to ask.

@@ -4,7 +4,8 @@ ghost use Rattle.std.specs.Option.{ForSome};
 ghost use Rattle.sv_out.specs.Faults.{RisesWhere};
 ghost use Rattle.sv_ask.specs.ServerUrl.{place_of};
 ghost use Rattle.sv_load.specs.Loading as load;
-ghost use Rattle.sv_ctl.specs.Serving.{EndsUnreadable, Freely, Reads, Serves, chosen, client_in, default_client, server_at, with_options};
+ghost use Rattle.sv_ctl.specs.Serving.{EndsUnreadable, Freely, Reads, Serves, chosen, client_in};
+ghost use Rattle.sv_ctl.specs.Serving.{default_client, server_at, with_options};
 
 use crate::refusal::Refusal;
 use std::alloc::Global;

@@ -2,7 +2,7 @@
 use Rattle.std.proofs.Common.{◌≡◌, ℕ, zero, suc, pos, ◌+◌, ◌++◌, List, [], ◌∷◌, Bool, true, false, Option, Some, None, if◌then◌else◌, ◌∙◌, refl, ap, sym, subst}
 use Rattle.std.specs.Prelude.{◌-◌, length, nat_le, slice_get}
 use Rattle.sv_answers.specs.Served.{Request as Asked, Refuses as Refused_by, Calls as Asks, heard as ask_heard, is_several, no_parts, parts_in, reads_back, said, subject_of}
-use Rattle.sv_answers.specs.declared.read.Reading.{Reading}
+use Rattle.sv_answers.specs.declared.read.LogRead.{LogRead}
 use Rattle.sv_answers.specs.declared.sent.Sent.{Sent}
 use Rattle.sv_base.specs.declared.ids.LinkId.{LinkId}
 use Rattle.sv_base.specs.declared.ids.Run.{Run}
@@ -344,7 +344,7 @@ module _ (a : List Order) (G : Turn → Turn → Type 0) (g : OfQuestions a G) w
 
   -- ---- calls
 
-  pub asks_read_both : (link : LinkId) (reading : Reading) (w : World) (k : World → Turn) → Both k
+  pub asks_read_both : (link : LinkId) (reading : LogRead) (w : World) (k : World → Turn) → Both k
       → G (asks_read link reading w k) (asks_read link reading (later a w) k)
   unfolding asks_read
   asks_read_both link reading w k goes =
@@ -353,7 +353,7 @@ module _ (a : List Order) (G : Turn → Turn → Type 0) (g : OfQuestions a G) w
       (λ v reply. to k (read_answered link reading reply v) (read_answered link reading reply (later a v)) goes
       (answers_call_later a link (reads_back reading (file_reply reply)) v))
 
-  reads_both : (link : LinkId) (reading : Reading) (w : World) (k : World → Turn) → Both k
+  reads_both : (link : LinkId) (reading : LogRead) (w : World) (k : World → Turn) → Both k
       → G (reads link reading w k) (reads link reading (later a w) k)
   reads_both link reading w k goes =
       let o = order.ReadFile reading.file reading.span.start reading.span.length in

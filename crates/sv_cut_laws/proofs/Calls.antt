@@ -3,7 +3,7 @@ use Rattle.std.proofs.Common.{◌≡◌, ◌==◌, ◌⊎◌, inl, inr, ℕ, pos
 use Rattle.std.specs.Prelude.{slice_get}
 use Rattle.std.proofs.lemmas.Bool.{eq-eqb}
 use Rattle.sv_answers.specs.Served.{said, subject_of}
-use Rattle.sv_answers.specs.declared.read.Reading.{Reading}
+use Rattle.sv_answers.specs.declared.read.LogRead.{LogRead}
 use Rattle.sv_answers.specs.declared.sent.Sent.{Sent}
 use Rattle.sv_base.specs.declared.ids.LinkId.{LinkId}
 use Rattle.sv_calls.specs.CallBook as call_book
@@ -195,7 +195,7 @@ module _ (link : LinkId) (r : CallRecord) (w : World) (at : call_at link w.calls
   acts_come (inl over) = settled over
   acts_come (inr first) = spoke (stops_first wishes refl first)
 
-read_loud : (link : LinkId) (reading : Reading) (w : World) → Loud w (reads link reading w)
+read_loud : (link : LinkId) (reading : LogRead) (w : World) → Loud w (reads link reading w)
 read_loud link reading w =
     let o = order.ReadFile reading.file reading.span.start reading.span.length in
     loud_one w (gives o w) o (reads link reading w) (λ k x. asks_read link reading x k) refl refl (λ k. refl)

@@ -2,7 +2,7 @@
 use Rattle.std.proofs.Common.{◌≡◌, ℕ, zero, suc, pos, ◌+◌, ◌||◌, List, [], ◌∷◌, Bool, true, false, Option, Some, None, if◌then◌else◌, ◌∙◌, refl, ap, sym, subst}
 use Rattle.std.specs.Prelude.{◌-◌, codes, is_some, length, nat_le, slice_get}
 use Rattle.sv_answers.specs.Served.{Request as Asked, Refuses as Refused_by, Calls as Asks, heard as ask_heard, is_several, no_parts, parts_in, reads_back, said, subject_of}
-use Rattle.sv_answers.specs.declared.read.Reading.{Reading}
+use Rattle.sv_answers.specs.declared.read.LogRead.{LogRead}
 use Rattle.sv_base.specs.declared.ids.LinkId.{LinkId}
 use Rattle.sv_base.specs.declared.ids.Run.{Run}
 use Rattle.sv_base.specs.declared.kind.Kind.TheVariants as kind
@@ -301,7 +301,7 @@ does_all_keeps (suc left) link w k runs goes =
 answers_keeps : (link : LinkId) (reply : Answer) (w : World) (k : World → Turn) → AllRun w → GoesOn k → Keeps (k (answers_call link reply w))
 answers_keeps link reply w k runs goes = on k w (answers_call link reply w) (answers_crew link reply w) goes runs
 
-asks_read_keeps : (link : LinkId) (reading : Reading) (w : World) (k : World → Turn) → AllRun w → GoesOn k → Keeps (asks_read link reading w k)
+asks_read_keeps : (link : LinkId) (reading : LogRead) (w : World) (k : World → Turn) → AllRun w → GoesOn k → Keeps (asks_read link reading w k)
 unfolding asks_read
 asks_read_keeps link reading w k runs goes =
     λ v is reply. on k w (read_answered link reading reply v) (answers_crew link (reads_back reading (file_reply reply)) v ∙ is) goes runs

@@ -1,6 +1,8 @@
--- A cut of a client's bytes (RFC 9112, section 2.2: a message is read from a sequence of octets, however they arrive): two pieces
--- of a link at one moment, where the first one is answered by More and by nothing else.
-use Rattle.std.specs.Prelude.{◌≡◌, ◌<◌, ◌^◌, ◌-◌, ◌++◌, ◌∷◌, ℕ, List, [], true, is_some, map, length}
+-- A cut of a client's bytes (RFC 9112, section 2.2: a message is read from a sequence of octets,
+-- however they arrive): two pieces of a link at one moment, where the first one is answered by More
+-- and by nothing else.
+use Rattle.std.specs.Prelude.{◌≡◌, ◌<◌, ◌^◌, ◌-◌, ◌++◌, ◌∷◌, ℕ, List, [], true, is_some, map}
+use Rattle.std.specs.Prelude.{length}
 use Rattle.sv_base.specs.declared.ids.LinkId.{LinkId}
 use Rattle.sv_calls.specs.CallBook.{call_at}
 use Rattle.sv_core.specs.Deeds.{after, deeds}
@@ -47,15 +49,16 @@ AreFit w = (link : LinkId) → is_some (call_at link w.calls) ≡ true → is_se
 
 -- ---- the law
 
--- the cut is idle: its inputs are accepted, their deeds are so few that no number of an order comes twice, and the first piece is
--- answered by More alone
+-- the cut is idle: its inputs are accepted, their deeds are so few that no number of an order comes
+-- twice, and the first piece is answered by More alone
 pub record IsIdle (m : Model) (c : Cut) : Type 0 where
   pub accepted : AreAccepted m (with_cut c)
   pub few : length (deeds m (with_cut c)) < 2 ^ 64
   pub more : orders (after m c.before) (Piece c.at c.link c.first) ≡ order.More c.link ∷ []
   pub fit : AreFit (now (after m c.before))
 
--- it changes nothing: without it the inputs are accepted too, and their deeds are the same but for that More
+-- it changes nothing: without it the inputs are accepted too, and their deeds are the same but for
+-- that More
 pub record ChangesNothing (m : Model) (c : Cut) : Type 0 where
   pub accepted : AreAccepted m (without_cut c)
   pub rest : List Order

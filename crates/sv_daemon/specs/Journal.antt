@@ -1,4 +1,5 @@
--- What a daemon's journal holds after its header: what it tells of each input, and after that what it tells of its orders.
+-- What a daemon's journal holds after its header: what it tells of each input, and after that what
+-- it tells of its orders.
 use Rattle.std.specs.Prelude.{ℕ, List, [], ◌∷◌, ◌++◌, if◌then◌else◌}
 use Rattle.std.specs.List.{flat_map}
 use Rattle.sv_out.specs.declared.input.Input.{Input}

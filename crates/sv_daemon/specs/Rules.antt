@@ -1,9 +1,11 @@
--- What a machine is to the daemon's loop: which inputs each of its states accepts, what comes next, and which orders it gives.
+-- What a machine is to the daemon's loop: which inputs each of its states accepts, what comes next,
+-- and which orders it gives.
 use Rattle.std.specs.Prelude.{List, [], ◌∷◌, ◌++◌, Bool, if◌then◌else◌}
 use Rattle.sv_out.specs.declared.input.Input.{Input}
 use Rattle.sv_out.specs.declared.order.Order.{Order}
 
--- an input is accepted; the state after an accepted input, and the orders that it gives; and the halt was given
+-- an input is accepted; the state after an accepted input, and the orders that it gives; and the
+-- halt was given
 pub record Rules (M : Type 0) : Type 0 where
   pub accepts : M → Input → Bool
   pub next : M → Input → M

@@ -21,7 +21,8 @@ abbrev pub led : {A : Type 0} → List A → Option (List A) → Option (List A)
 led first told = option_map (λ rest. first ++ rest) told
 
 -- these inputs were given, these orders handed over, and these bytes written
-pub record Went (old new : Told) (inputs : List Input) (orders : List Order) (text : List ℕ) : Type 0 where
+pub record Went (old new : Told) (inputs : List Input) (orders : List Order) (text : List ℕ) : Type
+    0 where
   pub given : new.given ≡ grown inputs old.given
   pub left : old.left ≡ led inputs new.left
   pub handed : new.handed ≡ grown orders old.handed
@@ -32,5 +33,7 @@ abbrev pub IsUsedUp : Told → Type 0
 IsUsedUp told = ForSome told.left (λ inputs. inputs ≡ [])
 
 -- what these tell
-abbrev pub told : Option (List Input) → Option (List Input) → Option (List Order) → Option (List ℕ) → Told
-told given left handed journal = record { given = given; left = left; handed = handed; journal = journal }
+abbrev pub told : Option (List Input) → Option (List Input) → Option (List Order) → Option (List ℕ)
+    → Told
+told given left handed journal =
+    record { given = given; left = left; handed = handed; journal = journal }

@@ -1,5 +1,6 @@
 -- How one input is worked off.
-use Rattle.std.specs.Prelude.{◌≡◌, ◌⊎◌, ◌++◌, ℕ, List, [], Bool, true, false, Option, Result, Ok, Err}
+use Rattle.std.specs.Prelude.{◌≡◌, ◌⊎◌, ◌++◌, ℕ, List, [], Bool, true, false, Option, Result, Ok}
+use Rattle.std.specs.Prelude.{Err}
 use Rattle.std.specs.Io.KnownBytes.{Appends}
 use Rattle.sv_out.specs.declared.input.Input.{Input}
 use Rattle.sv_out.specs.declared.order.Order.{Order}
@@ -8,7 +9,8 @@ use Rattle.sv_daemon.specs.Rules.{Rules}
 use Rattle.sv_daemon.specs.Journal.{Texts, entry}
 use Rattle.sv_daemon.specs.Telling.{Told, grown}
 use Rattle.sv_daemon.specs.declared.serving.End.{End}
-use Rattle.sv_daemon.specs.declared.serving.End.TheVariants.{Halted, NoMemory, Broken, Ended, Full, Unwritten, Misplaced}
+use Rattle.sv_daemon.specs.declared.serving.End.TheVariants.{Halted, NoMemory, Broken, Ended, Full}
+use Rattle.sv_daemon.specs.declared.serving.End.TheVariants.{Unwritten, Misplaced}
 
 -- some of the orders were handed over, in their order from the first on
 pub record HandsFront (old new : Option (List Order)) (given : List Order) : Type 0 where
@@ -24,7 +26,8 @@ pub record Worked (old new : Told) (orders : List Order) (text : List ℕ) : Typ
   pub written : Appends old.journal new.journal text
 
 -- the same of some of the orders and bytes; no order before all bytes
-pub record WorkedPartly {M : Type 0} (R : Rules M) (texts : Texts) (m : M) (input : Input) (old new : Told) (handed : List Order) : Type 0 where
+pub record WorkedPartly {M : Type 0} (R : Rules M) (texts : Texts) (m : M) (input : Input)
+    (old new : Told) (handed : List Order) : Type 0 where
   pub text : List ℕ
   pub orders_begin : Begins handed (R.orders m input)
   pub text_begins : Begins text (entry texts input (R.orders m input))
@@ -32,13 +35,16 @@ pub record WorkedPartly {M : Type 0} (R : Rules M) (texts : Texts) (m : M) (inpu
   pub worked : Worked old new handed text
 
 -- an accepted input was worked off so
-abbrev pub WorksOff : {M : Type 0} → Rules M → Texts → M → (M → Type 0) → Input → Told → Told → Result (Unit {0}) End → Type 0
+abbrev pub WorksOff : {M : Type 0} → Rules M → Texts → M → (M → Type 0) → Input → Told → Told
+    → Result (Unit {0}) End → Type 0
 WorksOff R texts m stands input old new (Ok done) =
     Worked old new (R.orders m input) (entry texts input (R.orders m input))
     × stands (R.next m input) × (R.halted (R.next m input) ≡ false)
 WorksOff R texts m stands input old new (Err Halted) =
-    Worked old new (R.orders m input) (entry texts input (R.orders m input)) × (R.halted (R.next m input) ≡ true)
-WorksOff R texts m stands input old new (Err NoMemory) = (handed : List Order) × WorkedPartly R texts m input old new handed
+    Worked old new (R.orders m input) (entry texts input (R.orders m input))
+    × (R.halted (R.next m input) ≡ true)
+WorksOff R texts m stands input old new (Err NoMemory) =
+    (handed : List Order) × WorkedPartly R texts m input old new handed
 WorksOff R texts m stands input old new (Err Unwritten) = WorkedPartly R texts m input old new []
 WorksOff R texts m stands input old new (Err Broken) = ⊥
 WorksOff R texts m stands input old new (Err Ended) = ⊥

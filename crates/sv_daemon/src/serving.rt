@@ -1,5 +1,6 @@
 //! The loop.
-ghost use Rattle.std.specs.Prelude.{◌≡◌, ◌≢◌, ◌≤◌, ◌+◌, ◌∷◌, [], ℕ, IsTrue, true, false, Err, IfErr, OnErr, OnOk};
+ghost use Rattle.std.specs.Prelude.{◌≡◌, ◌≢◌, ◌≤◌, ◌+◌, ◌∷◌, [], ℕ, IsTrue, true, false, Err};
+ghost use Rattle.std.specs.Prelude.{IfErr, OnErr, OnOk};
 ghost use Rattle.sv_out.specs.Faults.{Rose};
 ghost use Rattle.sv_out.specs.declared.input.Input.{Input};
 ghost use Rattle.sv_daemon.specs.Course.{Stands, Stops};

@@ -1,5 +1,6 @@
 -- The date of a day that is counted from 1 January 1970.
-use Rattle.std.specs.Prelude.{ℕ, zero, suc, ◌+◌, ◌≤◌, pos, Bool, true, false, nat_lt}
+use Rattle.std.specs.Prelude.{ℕ, zero, suc, ◌+◌, ◌/◌, ◌%◌, ◌≤◌, List, [], ◌∷◌, pos, Bool, true}
+use Rattle.std.specs.Prelude.{false, nat_lt}
 use Rattle.jiff_core.specs.Calendar.{days_in_month}
 use Rattle.sv_dates.specs.declared.dates.Day.{Day}
 
@@ -28,3 +29,7 @@ pub record IsOfCalendar (d : Day) : Type 0 where
   pub year : d.year ≤ 9999
   pub month : d.month ≤ 12
   pub day : d.day ≤ 31
+
+-- a number below 100 by two digits, as in the texts of dates and times
+abbrev pub two_digits : ℕ → List ℕ
+two_digits n = (48 + n / 10) ∷ (48 + n % 10) ∷ []

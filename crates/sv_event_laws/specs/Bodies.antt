@@ -1,4 +1,5 @@
--- Which events have which body (the manual's chapter on events): the facts that an event of a type may tell.
+-- Which events have which body (the manual's chapter on events): the facts that an event of a type
+-- may tell.
 use Rattle.std.specs.Prelude.{Bool, true, false}
 use Rattle.sv_base.specs.declared.kind.Kind.{Kind}
 use Rattle.sv_base.specs.declared.kind.Kind.TheVariants as kind

@@ -1,7 +1,20 @@
--- Which events a pool is told of (the manual's chapter on events): an event type covers itself and those below it.
+-- Which events a pool is told of (the manual's chapter on events): an event type covers itself and
+-- those below it.
 use Rattle.std.specs.Prelude.{◌≡◌, Option, Some, None}
 use Rattle.sv_base.specs.declared.kind.Kind.{Kind}
-use Rattle.sv_base.specs.declared.kind.Kind.TheVariants.{Event, ProcessState, ProcessStateStarting, ProcessStateRunning, ProcessStateBackoff, ProcessStateStopping, ProcessStateExited, ProcessStateStopped, ProcessStateFatal, ProcessStateUnknown, ProcessCommunication, ProcessCommunicationStdout, ProcessCommunicationStderr, ProcessLog, ProcessLogStdout, ProcessLogStderr, RemoteCommunication, SupervisorStateChange, SupervisorStateChangeRunning, SupervisorStateChangeStopping, Tick, Tick5, Tick60, Tick3600, ProcessGroup, ProcessGroupAdded, ProcessGroupRemoved}
+use Rattle.sv_base.specs.declared.kind.Kind.TheVariants.{Event, ProcessState, ProcessStateStarting}
+use Rattle.sv_base.specs.declared.kind.Kind.TheVariants.{ProcessStateRunning, ProcessStateBackoff}
+use Rattle.sv_base.specs.declared.kind.Kind.TheVariants.{ProcessStateStopping, ProcessStateExited}
+use Rattle.sv_base.specs.declared.kind.Kind.TheVariants.{ProcessStateStopped, ProcessStateFatal}
+use Rattle.sv_base.specs.declared.kind.Kind.TheVariants.{ProcessStateUnknown, ProcessCommunication}
+use Rattle.sv_base.specs.declared.kind.Kind.TheVariants.{ProcessCommunicationStdout}
+use Rattle.sv_base.specs.declared.kind.Kind.TheVariants.{ProcessCommunicationStderr, ProcessLog}
+use Rattle.sv_base.specs.declared.kind.Kind.TheVariants.{ProcessLogStdout, ProcessLogStderr}
+use Rattle.sv_base.specs.declared.kind.Kind.TheVariants.{RemoteCommunication, SupervisorStateChange}
+use Rattle.sv_base.specs.declared.kind.Kind.TheVariants.{SupervisorStateChangeRunning}
+use Rattle.sv_base.specs.declared.kind.Kind.TheVariants.{SupervisorStateChangeStopping, Tick, Tick5}
+use Rattle.sv_base.specs.declared.kind.Kind.TheVariants.{Tick60, Tick3600, ProcessGroup}
+use Rattle.sv_base.specs.declared.kind.Kind.TheVariants.{ProcessGroupAdded, ProcessGroupRemoved}
 
 -- the event type right above an event type
 abbrev pub parent_of : Kind → Option Kind
@@ -36,4 +49,5 @@ parent_of ProcessGroupRemoved = Some ProcessGroup
 -- the first covers the second: itself, and what is covered by one that it stands right above
 pub data Covers : Kind → Kind → Type 0 where
   itself : (kind : Kind) → Covers kind kind
-  above : (upper middle lower : Kind) → parent_of middle ≡ Some upper → Covers middle lower → Covers upper lower
+  above : (upper middle lower : Kind) → parent_of middle ≡ Some upper → Covers middle lower
+      → Covers upper lower

@@ -1,5 +1,6 @@
 //! An event, and the text that a listener gets of it.
-ghost use Rattle.std.specs.Prelude.{◌≡◌, ◌^◌, ◌<◌, List, ℕ, IfOk, IsTrue, Some, length, string_bytes};
+ghost use Rattle.std.specs.Prelude.{◌≡◌, ◌^◌, ◌<◌, List, ℕ, IfOk, IsTrue, Some, length};
+ghost use Rattle.std.specs.Prelude.{string_bytes};
 ghost use Rattle.std.specs.List.{before_first, after_first};
 ghost use Rattle.sv_events.specs.declared.event.Event.{Event};
 ghost use Rattle.sv_events.specs.EventText.{envelope_of, envelope_head};

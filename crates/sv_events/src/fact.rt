@@ -1,7 +1,8 @@
 //! What happened, and the body that an event has of it.
 ghost use Rattle.std.specs.Prelude.{◌≡◌, ◌++◌, ◌∷◌, [], IfOk, codes, string_bytes};
 ghost use Rattle.std.specs.Fmt.{decimal};
-ghost use Rattle.sv_events.specs.EventText.{body_of, process_head, state_head, expected_digit, channel_name};
+ghost use Rattle.sv_events.specs.EventText.{body_of, process_head, state_head, expected_digit};
+ghost use Rattle.sv_events.specs.EventText.{channel_name};
 
 use crate::write::{push_field, push_number, with_lines};
 use std::alloc::{AllocError, Global};

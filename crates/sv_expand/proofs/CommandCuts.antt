@@ -12,10 +12,10 @@ use Rattle.sv_expand.specs.WordCuts.{Part, Quoted, written, written_all, quoted_
 use Rattle.sv_expand.specs.WordCuts.Part.{Gap, Plain, Kept, Single, Double}
 use Rattle.sv_expand.specs.WordCuts.Quoted.{Itself, Escaped, Both}
 use Rattle.sv_expand.specs.Words.{Reached, parts_words, moved, with_char, ended, outside, after, after_at, after_all, closed, words_of, at_start}
-use Rattle.sv_expand.specs.declared.split.Place.{Place}
-use Rattle.sv_expand.specs.declared.split.Place.TheVariants as here
+use Rattle.sv_expand.specs.declared.split.WordsProgress.{WordsProgress}
+use Rattle.sv_expand.specs.declared.split.WordsProgress.TheVariants as here
 
-abbrev state : List (List ℕ) → List ℕ → Place → Reached
+abbrev state : List (List ℕ) → List ℕ → WordsProgress → Reached
 state words word place = record { words = words; word = word; place = place }
 
 -- outside quotes: between words, or in a word
@@ -160,7 +160,7 @@ all_quoted_read (first ∷ quoted) rest words word are =
     ∙ all_quoted_read quoted rest words (word ++ quoted_value first) are.1
     ∙ ap (λ w. after_all rest (state words w here.Double)) (append_assoc word (quoted_value first) (flat_map quoted_value quoted))
 
-outside_moved : (spot : Spot) (place : Place) → moved place (state_of spot) ≡ state (words_at spot) (word_at spot) place
+outside_moved : (spot : Spot) (place : WordsProgress) → moved place (state_of spot) ≡ state (words_at spot) (word_at spot) place
 outside_moved (Off words) place = refl
 outside_moved (On words word) place = refl
 
@@ -254,7 +254,7 @@ open_no_words text has =
     ∙ open_none (after_parts has.front (Off [])) has.rest has.ending
 
 -- the characters of the piece that is going on after a spot
-abbrev IsGoing : Spot → List ℕ → List (List ℕ) → List ℕ → Place → Type 0
+abbrev IsGoing : Spot → List ℕ → List (List ℕ) → List ℕ → WordsProgress → Type 0
 IsGoing spot going words word here.Between = (going ≡ []) × (spot ≡ Off words) × (word ≡ [])
 IsGoing spot going words word here.Bare = (going ≡ []) × (spot ≡ On words word)
 IsGoing spot going words word here.Kept = (going ≡ 92 ∷ []) × (words ≡ words_at spot) × (word ≡ word_at spot)
@@ -267,7 +267,7 @@ IsGoing spot going words word here.DoubleKept =
     (quoted : List Quoted) × AreQuoted quoted × (going ≡ 34 ∷ (flat_map quoted_written quoted ++ 92 ∷ [])) × (words ≡ words_at spot)
     × (word ≡ word_at spot ++ flat_map quoted_value quoted)
 
-record Stands (seen : List ℕ) (words : List (List ℕ)) (word : List ℕ) (place : Place) : Type 0 where
+record Stands (seen : List ℕ) (words : List (List ℕ)) (word : List ℕ) (place : WordsProgress) : Type 0 where
   front : List Part
   going : List ℕ
   cut : seen ≡ written_all front ++ going
@@ -278,7 +278,7 @@ abbrev StandsIn : List ℕ → Reached → Type 0
 StandsIn seen r = Stands seen r.words r.word r.place
 
 -- one more character of a piece
-grows : (seen : List ℕ) (c : ℕ) (words : List (List ℕ)) (word : List ℕ) (place : Place) (others : List (List ℕ)) (other : List ℕ) (next : Place)
+grows : (seen : List ℕ) (c : ℕ) (words : List (List ℕ)) (word : List ℕ) (place : WordsProgress) (others : List (List ℕ)) (other : List ℕ) (next : WordsProgress)
     → (was : Stands seen words word place) → IsGoing (after_parts was.front (Off [])) (was.going ++ c ∷ []) others other next
     → Stands (seen ++ c ∷ []) others other next
 grows seen c words word place others other next was is = record {
@@ -298,7 +298,7 @@ after_more [] part spot = refl
 after_more (first ∷ front) part spot = after_more front part (after_part first spot)
 
 -- a part ends
-ended_at : (seen : List ℕ) (c : ℕ) (words : List (List ℕ)) (word : List ℕ) (place : Place) (part : Part) (others : List (List ℕ)) (other : List ℕ) (next : Place)
+ended_at : (seen : List ℕ) (c : ℕ) (words : List (List ℕ)) (word : List ℕ) (place : WordsProgress) (part : Part) (others : List (List ℕ)) (other : List ℕ) (next : WordsProgress)
     → (was : Stands seen words word place) → IsPart part → written part ≡ was.going ++ c ∷ []
     → IsGoing (after_part part (after_parts was.front (Off []))) [] others other next
     → Stands (seen ++ c ∷ []) others other next
@@ -313,7 +313,7 @@ ended_at seen c words word place part others other next was is spells going = re
 }
 
 -- a piece ends
-piece_ended : (seen : List ℕ) (c : ℕ) (words : List (List ℕ)) (word : List ℕ) (place : Place) (part : Part) (other : List ℕ)
+piece_ended : (seen : List ℕ) (c : ℕ) (words : List (List ℕ)) (word : List ℕ) (place : WordsProgress) (part : Part) (other : List ℕ)
     → (was : Stands seen words word place) → IsPiece part → IsPart part → written part ≡ was.going ++ c ∷ []
     → words ≡ words_at (after_parts was.front (Off [])) → other ≡ word_at (after_parts was.front (Off [])) ++ value part
     → Stands (seen ++ c ∷ []) words other here.Bare
@@ -323,7 +323,7 @@ piece_ended seen c words word place part other was piece is spells words_are oth
     (refl, on_piece part spot piece ∙ ap (λ ws. On ws (word_at spot ++ value part)) (sym words_are) ∙ ap (λ w. On words w) (sym other_is))
 
 -- a character outside quotes, which parts no words
-out_of_quotes : (seen : List ℕ) (c : ℕ) (words : List (List ℕ)) (word : List ℕ) (place : Place) → (was : Stands seen words word place) → was.going ≡ []
+out_of_quotes : (seen : List ℕ) (c : ℕ) (words : List (List ℕ)) (word : List ℕ) (place : WordsProgress) → (was : Stands seen words word place) → was.going ≡ []
     → words ≡ words_at (after_parts was.front (Off [])) → word ≡ word_at (after_parts was.front (Off [])) → parts_words c ≡ false
     → StandsIn (seen ++ c ∷ []) (outside c (state words word place))
 out_of_quotes seen c words word place was none words_are word_is apart =
@@ -359,7 +359,7 @@ mapped_more : (f : Quoted → List ℕ) (quoted : List Quoted) (last : Quoted) �
 mapped_more f quoted last = flat_map-append f quoted (last ∷ []) ∙ ap (λ back. flat_map f quoted ++ back) (append-nil (f last))
 
 -- one thing more in double quotes
-in_double : (seen : List ℕ) (c : ℕ) (words : List (List ℕ)) (word : List ℕ) (place : Place) (quoted : List Quoted) (last : Quoted) (other : List ℕ)
+in_double : (seen : List ℕ) (c : ℕ) (words : List (List ℕ)) (word : List ℕ) (place : WordsProgress) (quoted : List Quoted) (last : Quoted) (other : List ℕ)
     → (was : Stands seen words word place) → AreQuoted quoted → IsQuoted last
     → was.going ++ c ∷ [] ≡ 34 ∷ (flat_map quoted_written quoted ++ quoted_written last)
     → words ≡ words_at (after_parts was.front (Off [])) → other ≡ (word_at (after_parts was.front (Off [])) ++ flat_map quoted_value quoted) ++ quoted_value last
@@ -375,7 +375,7 @@ in_double seen c words word place quoted last other was are is spells words_are 
           ∙ ap (λ back. word_at spot ++ back) (sym (mapped_more quoted_value quoted last)),
     )
 
-step : (seen : List ℕ) (c : ℕ) (words : List (List ℕ)) (word : List ℕ) (place : Place) → Stands seen words word place
+step : (seen : List ℕ) (c : ℕ) (words : List (List ℕ)) (word : List ℕ) (place : WordsProgress) → Stands seen words word place
     → StandsIn (seen ++ c ∷ []) (after_at place c (state words word place))
 step seen c words word here.Between was =
     let r = state words word here.Between in
@@ -430,7 +430,7 @@ step seen c words word here.DoubleKept was =
     (λ is. in_double seen c words word here.DoubleKept s.0 (Both c) ((word ++ encode_utf8 92) ++ encode_utf8 c) was s.1 is spells s.3
     (append_assoc word (encode_utf8 92) (encode_utf8 c) ∙ ap (λ w. w ++ (encode_utf8 92 ++ encode_utf8 c)) s.4))
 
-steps : (cs seen : List ℕ) (words : List (List ℕ)) (word : List ℕ) (place : Place) → Stands seen words word place
+steps : (cs seen : List ℕ) (words : List (List ℕ)) (word : List ℕ) (place : WordsProgress) → Stands seen words word place
     → StandsIn (seen ++ cs) (after_all cs (state words word place))
 steps [] seen words word place was = subst (λ (all : List ℕ). Stands all words word place) (sym (append-nil seen)) was
 steps (c ∷ cs) seen words word place was =
@@ -443,7 +443,7 @@ abbrev Says : List ℕ → Option (List (List ℕ)) → Type 0
 Says all (Some words) = (parts : List Part) × (all ≡ written_all parts) × AreParts parts × (words ≡ told parts)
 Says all None = (front : List Part) × (rest : List ℕ) × (all ≡ written_all front ++ rest) × AreParts front × IsOpen rest
 
-closing : (all : List ℕ) (words : List (List ℕ)) (word : List ℕ) (place : Place) → Stands all words word place → Says all (closed (state words word place))
+closing : (all : List ℕ) (words : List (List ℕ)) (word : List ℕ) (place : WordsProgress) → Stands all words word place → Says all (closed (state words word place))
 closing all words word here.Between was = (
   was.front,
   was.cut ∙ ap (λ going. written_all was.front ++ going) was.is.0 ∙ append-nil (written_all was.front),

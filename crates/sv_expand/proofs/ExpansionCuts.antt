@@ -14,12 +14,12 @@ use Rattle.sv_expand.specs.Expansion.{Reached, after, after_at, after_all, close
 use Rattle.sv_expand.specs.declared.fault.ExpandFault.{ExpandFault}
 use Rattle.sv_expand.specs.declared.fault.ExpandFault.TheVariants.{BadForm, Unknown, OutOfMemory}
 use Rattle.sv_expand.specs.declared.names.Names.{Names}
-use Rattle.sv_expand.specs.declared.expanding.Place.{Place}
-use Rattle.sv_expand.specs.declared.expanding.Place.TheVariants as here
+use Rattle.sv_expand.specs.declared.expanding.ExpansionProgress.{ExpansionProgress}
+use Rattle.sv_expand.specs.declared.expanding.ExpansionProgress.TheVariants as here
 
 -- where a form that is bad stands: no earlier than where the reading goes on
 
-abbrev IsLow : ℕ → Place → ℕ → Type 0
+abbrev IsLow : ℕ → ExpansionProgress → ℕ → Type 0
 IsLow low here.Plain start = Unit {0}
 IsLow low at start = low ≤ start
 
@@ -34,7 +34,7 @@ value_low : (low : ℕ) (o : Option (List ℕ)) (r : Reached) → LowResult low 
 value_low low (Some value) r = tt
 value_low low None r = λ p e. cc
 
-after_low : (names : Names) (low at c : ℕ) (told name : List ℕ) (start : ℕ) (place : Place) → low ≤ at → IsLow low place start
+after_low : (names : Names) (low at c : ℕ) (told name : List ℕ) (start : ℕ) (place : ExpansionProgress) → low ≤ at → IsLow low place start
     → LowResult low (after_at names place at c (reached told name start place))
 after_low names low at c told name start here.Plain is from =
     choose (LowResult low) (c == 37) (Ok (begun at (reached told name start here.Plain))) (Ok (with_char c (reached told name start here.Plain))) is tt
@@ -44,9 +44,9 @@ after_low names low at c told name start here.Percent is from =
     (choose (LowResult low) (c == 40) (Ok (moved here.Name r)) (bad_form r) from (bad_low low r from))
 after_low names low at c told name start here.Name is from =
     let r = reached told name start here.Name in
-    choose (LowResult low) (c == 41) (Ok (moved here.Behind r)) (Ok (with_name c r)) from from
-after_low names low at c told name start here.Behind is from =
-    let r = reached told name start here.Behind in
+    choose (LowResult low) (c == 41) (Ok (moved here.AfterName r)) (Ok (with_name c r)) from from
+after_low names low at c told name start here.AfterName is from =
+    let r = reached told name start here.AfterName in
     choose (LowResult low) (c == 115) (with_value (text_told names name) r) _ (value_low low (text_told names name) r)
     (choose (LowResult low) (c == 100) (with_value (number_told names 32 0 name) r) _ (value_low low (number_told names 32 0 name) r)
     (choose (LowResult low) (c == 48) (Ok (moved here.Zero r)) _ from
@@ -62,12 +62,12 @@ after_low names low at c told name start (here.Wide filler width) is from =
 abbrev goes_on : Names → ℕ → List ℕ → Result Reached ExpandFault → Result (List ℕ) ExpandFault
 goes_on names at cs res = and_then (and_then res (λ next. after_all names at cs next)) closed
 
-closed_low : (low p : ℕ) (told name : List ℕ) (start : ℕ) (place : Place) → IsLow low place start
+closed_low : (low p : ℕ) (told name : List ℕ) (start : ℕ) (place : ExpansionProgress) → IsLow low place start
     → closed (reached told name start place) ≡ Err (BadForm p) → low ≤ p
 closed_low low p told name start here.Plain from e = cc
 closed_low low p told name start here.Percent from e = let same : start ≡ p = cc in omega (arith, same, from)
 closed_low low p told name start here.Name from e = let same : start ≡ p = cc in omega (arith, same, from)
-closed_low low p told name start here.Behind from e = let same : start ≡ p = cc in omega (arith, same, from)
+closed_low low p told name start here.AfterName from e = let same : start ≡ p = cc in omega (arith, same, from)
 closed_low low p told name start here.Zero from e = let same : start ≡ p = cc in omega (arith, same, from)
 closed_low low p told name start (here.Wide filler width) from e = let same : start ≡ p = cc in omega (arith, same, from)
 
@@ -77,7 +77,7 @@ goes_low : (names : Names) (low p at : ℕ) (cs : List ℕ) (res : Result Reache
 goes_low names low p at cs (Ok r) is again e = again r is e
 goes_low names low p at cs (Err fault) is again e = let same : fault ≡ BadForm p = cc in is p same
 
-bad_later : (names : Names) (cs : List ℕ) (low p at : ℕ) (told name : List ℕ) (start : ℕ) (place : Place) → low ≤ at → IsLow low place start
+bad_later : (names : Names) (cs : List ℕ) (low p at : ℕ) (told name : List ℕ) (start : ℕ) (place : ExpansionProgress) → low ≤ at → IsLow low place start
     → gives names at cs (reached told name start place) ≡ Err (BadForm p) → low ≤ p
 bad_later names [] low p at told name start place is from e = closed_low low p told name start place from e
 bad_later names (c ∷ cs) low p at told name start place is from e =
@@ -133,12 +133,12 @@ Says names base told all (Err fault) =
     × StandsAt names (base + size (written_all front)) rest fault
 
 -- the characters of the form that is going on, which begins at a place
-abbrev IsGoing : ℕ → Place → List ℕ → ℕ → List ℕ → Type 0
+abbrev IsGoing : ℕ → ExpansionProgress → List ℕ → ℕ → List ℕ → Type 0
 IsGoing begin here.Plain name start going = going ≡ []
 IsGoing begin here.Percent name start going = (start ≡ begin) × (name ≡ []) × (going ≡ 37 ∷ [])
 IsGoing begin here.Name name start going =
     (start ≡ begin) × ((n : List ℕ) × (is_name n ≡ true) × (name ≡ encode_utf8_all n) × (going ≡ 37 ∷ 40 ∷ n))
-IsGoing begin here.Behind name start going =
+IsGoing begin here.AfterName name start going =
     (start ≡ begin) × ((n : List ℕ) × (is_name n ≡ true) × (name ≡ encode_utf8_all n) × (going ≡ 37 ∷ 40 ∷ (n ++ 41 ∷ [])))
 IsGoing begin here.Zero name start going =
     (start ≡ begin) × ((n : List ℕ) × (is_name n ≡ true) × (name ≡ encode_utf8_all n) × (going ≡ 37 ∷ 40 ∷ (n ++ 41 ∷ 48 ∷ [])))
@@ -147,7 +147,7 @@ IsGoing begin (here.Wide filler width) name start going =
     × (((filler ≡ 32) × (going ≡ 37 ∷ 40 ∷ (n ++ 41 ∷ digit ∷ []))) ⊎ ((filler ≡ 48) × (going ≡ 37 ∷ 40 ∷ (n ++ 41 ∷ 48 ∷ digit ∷ [])))))
 
 -- what was read stands for these characters: parts with values, and a form that is going on
-record Stands (names : Names) (base : ℕ) (before seen : List ℕ) (at : ℕ) (told name : List ℕ) (start : ℕ) (place : Place) : Type 0 where
+record Stands (names : Names) (base : ℕ) (before seen : List ℕ) (at : ℕ) (told name : List ℕ) (start : ℕ) (place : ExpansionProgress) : Type 0 where
   front : List Part
   going : List ℕ
   x : List ℕ
@@ -180,7 +180,7 @@ values_more names (first ∷ front) part x v has is =
     ∙ ap (λ bs. Some bs) (sym (append_assoc j.front j.back v) ∙ ap (λ bs. bs ++ v) j.same)
 
 -- one more character of a form
-grows : (names : Names) (base : ℕ) (before seen : List ℕ) (at c : ℕ) (told name : List ℕ) (start : ℕ) (place : Place) (other : List ℕ) (begin : ℕ) (next : Place)
+grows : (names : Names) (base : ℕ) (before seen : List ℕ) (at c : ℕ) (told name : List ℕ) (start : ℕ) (place : ExpansionProgress) (other : List ℕ) (begin : ℕ) (next : ExpansionProgress)
     → (was : Stands names base before seen at told name start place)
     → after names at c (reached told name start place) ≡ Ok (reached told other begin next)
     → IsGoing (base + size (written_all was.front)) next other begin (was.going ++ c ∷ [])
@@ -200,7 +200,7 @@ grows names base before seen at c told name start place other begin next was e i
 }
 
 -- a part ends, and its value is told
-ended : (names : Names) (base : ℕ) (before seen : List ℕ) (at c : ℕ) (told name : List ℕ) (start : ℕ) (place : Place) (other : List ℕ) (begin : ℕ)
+ended : (names : Names) (base : ℕ) (before seen : List ℕ) (at c : ℕ) (told name : List ℕ) (start : ℕ) (place : ExpansionProgress) (other : List ℕ) (begin : ℕ)
     (part : Part) (v : List ℕ) → (was : Stands names base before seen at told name start place) → IsPart part → value names part ≡ Some v
     → written part ≡ was.going ++ c ∷ []
     → Stands names base before (seen ++ c ∷ []) (at + len_utf8 c) (told ++ v) other begin here.Plain
@@ -226,7 +226,7 @@ ended names base before seen at c told name start place other begin part v was i
     }
 
 -- a form that is bad
-bad : (names : Names) (base : ℕ) (before seen : List ℕ) (at : ℕ) (told name : List ℕ) (start : ℕ) (place : Place) (more : List ℕ)
+bad : (names : Names) (base : ℕ) (before seen : List ℕ) (at : ℕ) (told name : List ℕ) (start : ℕ) (place : ExpansionProgress) (more : List ℕ)
     → (was : Stands names base before seen at told name start place) → start ≡ base + size (written_all was.front)
     → gives names at more (reached told name start place) ≡ Err (BadForm start)
     → Says names base before (seen ++ more) (Err (BadForm start))
@@ -248,13 +248,13 @@ abbrev Next : Names → ℕ → List ℕ → List ℕ → ℕ → List ℕ → �
 Next names base before seen c cs at from (Ok r) = from ≡ Ok r → Stands names base before (seen ++ c ∷ []) (at + len_utf8 c) r.told r.name r.start r.place
 Next names base before seen c cs at from (Err fault) = from ≡ Err fault → Says names base before (seen ++ c ∷ cs) (Err fault)
 
-next_bad : (names : Names) (base : ℕ) (before seen : List ℕ) (at c : ℕ) (cs told name : List ℕ) (start : ℕ) (place : Place)
+next_bad : (names : Names) (base : ℕ) (before seen : List ℕ) (at c : ℕ) (cs told name : List ℕ) (start : ℕ) (place : ExpansionProgress)
     → (was : Stands names base before seen at told name start place) → start ≡ base + size (written_all was.front)
     → Next names base before seen c cs at (after names at c (reached told name start place)) (bad_form (reached told name start place))
 next_bad names base before seen at c cs told name start place was begins = λ e.
     bad names base before seen at told name start place (c ∷ cs) was begins (ap (λ res. goes_on names (at + len_utf8 c) cs res) e)
 
-next_value : (names : Names) (base : ℕ) (before seen : List ℕ) (at c : ℕ) (cs told name : List ℕ) (start : ℕ) (place : Place) (part : Part) (o : Option (List ℕ))
+next_value : (names : Names) (base : ℕ) (before seen : List ℕ) (at c : ℕ) (cs told name : List ℕ) (start : ℕ) (place : ExpansionProgress) (part : Part) (o : Option (List ℕ))
     (from : Result Reached ExpandFault) → (was : Stands names base before seen at told name start place) → IsPart part → value names part ≡ o → name ≡ name_in part
     → written part ≡ was.going ++ c ∷ []
     → Next names base before seen c cs at from (with_value o (reached told name start place))
@@ -291,7 +291,7 @@ behind : (n form going : List ℕ) (c d : ℕ) → going ≡ 37 ∷ 40 ∷ (n ++
 behind n form going c d is same =
     ap (λ back. 37 ∷ 40 ∷ back) (sym (append_assoc n (41 ∷ form) (d ∷ []))) ∙ ap (λ all. all ++ d ∷ []) (sym is) ∙ ap (λ e. going ++ e ∷ []) (sym same)
 
-step : (names : Names) (base : ℕ) (before seen : List ℕ) (at c : ℕ) (cs told name : List ℕ) (start : ℕ) (place : Place)
+step : (names : Names) (base : ℕ) (before seen : List ℕ) (at c : ℕ) (cs told name : List ℕ) (start : ℕ) (place : ExpansionProgress)
     → Stands names base before seen at told name start place
     → Next names base before seen c cs at (after names at c (reached told name start place)) (after_at names place at c (reached told name start place))
 step names base before seen at c cs told name start here.Plain was =
@@ -318,8 +318,8 @@ step names base before seen at c cs told name start here.Percent was =
 step names base before seen at c cs told name start here.Name was =
     let r = reached told name start here.Name in
     let n = was.is.1 in
-    cond_by (Next names base before seen c cs at (after names at c r)) (c == 41) (Ok (moved here.Behind r)) (Ok (with_name c r))
-    (λ is. λ e. grows names base before seen at c told name start here.Name name start here.Behind was e (
+    cond_by (Next names base before seen c cs at (after names at c r)) (c == 41) (Ok (moved here.AfterName r)) (Ok (with_name c r))
+    (λ is. λ e. grows names base before seen at c told name start here.Name name start here.AfterName was e (
       was.is.0,
       (n.0, n.1, n.2, ap (λ going. going ++ c ∷ []) n.3 ∙ ap (λ d. 37 ∷ 40 ∷ (n.0 ++ d ∷ [])) (eq_true c 41 is)),
     ))
@@ -332,22 +332,22 @@ step names base before seen at c cs told name start here.Name was =
         ap (λ going. going ++ c ∷ []) n.3,
       ),
     ))
-step names base before seen at c cs told name start here.Behind was =
-    let r = reached told name start here.Behind in
+step names base before seen at c cs told name start here.AfterName was =
+    let r = reached told name start here.AfterName in
     let n = was.is.1 in
     cond_by (Next names base before seen c cs at (after names at c r)) (c == 115) (with_value (text_told names name) r) _
-    (λ is. next_value names base before seen at c cs told name start here.Behind (Value n.0) (text_told names name) (after names at c r) was n.1
+    (λ is. next_value names base before seen at c cs told name start here.AfterName (Value n.0) (text_told names name) (after names at c r) was n.1
     (ap (text_told names) (sym n.2)) n.2 (behind n.0 [] was.going c 115 n.3 (eq_true c 115 is)))
     (λ other. cond_by (Next names base before seen c cs at (after names at c r)) (c == 100) (with_value (number_told names 32 0 name) r) _
-    (λ is. next_value names base before seen at c cs told name start here.Behind (Number n.0) (number_told names 32 0 name) (after names at c r) was n.1
+    (λ is. next_value names base before seen at c cs told name start here.AfterName (Number n.0) (number_told names 32 0 name) (after names at c r) was n.1
     (ap (number_told names 32 0) (sym n.2)) n.2 (behind n.0 [] was.going c 100 n.3 (eq_true c 100 is)))
     (λ other. cond_by (Next names base before seen c cs at (after names at c r)) (c == 48) (Ok (moved here.Zero r)) _
-    (λ is. λ e. grows names base before seen at c told name start here.Behind name start here.Zero was e
+    (λ is. λ e. grows names base before seen at c told name start here.AfterName name start here.Zero was e
     (was.is.0, (n.0, n.1, n.2, sym (behind n.0 [] was.going c 48 n.3 (eq_true c 48 is)))))
     (λ other. cond_by (Next names base before seen c cs at (after names at c r)) (is_width c) (Ok (moved (here.Wide 32 (c - 48)) r)) (bad_form r)
-    (λ is. λ e. grows names base before seen at c told name start here.Behind name start (here.Wide 32 (c - 48)) was e
+    (λ is. λ e. grows names base before seen at c told name start here.AfterName name start (here.Wide 32 (c - 48)) was e
     (was.is.0, (n.0, c, n.1, n.2, is, refl, inl (refl, sym (behind n.0 [] was.going c c n.3 refl)))))
-    (λ other. next_bad names base before seen at c cs told name start here.Behind was was.is.0))))
+    (λ other. next_bad names base before seen at c cs told name start here.AfterName was was.is.0))))
 step names base before seen at c cs told name start here.Zero was =
     let r = reached told name start here.Zero in
     let n = was.is.1 in
@@ -376,7 +376,7 @@ step names base before seen at c cs told name start (here.Wide filler width) was
     (λ other. next_bad names base before seen at c cs told name start (here.Wide filler width) was was.is.0)
 
 -- where the characters end
-closing : (names : Names) (base : ℕ) (before seen : List ℕ) (at : ℕ) (told name : List ℕ) (start : ℕ) (place : Place)
+closing : (names : Names) (base : ℕ) (before seen : List ℕ) (at : ℕ) (told name : List ℕ) (start : ℕ) (place : ExpansionProgress)
     → Stands names base before seen at told name start place → Says names base before (seen ++ []) (closed (reached told name start place))
 closing names base before seen at told name start here.Plain was = (
   was.front,
@@ -388,7 +388,7 @@ closing names base before seen at told name start here.Plain was = (
 )
 closing names base before seen at told name start here.Percent was = bad names base before seen at told name start here.Percent [] was was.is.0 refl
 closing names base before seen at told name start here.Name was = bad names base before seen at told name start here.Name [] was was.is.0 refl
-closing names base before seen at told name start here.Behind was = bad names base before seen at told name start here.Behind [] was was.is.0 refl
+closing names base before seen at told name start here.AfterName was = bad names base before seen at told name start here.AfterName [] was was.is.0 refl
 closing names base before seen at told name start here.Zero was = bad names base before seen at told name start here.Zero [] was was.is.0 refl
 closing names base before seen at told name start (here.Wide filler width) was =
     bad names base before seen at told name start (here.Wide filler width) [] was was.is.0 refl
@@ -402,7 +402,7 @@ goes names base before seen at c cs from (Ok r) next e again =
     subst (λ (all : List ℕ). Says names base before all (gives names (at + len_utf8 c) cs r)) (append_assoc seen (c ∷ []) cs) (again r (next e))
 goes names base before seen at c cs from (Err fault) next e again = next e
 
-answer : (names : Names) (base : ℕ) (before cs seen : List ℕ) (at : ℕ) (told name : List ℕ) (start : ℕ) (place : Place)
+answer : (names : Names) (base : ℕ) (before cs seen : List ℕ) (at : ℕ) (told name : List ℕ) (start : ℕ) (place : ExpansionProgress)
     → Stands names base before seen at told name start place
     → Says names base before (seen ++ cs) (gives names at cs (reached told name start place))
 answer names base before [] seen at told name start place was = closing names base before seen at told name start place was

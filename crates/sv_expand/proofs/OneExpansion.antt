@@ -13,10 +13,10 @@ use Rattle.sv_expand.specs.declared.fault.ExpandFault.{ExpandFault}
 use Rattle.sv_expand.specs.declared.fault.ExpandFault.TheVariants.{BadForm, Unknown}
 use Rattle.std.proofs.lemmas.Bool.Decides.{nat_tests}
 use Rattle.sv_expand.specs.declared.names.Names.{Names}
-use Rattle.sv_expand.specs.declared.expanding.Place.{Place}
-use Rattle.sv_expand.specs.declared.expanding.Place.TheVariants as place
+use Rattle.sv_expand.specs.declared.expanding.ExpansionProgress.{ExpansionProgress}
+use Rattle.sv_expand.specs.declared.expanding.ExpansionProgress.TheVariants as place
 
-abbrev pub reached : List ℕ → List ℕ → ℕ → Place → Reached
+abbrev pub reached : List ℕ → List ℕ → ℕ → ExpansionProgress → Reached
 reached told name start at = record { told = told; name = name; start = start; place = at }
 
 -- what the rest of a text gives
@@ -42,11 +42,11 @@ kept true x e = cc
 
 -- a name is read to its bracket
 named : (names : Names) (at : ℕ) (n cs told name : List ℕ) (start : ℕ) → is_name n ≡ true
-    → gives names at (n ++ 41 ∷ cs) (reached told name start place.Name) ≡ gives names (passed at n + 1) cs (reached told (name ++ encode_utf8_all n) start place.Behind)
+    → gives names at (n ++ 41 ∷ cs) (reached told name start place.Name) ≡ gives names (passed at n + 1) cs (reached told (name ++ encode_utf8_all n) start place.AfterName)
 named names at [] cs told name start e = rw append-nil refl
 named names at (c ∷ n) cs told name start e =
     let k = kept (c == 41) (is_name n) e in
-    ap (λ (b : Bool). and_then (and_then (if b then Ok (reached told name start place.Behind) else Ok (reached told (name ++ encode_utf8 c) start place.Name)) (λ next. after_all names (at + len_utf8 c) (n ++ 41 ∷ cs) next)) closed) k.0
+    ap (λ (b : Bool). and_then (and_then (if b then Ok (reached told name start place.AfterName) else Ok (reached told (name ++ encode_utf8 c) start place.Name)) (λ next. after_all names (at + len_utf8 c) (n ++ 41 ∷ cs) next)) closed) k.0
     ∙ named names (at + len_utf8 c) n cs told (name ++ encode_utf8 c) start k.1
     ∙ rw append_assoc refl
 
@@ -62,33 +62,33 @@ pub no_letter : (c : ℕ) → is_width c ≡ true → ((c == 115) ≡ false) × 
 no_letter c e = (grind (arith, nat_tests), grind (arith, nat_tests), grind (arith, nat_tests))
 
 -- after a form's letter, where its name has this value
-abbrev ends : Names → ℕ → List ℕ → List ℕ → List ℕ → ℕ → Place → Option (List ℕ) → Result (List ℕ) ExpandFault
+abbrev ends : Names → ℕ → List ℕ → List ℕ → List ℕ → ℕ → ExpansionProgress → Option (List ℕ) → Result (List ℕ) ExpandFault
 ends names at cs told name start at_place o =
     and_then (and_then (with_value o (reached told name start at_place)) (λ next. after_all names at cs next)) closed
 
 spaced : (names : Names) (at digit : ℕ) (cs told name : List ℕ) (start : ℕ) → is_width digit ≡ true
-    → gives names at (digit ∷ cs) (reached told name start place.Behind) ≡ gives names (at + len_utf8 digit) cs (reached told name start (place.Wide 32 (digit - 48)))
+    → gives names at (digit ∷ cs) (reached told name start place.AfterName) ≡ gives names (at + len_utf8 digit) cs (reached told name start (place.Wide 32 (digit - 48)))
 spaced names at digit cs told name start e =
     let no = no_letter digit e in
-    let r = reached told name start place.Behind in
+    let r = reached told name start place.AfterName in
     ap (λ (next : Result Reached ExpandFault). and_then (and_then next (λ next. after_all names (at + len_utf8 digit) cs next)) closed)
     (fourth (digit == 115) (digit == 100) (digit == 48) (is_width digit) (with_value (text_told names name) r) (with_value (number_told names 32 0 name) r)
     (Ok (reached told name start place.Zero)) (Ok (reached told name start (place.Wide 32 (digit - 48)))) (Err (BadForm start)) no.0 no.1 no.2 e)
 
 zeroed : (names : Names) (at digit : ℕ) (cs told name : List ℕ) (start : ℕ) → is_width digit ≡ true
-    → gives names at (48 ∷ digit ∷ cs) (reached told name start place.Behind) ≡ gives names (at + 1 + len_utf8 digit) cs (reached told name start (place.Wide 48 (digit - 48)))
+    → gives names at (48 ∷ digit ∷ cs) (reached told name start place.AfterName) ≡ gives names (at + 1 + len_utf8 digit) cs (reached told name start (place.Wide 48 (digit - 48)))
 zeroed names at digit cs told name start e =
     ap (λ (b : Bool). and_then (and_then (if b then Ok (reached told name start (place.Wide 48 (digit - 48))) else Err (BadForm start)) (λ next. after_all names (at + 1 + len_utf8 digit) cs next)) closed) e
 
 -- where a form is read, its name's value is told
 record Ends (names : Names) (from : Result (List ℕ) ExpandFault) (there : ℕ) (cs told name : List ℕ) (start : ℕ) (o : Option (List ℕ)) : Type 0 where
   at : ℕ
-  at_place : Place
+  at_place : ExpansionProgress
   same : from ≡ ends names at cs told name start at_place o
   at_is : at ≡ there
 
 opened : (names : Names) (at : ℕ) (n form cs told name : List ℕ) (start : ℕ) → is_name n ≡ true
-    → gives names at (37 ∷ 40 ∷ ((n ++ 41 ∷ form) ++ cs)) (reached told name start place.Plain) ≡ gives names (passed (at + 1 + 1) n + 1) (form ++ cs) (reached told (encode_utf8_all n) at place.Behind)
+    → gives names at (37 ∷ 40 ∷ ((n ++ 41 ∷ form) ++ cs)) (reached told name start place.Plain) ≡ gives names (passed (at + 1 + 1) n + 1) (form ++ cs) (reached told (encode_utf8_all n) at place.AfterName)
 opened names at n form cs told name start e =
     ap (λ (rest : List ℕ). gives names (at + 1 + 1) rest (reached told [] at place.Name)) (append_assoc n (41 ∷ form) cs)
     ∙ named names (at + 1 + 1) n (form ++ cs) told [] at e
@@ -105,14 +105,14 @@ form_ends names Percent at cs told name start form is = absurd form
 form_ends names (Value n) at cs told name start form is =
     record {
       at = passed (at + 1 + 1) n + 1 + 1;
-      at_place = place.Behind;
+      at_place = place.AfterName;
       same = opened names at n (115 ∷ []) cs told name start is;
       at_is = omega (arith, passed_is (at + 1 + 1) n, size_form n (115 ∷ []), size_cons 115 1 [] refl);
     }
 form_ends names (Number n) at cs told name start form is =
     record {
       at = passed (at + 1 + 1) n + 1 + 1;
-      at_place = place.Behind;
+      at_place = place.AfterName;
       same = opened names at n (100 ∷ []) cs told name start is;
       at_is = omega (arith, passed_is (at + 1 + 1) n, size_form n (100 ∷ []), size_cons 100 1 [] refl);
     }

@@ -18,8 +18,8 @@ use Rattle.sv_expand.specs.PairCuts.Last.{Nothing, One}
 use Rattle.sv_expand.specs.Pairs.{Reached, is_white, is_name_char, is_quote, moved, begun, with_name, with_quoted, with_gap, with_bare, ended, in_bare, after, after_at, closed, pairs_of, IsFault}
 use Rattle.sv_expand.specs.declared.fault.PairFault.{PairFault}
 use Rattle.sv_expand.specs.declared.fault.PairFault.TheVariants.{BadPair, OutOfMemory}
-use Rattle.sv_expand.specs.declared.pairing.Place.{Place}
-use Rattle.sv_expand.specs.declared.pairing.Place.TheVariants as here
+use Rattle.sv_expand.specs.declared.pairing.PairsProgress.{PairsProgress}
+use Rattle.sv_expand.specs.declared.pairing.PairsProgress.TheVariants as here
 
 -- between pairs, with these pairs told
 abbrev fresh : Told → Reached
@@ -30,7 +30,7 @@ record PairRead (from : Result Told PairFault) (there : ℕ) (rest : List ℕ) (
   at : ℕ
   gap : List ℕ
   start : ℕ
-  place : Place
+  place : PairsProgress
   same : from ≡ gives at rest (reached pairs (told pair).0 (told pair).1 gap start place)
   at_is : at ≡ there
   over : IsOver place
@@ -92,7 +92,7 @@ cut_pairs text pairs has =
 
 -- a bad pair stands no earlier than where the reading goes on
 
-abbrev IsLow : ℕ → Place → ℕ → Type 0
+abbrev IsLow : ℕ → PairsProgress → ℕ → Type 0
 IsLow low here.Before start = Unit {0}
 IsLow low place start = low ≤ start
 
@@ -108,7 +108,7 @@ in_bare_low low c r is =
     choose (LowResult low) (c == 44) (Ok (ended r)) (if is_quote c then Err (BadPair r.start) else Ok (with_bare c r)) tt
     (choose (LowResult low) (is_quote c) (Err (BadPair r.start)) (Ok (with_bare c r)) (bad_low low r.start is) is)
 
-after_low : (low at c : ℕ) (pairs : Told) (name value gap : List ℕ) (start : ℕ) (place : Place) → low ≤ at → IsLow low place start
+after_low : (low at c : ℕ) (pairs : Told) (name value gap : List ℕ) (start : ℕ) (place : PairsProgress) → low ≤ at → IsLow low place start
     → LowResult low (after_at place at c (reached pairs name value gap start place))
 after_low low at c pairs name value gap start here.Before is from =
     let r = reached pairs name value gap start here.Before in
@@ -122,9 +122,9 @@ after_low low at c pairs name value gap start here.Equals is from =
     let r = reached pairs name value gap start here.Equals in
     choose (LowResult low) (c == 34) (Ok (moved here.Double r)) _ from
     (choose (LowResult low) (c == 39) (Ok (moved here.Single r)) _ from
-    (choose (LowResult low) (is_white c) (Ok (moved here.Led r)) (in_bare c r) from (in_bare_low low c r from)))
-after_low low at c pairs name value gap start here.Led is from =
-    let r = reached pairs name value gap start here.Led in
+    (choose (LowResult low) (is_white c) (Ok (moved here.BeforeValue r)) (in_bare c r) from (in_bare_low low c r from)))
+after_low low at c pairs name value gap start here.BeforeValue is from =
+    let r = reached pairs name value gap start here.BeforeValue in
     choose (LowResult low) (is_white c) (Ok r) (in_bare c r) from (in_bare_low low c r from)
 after_low low at c pairs name value gap start here.Bare is from =
     let r = reached pairs name value gap start here.Bare in
@@ -140,14 +140,14 @@ after_low low at c pairs name value gap start here.Closed is from =
     choose (LowResult low) (is_white c) (Ok r) (if c == 44 then Ok (ended r) else Err (BadPair start)) from
     (choose (LowResult low) (c == 44) (Ok (ended r)) (Err (BadPair start)) tt (bad_low low start from))
 
-closed_low : (low p : ℕ) (pairs : Told) (name value gap : List ℕ) (start : ℕ) (place : Place) → IsLow low place start
+closed_low : (low p : ℕ) (pairs : Told) (name value gap : List ℕ) (start : ℕ) (place : PairsProgress) → IsLow low place start
     → closed (reached pairs name value gap start place) ≡ Err (BadPair p) → low ≤ p
 closed_low low p pairs name value gap start here.Before from e = cc
 closed_low low p pairs name value gap start here.Name from e = let same : start ≡ p = cc in omega (arith, same, from)
 closed_low low p pairs name value gap start here.Single from e = let same : start ≡ p = cc in omega (arith, same, from)
 closed_low low p pairs name value gap start here.Double from e = let same : start ≡ p = cc in omega (arith, same, from)
 closed_low low p pairs name value gap start here.Equals from e = cc
-closed_low low p pairs name value gap start here.Led from e = cc
+closed_low low p pairs name value gap start here.BeforeValue from e = cc
 closed_low low p pairs name value gap start here.Bare from e = cc
 closed_low low p pairs name value gap start here.Closed from e = cc
 
@@ -157,7 +157,7 @@ goes_low : (low p at : ℕ) (cs : List ℕ) (res : Result Reached PairFault) →
 goes_low low p at cs (Ok r) is again e = again r is e
 goes_low low p at cs (Err fault) is again e = let same : fault ≡ BadPair p = cc in is p same
 
-bad_later : (cs : List ℕ) (low p at : ℕ) (pairs : Told) (name value gap : List ℕ) (start : ℕ) (place : Place) → low ≤ at → IsLow low place start
+bad_later : (cs : List ℕ) (low p at : ℕ) (pairs : Told) (name value gap : List ℕ) (start : ℕ) (place : PairsProgress) → low ≤ at → IsLow low place start
     → gives at cs (reached pairs name value gap start place) ≡ Err (BadPair p) → low ≤ p
 bad_later [] low p at pairs name value gap start place is from e = closed_low low p pairs name value gap start place from e
 bad_later (c ∷ cs) low p at pairs name value gap start place is from e =
@@ -225,12 +225,12 @@ record IsNamed (begin start : ℕ) (n name : List ℕ) : Type 0 where
   name_is : name ≡ encode_utf8_all n
 
 -- the characters of the pair that is going on, which begins at a place
-abbrev IsGoing : ℕ → List ℕ → List ℕ → List ℕ → List ℕ → ℕ → Place → Type 0
+abbrev IsGoing : ℕ → List ℕ → List ℕ → List ℕ → List ℕ → ℕ → PairsProgress → Type 0
 IsGoing begin going name value gap start here.Before = going ≡ []
 IsGoing begin going name value gap start here.Name = IsNamed begin start going name × (value ≡ []) × (gap ≡ [])
 IsGoing begin going name value gap start here.Equals =
     (n : List ℕ) × IsNamed begin start n name × (going ≡ n ++ 61 ∷ []) × (value ≡ []) × (gap ≡ [])
-IsGoing begin going name value gap start here.Led =
+IsGoing begin going name value gap start here.BeforeValue =
     (n : List ℕ) × (lead : List ℕ) × IsNamed begin start n name × (is_blank lead ≡ true) × (going ≡ n ++ 61 ∷ lead) × (value ≡ []) × (gap ≡ [])
 IsGoing begin going name value gap start here.Bare =
     (n : List ℕ) × (lead : List ℕ) × (cs : List ℕ) × (after : List ℕ) × IsNamed begin start n name × IsValue (Bare lead cs after) × (cs ≢ [])
@@ -246,7 +246,7 @@ IsGoing begin going name value gap start here.Closed =
     × (going ≡ n ++ 61 ∷ (quote ∷ (cs ++ quote ∷ after))) × (value ≡ encode_utf8_all cs)
 
 -- what was read stands for these characters: pairs with their commas, white space, and a pair that is going on
-record Stands (base : ℕ) (before : Told) (seen : List ℕ) (at : ℕ) (pairs : Told) (name value gap : List ℕ) (start : ℕ) (place : Place) : Type 0 where
+record Stands (base : ℕ) (before : Told) (seen : List ℕ) (at : ℕ) (pairs : Told) (name value gap : List ℕ) (start : ℕ) (place : PairsProgress) : Type 0 where
   front : List Pair
   white : List ℕ
   going : List ℕ
@@ -258,8 +258,8 @@ record Stands (base : ℕ) (before : Told) (seen : List ℕ) (at : ℕ) (pairs :
   is : IsGoing (base + size (listed front ++ white)) going name value gap start place
   same : (more : List ℕ) → gives (base + size (listed front)) ((white ++ going) ++ more) (fresh pairs) ≡ gives at more (reached pairs name value gap start place)
 
-grows : (base : ℕ) (before : Told) (seen : List ℕ) (at c : ℕ) (pairs : Told) (name value gap : List ℕ) (start : ℕ) (place : Place)
-    (name' value' gap' : List ℕ) (start' : ℕ) (place' : Place) → (was : Stands base before seen at pairs name value gap start place)
+grows : (base : ℕ) (before : Told) (seen : List ℕ) (at c : ℕ) (pairs : Told) (name value gap : List ℕ) (start : ℕ) (place : PairsProgress)
+    (name' value' gap' : List ℕ) (start' : ℕ) (place' : PairsProgress) → (was : Stands base before seen at pairs name value gap start place)
     → after at c (reached pairs name value gap start place) ≡ Ok (reached pairs name' value' gap' start' place')
     → IsGoing (base + size (listed was.front ++ was.white)) (was.going ++ c ∷ []) name' value' gap' start' place'
     → Stands base before (seen ++ c ∷ []) (at + len_utf8 c) pairs name' value' gap' start' place'
@@ -314,7 +314,7 @@ abbrev one_pair : List ℕ → List ℕ → Value → Pair
 one_pair white n value = record { before = white; name = n; value = value }
 
 -- a comma ends the pair
-pair_over : (base : ℕ) (before : Told) (seen : List ℕ) (at c : ℕ) (pairs : Told) (name value gap : List ℕ) (start : ℕ) (place : Place) (n : List ℕ) (v : Value)
+pair_over : (base : ℕ) (before : Told) (seen : List ℕ) (at c : ℕ) (pairs : Told) (name value gap : List ℕ) (start : ℕ) (place : PairsProgress) (n : List ℕ) (v : Value)
     → (was : Stands base before seen at pairs name value gap start place) → IsNamed (base + size (listed was.front ++ was.white)) start n name → IsValue v
     → was.going ≡ n ++ 61 ∷ value_written v → value ≡ value_told v → c ≡ 44
     → Stands base before (seen ++ c ∷ []) (at + len_utf8 c) (pairs ++ (name, value) ∷ []) [] [] [] start here.Before
@@ -345,7 +345,7 @@ pair_over base before seen at c pairs name value gap start place n v was named i
     }
 
 -- a bad pair
-bad : (base : ℕ) (before : Told) (seen : List ℕ) (at : ℕ) (pairs : Told) (name value gap : List ℕ) (start : ℕ) (place : Place) (more : List ℕ) (p : ℕ)
+bad : (base : ℕ) (before : Told) (seen : List ℕ) (at : ℕ) (pairs : Told) (name value gap : List ℕ) (start : ℕ) (place : PairsProgress) (more : List ℕ) (p : ℕ)
     → (was : Stands base before seen at pairs name value gap start place) → p ≡ base + size (listed was.front ++ was.white)
     → was.going ++ more ≢ [] → begins_white (was.going ++ more) ≡ false → gives at more (reached pairs name value gap start place) ≡ Err (BadPair p)
     → Says base before (seen ++ more) (Err (BadPair p))
@@ -370,7 +370,7 @@ name_first : (n tail : List ℕ) → n ≢ [] → list_all is_name_char n ≡ tr
 name_first [] tail some is = absurd (some refl)
 name_first (c ∷ n) tail some is = ((λ none. cc), (name_not c (and_parts (is_name_char c) (list_all is_name_char n) is).0).0)
 
-bad_named : (base : ℕ) (before : Told) (seen : List ℕ) (at : ℕ) (pairs : Told) (name value gap : List ℕ) (start : ℕ) (place : Place) (more n tail : List ℕ)
+bad_named : (base : ℕ) (before : Told) (seen : List ℕ) (at : ℕ) (pairs : Told) (name value gap : List ℕ) (start : ℕ) (place : PairsProgress) (more n tail : List ℕ)
     → (was : Stands base before seen at pairs name value gap start place) → IsNamed (base + size (listed was.front ++ was.white)) start n name
     → was.going ≡ n ++ tail → gives at more (reached pairs name value gap start place) ≡ Err (BadPair start)
     → Says base before (seen ++ more) (Err (BadPair start))
@@ -385,7 +385,7 @@ abbrev Next : ℕ → Told → List ℕ → ℕ → List ℕ → ℕ → Result 
 Next base before seen c cs at from (Ok r) = from ≡ Ok r → Stands base before (seen ++ c ∷ []) (at + len_utf8 c) r.pairs r.name r.value r.gap r.start r.place
 Next base before seen c cs at from (Err fault) = from ≡ Err fault → Says base before (seen ++ c ∷ cs) (Err fault)
 
-next_bare : (base : ℕ) (before : Told) (seen : List ℕ) (at c : ℕ) (cs : List ℕ) (pairs : Told) (name value gap : List ℕ) (start : ℕ) (place : Place) (n : List ℕ) (v : Value)
+next_bare : (base : ℕ) (before : Told) (seen : List ℕ) (at c : ℕ) (cs : List ℕ) (pairs : Told) (name value gap : List ℕ) (start : ℕ) (place : PairsProgress) (n : List ℕ) (v : Value)
     → (was : Stands base before seen at pairs name value gap start place) → IsNamed (base + size (listed was.front ++ was.white)) start n name → IsValue v
     → was.going ≡ n ++ 61 ∷ value_written v → value ≡ value_told v
     → (is_bare c ≡ true
@@ -421,7 +421,7 @@ encodes_more : (n : List ℕ) (c : ℕ) → encode_utf8_all (n ++ c ∷ []) ≡ 
 encodes_more n c = encodes-append n (c ∷ []) ∙ ap (λ back. encode_utf8_all n ++ back) (append-nil (encode_utf8 c))
 
 -- the first character of a bare value
-bare_begins : (base : ℕ) (before : Told) (seen : List ℕ) (at c : ℕ) (pairs : Told) (name value gap : List ℕ) (start : ℕ) (place : Place) (n lead : List ℕ)
+bare_begins : (base : ℕ) (before : Told) (seen : List ℕ) (at c : ℕ) (pairs : Told) (name value gap : List ℕ) (start : ℕ) (place : PairsProgress) (n lead : List ℕ)
     → (was : Stands base before seen at pairs name value gap start place) → IsNamed (base + size (listed was.front ++ was.white)) start n name → is_blank lead ≡ true
     → was.going ≡ n ++ 61 ∷ lead → value ≡ [] → gap ≡ [] → is_bare c ≡ true → is_white c ≡ false
     → after at c (reached pairs name value gap start place) ≡ Ok (with_bare c (reached pairs name value gap start place))
@@ -440,7 +440,7 @@ bare_begins base before seen at c pairs name value gap start place n lead was na
       refl,
     )
 
-step : (base : ℕ) (before : Told) (seen : List ℕ) (at c : ℕ) (cs : List ℕ) (pairs : Told) (name value gap : List ℕ) (start : ℕ) (place : Place)
+step : (base : ℕ) (before : Told) (seen : List ℕ) (at c : ℕ) (cs : List ℕ) (pairs : Told) (name value gap : List ℕ) (start : ℕ) (place : PairsProgress)
     → Stands base before seen at pairs name value gap start place
     → Next base before seen c cs at (after at c (reached pairs name value gap start place)) (after_at place at c (reached pairs name value gap start place))
 step base before seen at c cs pairs name value gap start here.Before was =
@@ -493,21 +493,21 @@ step base before seen at c cs pairs name value gap start here.Equals was =
     (λ double. cond_by (Next base before seen c cs at (after at c r)) (c == 39) (Ok (moved here.Single r)) _
     (λ is. λ e. grows base before seen at c pairs name value gap start here.Equals name value gap start here.Single was e
     (s.0, [], s.1, refl, spells ∙ ap (λ d. s.0 ++ 61 ∷ d ∷ []) (eq_true c 39 is), s.3))
-    (λ single. cond_by (Next base before seen c cs at (after at c r)) (is_white c) (Ok (moved here.Led r)) (in_bare c r)
-    (λ is. λ e. grows base before seen at c pairs name value gap start here.Equals name value gap start here.Led was e
+    (λ single. cond_by (Next base before seen c cs at (after at c r)) (is_white c) (Ok (moved here.BeforeValue r)) (in_bare c r)
+    (λ is. λ e. grows base before seen at c pairs name value gap start here.Equals name value gap start here.BeforeValue was e
     (s.0, c ∷ [], s.1, and_from (is_white c) true is refl, spells, s.3, s.4))
     (λ other. next_bare base before seen at c cs pairs name value gap start here.Equals s.0 (Bare [] [] []) was s.1
     (refl, refl, refl, refl, refl, (λ none. refl)) s.2 s.3
     (λ bare e. bare_begins base before seen at c pairs name value gap start here.Equals s.0 [] was s.1 refl s.2 s.3 s.4 bare other e))))
-step base before seen at c cs pairs name value gap start here.Led was =
-    let r = reached pairs name value gap start here.Led in
+step base before seen at c cs pairs name value gap start here.BeforeValue was =
+    let r = reached pairs name value gap start here.BeforeValue in
     let s = was.is in
     cond_by (Next base before seen c cs at (after at c r)) (is_white c) (Ok r) (in_bare c r)
-    (λ is. λ e. grows base before seen at c pairs name value gap start here.Led name value gap start here.Led was e
+    (λ is. λ e. grows base before seen at c pairs name value gap start here.BeforeValue name value gap start here.BeforeValue was e
     (s.0, s.1 ++ c ∷ [], s.2, blank_more s.1 c s.3 is, ap (λ g. g ++ c ∷ []) s.4 ∙ append_assoc s.0 (61 ∷ s.1) (c ∷ []), s.5, s.6))
-    (λ other. next_bare base before seen at c cs pairs name value gap start here.Led s.0 (Bare s.1 [] []) was s.2
+    (λ other. next_bare base before seen at c cs pairs name value gap start here.BeforeValue s.0 (Bare s.1 [] []) was s.2
     (s.3, refl, refl, refl, refl, (λ none. refl)) (s.4 ∙ ap (λ l. s.0 ++ 61 ∷ l) (sym (append-nil s.1))) s.5
-    (λ bare e. bare_begins base before seen at c pairs name value gap start here.Led s.0 s.1 was s.2 s.3 s.4 s.5 s.6 bare other e))
+    (λ bare e. bare_begins base before seen at c pairs name value gap start here.BeforeValue s.0 s.1 was s.2 s.3 s.4 s.5 s.6 bare other e))
 step base before seen at c cs pairs name value gap start here.Bare was =
     let r = reached pairs name value gap start here.Bare in
     let s = was.is in
@@ -604,7 +604,7 @@ step base before seen at c cs pairs name value gap start here.Closed was =
     (ap (goes_on (at + len_utf8 c) cs) e)))
 
 -- where the characters end after a value
-over : (base : ℕ) (before : Told) (seen : List ℕ) (at : ℕ) (pairs : Told) (name value gap : List ℕ) (start : ℕ) (place : Place) (n : List ℕ) (v : Value)
+over : (base : ℕ) (before : Told) (seen : List ℕ) (at : ℕ) (pairs : Told) (name value gap : List ℕ) (start : ℕ) (place : PairsProgress) (n : List ℕ) (v : Value)
     → (was : Stands base before seen at pairs name value gap start place) → IsNamed (base + size (listed was.front ++ was.white)) start n name → IsValue v
     → was.going ≡ n ++ 61 ∷ value_written v → value ≡ value_told v → Says base before (seen ++ []) (Ok (pairs ++ (name, value) ∷ []))
 over base before seen at pairs name value gap start place n v was named is going value_is = (
@@ -618,7 +618,7 @@ over base before seen at pairs name value gap start place n v was named is going
       ∙ ap (λ x. before ++ (map told was.front ++ (encode_utf8_all n, x) ∷ [])) value_is,
 )
 
-closing : (base : ℕ) (before : Told) (seen : List ℕ) (at : ℕ) (pairs : Told) (name value gap : List ℕ) (start : ℕ) (place : Place)
+closing : (base : ℕ) (before : Told) (seen : List ℕ) (at : ℕ) (pairs : Told) (name value gap : List ℕ) (start : ℕ) (place : PairsProgress)
     → Stands base before seen at pairs name value gap start place → Says base before (seen ++ []) (closed (reached pairs name value gap start place))
 closing base before seen at pairs name value gap start here.Before was = (
   was.front,
@@ -633,9 +633,9 @@ closing base before seen at pairs name value gap start here.Name was =
 closing base before seen at pairs name value gap start here.Equals was =
     let s = was.is in
     over base before seen at pairs name value gap start here.Equals s.0 (Bare [] [] []) was s.1 (refl, refl, refl, refl, refl, (λ none. refl)) s.2 s.3
-closing base before seen at pairs name value gap start here.Led was =
+closing base before seen at pairs name value gap start here.BeforeValue was =
     let s = was.is in
-    over base before seen at pairs name value gap start here.Led s.0 (Bare s.1 [] []) was s.2 (s.3, refl, refl, refl, refl, (λ none. refl))
+    over base before seen at pairs name value gap start here.BeforeValue s.0 (Bare s.1 [] []) was s.2 (s.3, refl, refl, refl, refl, (λ none. refl))
     (s.4 ∙ ap (λ l. s.0 ++ 61 ∷ l) (sym (append-nil s.1))) s.5
 closing base before seen at pairs name value gap start here.Bare was =
     let s = was.is in
@@ -659,7 +659,7 @@ goes base before seen at c cs from (Ok r) next e again =
     subst (λ (all : List ℕ). Says base before all (gives (at + len_utf8 c) cs r)) (append_assoc seen (c ∷ []) cs) (again r (next e))
 goes base before seen at c cs from (Err fault) next e again = next e
 
-answer : (base : ℕ) (before : Told) (cs seen : List ℕ) (at : ℕ) (pairs : Told) (name value gap : List ℕ) (start : ℕ) (place : Place)
+answer : (base : ℕ) (before : Told) (cs seen : List ℕ) (at : ℕ) (pairs : Told) (name value gap : List ℕ) (start : ℕ) (place : PairsProgress)
     → Stands base before seen at pairs name value gap start place
     → Says base before (seen ++ cs) (gives at cs (reached pairs name value gap start place))
 answer base before [] seen at pairs name value gap start place was = closing base before seen at pairs name value gap start place was

@@ -13,13 +13,13 @@ use Rattle.sv_expand.specs.Results.{and_then}
 use Rattle.sv_expand.specs.Pairs.{Reached, is_white, is_name_char, is_quote, moved, begun, with_name, with_quoted, with_gap, with_bare, ended, in_bare, after, after_at, after_all, closed}
 use Rattle.sv_expand.specs.declared.fault.PairFault.{PairFault}
 use Rattle.sv_expand.specs.declared.fault.PairFault.TheVariants.{BadPair}
-use Rattle.sv_expand.specs.declared.pairing.Place.{Place}
-use Rattle.sv_expand.specs.declared.pairing.Place.TheVariants as here
+use Rattle.sv_expand.specs.declared.pairing.PairsProgress.{PairsProgress}
+use Rattle.sv_expand.specs.declared.pairing.PairsProgress.TheVariants as here
 
 abbrev pub Told : Type 0
 Told = List (List ℕ × List ℕ)
 
-abbrev pub reached : Told → List ℕ → List ℕ → List ℕ → ℕ → Place → Reached
+abbrev pub reached : Told → List ℕ → List ℕ → List ℕ → ℕ → PairsProgress → Reached
 reached pairs name value gap start place = record { pairs = pairs; name = name; value = value; gap = gap; start = start; place = place }
 
 -- what the rest of a text gives
@@ -98,17 +98,17 @@ named (c ∷ cs) rest at pairs n v g start some is =
     (ap (λ n. n + 1) (one_more at c cs))
 
 -- where a pair may be over
-abbrev pub IsOver : Place → Type 0
+abbrev pub IsOver : PairsProgress → Type 0
 IsOver here.Equals = Unit {0}
-IsOver here.Led = Unit {0}
+IsOver here.BeforeValue = Unit {0}
 IsOver here.Bare = Unit {0}
 IsOver here.Closed = Unit {0}
 IsOver place = ⊥
 
-pub over_end : (pairs : Told) (name value gap : List ℕ) (start : ℕ) (place : Place) → IsOver place
+pub over_end : (pairs : Told) (name value gap : List ℕ) (start : ℕ) (place : PairsProgress) → IsOver place
     → closed (reached pairs name value gap start place) ≡ Ok (pairs ++ (name, value) ∷ [])
 over_end pairs name value gap start here.Equals is = refl
-over_end pairs name value gap start here.Led is = refl
+over_end pairs name value gap start here.BeforeValue is = refl
 over_end pairs name value gap start here.Bare is = refl
 over_end pairs name value gap start here.Closed is = refl
 over_end pairs name value gap start here.Before is = absurd is
@@ -116,10 +116,10 @@ over_end pairs name value gap start here.Name is = absurd is
 over_end pairs name value gap start here.Single is = absurd is
 over_end pairs name value gap start here.Double is = absurd is
 
-pub over_comma : (at : ℕ) (more : List ℕ) (pairs : Told) (name value gap : List ℕ) (start : ℕ) (place : Place) → IsOver place
+pub over_comma : (at : ℕ) (more : List ℕ) (pairs : Told) (name value gap : List ℕ) (start : ℕ) (place : PairsProgress) → IsOver place
     → gives at (44 ∷ more) (reached pairs name value gap start place) ≡ gives (at + 1) more (reached (pairs ++ (name, value) ∷ []) [] [] [] start here.Before)
 over_comma at more pairs name value gap start here.Equals is = refl
-over_comma at more pairs name value gap start here.Led is = refl
+over_comma at more pairs name value gap start here.BeforeValue is = refl
 over_comma at more pairs name value gap start here.Bare is = refl
 over_comma at more pairs name value gap start here.Closed is = refl
 over_comma at more pairs name value gap start here.Before is = absurd is
@@ -131,19 +131,19 @@ over_comma at more pairs name value gap start here.Double is = absurd is
 pub record ValueRead (from : Result Told PairFault) (there : ℕ) (rest : List ℕ) (pairs : Told) (name value : List ℕ) (start : ℕ) : Type 0 where
   pub at : ℕ
   pub gap : List ℕ
-  pub place : Place
+  pub place : PairsProgress
   pub same : from ≡ gives at rest (reached pairs name value gap start place)
   pub at_is : at ≡ there
   pub over : IsOver place
 
 -- a value in quotes
 
-abbrev QuoteStep : ℕ → Place → Type 0
+abbrev QuoteStep : ℕ → PairsProgress → Type 0
 QuoteStep quote place =
     (at c : ℕ) (pairs : Told) (name v gap : List ℕ) (start : ℕ) → (c == quote) ≡ false
     → after at c (reached pairs name v gap start place) ≡ Ok (reached pairs name (v ++ encode_utf8 c) gap start place)
 
-in_quotes : (quote : ℕ) (place : Place) → QuoteStep quote place → (cs rest : List ℕ) (at : ℕ) (pairs : Told) (name v gap : List ℕ) (start : ℕ)
+in_quotes : (quote : ℕ) (place : PairsProgress) → QuoteStep quote place → (cs rest : List ℕ) (at : ℕ) (pairs : Told) (name v gap : List ℕ) (start : ℕ)
     → list_all (λ c. not (c == quote)) cs ≡ true
     → gives at (cs ++ rest) (reached pairs name v gap start place) ≡ gives (at + size cs) rest (reached pairs name (v ++ encode_utf8_all cs) gap start place)
 in_quotes quote place one [] rest at pairs name v gap start is =
@@ -218,18 +218,18 @@ abbrev pub is_bare : ℕ → Bool
 is_bare c = not ((c == 44) || is_quote c)
 
 led_read : (white rest : List ℕ) (at : ℕ) (pairs : Told) (name : List ℕ) (start : ℕ) → is_blank white ≡ true
-    → gives at (white ++ rest) (reached pairs name [] [] start here.Led) ≡ gives (at + size white) rest (reached pairs name [] [] start here.Led)
-led_read [] rest at pairs name start is = moved_to at (at + 0) rest (reached pairs name [] [] start here.Led) (omega arith)
+    → gives at (white ++ rest) (reached pairs name [] [] start here.BeforeValue) ≡ gives (at + size white) rest (reached pairs name [] [] start here.BeforeValue)
+led_read [] rest at pairs name start is = moved_to at (at + 0) rest (reached pairs name [] [] start here.BeforeValue) (omega arith)
 led_read (c ∷ white) rest at pairs name start is =
     let both = and_parts (is_white c) (is_blank white) is in
-    let r = reached pairs name [] [] start here.Led in
+    let r = reached pairs name [] [] start here.BeforeValue in
     ap (λ (b : Bool). goes_on (at + len_utf8 c) (white ++ rest) (if b then Ok r else in_bare c r)) both.0
     ∙ led_read white rest (at + len_utf8 c) pairs name start both.1
     ∙ moved_to (at + len_utf8 c + size white) (at + size (c ∷ white)) rest r (one_more at c white)
 
-abbrev lead_place : List ℕ → Place
+abbrev lead_place : List ℕ → PairsProgress
 lead_place [] = here.Equals
-lead_place (c ∷ cs) = here.Led
+lead_place (c ∷ cs) = here.BeforeValue
 
 lead_over : (white : List ℕ) → IsOver (lead_place white)
 lead_over [] = tt
@@ -242,11 +242,11 @@ lead_read (c ∷ white) rest at pairs name start is =
     let both = and_parts (is_white c) (is_blank white) is in
     let r = reached pairs name [] [] start here.Equals in
     let no = white_not c both.0 in
-    ap (λ (b : Bool). goes_on (at + len_utf8 c) (white ++ rest) (if b then Ok (moved here.Double r) else if c == 39 then Ok (moved here.Single r) else if is_white c then Ok (moved here.Led r) else in_bare c r)) no.0
-    ∙ ap (λ (b : Bool). goes_on (at + len_utf8 c) (white ++ rest) (if b then Ok (moved here.Single r) else if is_white c then Ok (moved here.Led r) else in_bare c r)) no.1
-    ∙ ap (λ (b : Bool). goes_on (at + len_utf8 c) (white ++ rest) (if b then Ok (moved here.Led r) else in_bare c r)) both.0
+    ap (λ (b : Bool). goes_on (at + len_utf8 c) (white ++ rest) (if b then Ok (moved here.Double r) else if c == 39 then Ok (moved here.Single r) else if is_white c then Ok (moved here.BeforeValue r) else in_bare c r)) no.0
+    ∙ ap (λ (b : Bool). goes_on (at + len_utf8 c) (white ++ rest) (if b then Ok (moved here.Single r) else if is_white c then Ok (moved here.BeforeValue r) else in_bare c r)) no.1
+    ∙ ap (λ (b : Bool). goes_on (at + len_utf8 c) (white ++ rest) (if b then Ok (moved here.BeforeValue r) else in_bare c r)) both.0
     ∙ led_read white rest (at + len_utf8 c) pairs name start both.1
-    ∙ moved_to (at + len_utf8 c + size white) (at + size (c ∷ white)) rest (reached pairs name [] [] start here.Led) (one_more at c white)
+    ∙ moved_to (at + len_utf8 c + size white) (at + size (c ∷ white)) rest (reached pairs name [] [] start here.BeforeValue) (one_more at c white)
 
 bare_one : (c : ℕ) (r : Reached) → is_bare c ≡ true → in_bare c r ≡ Ok (with_bare c r)
 bare_one c r is =
@@ -260,12 +260,12 @@ first_bare [] c rest at pairs name start is other =
     let r = reached pairs name [] [] start here.Equals in
     let no = or_false (c == 44) (is_quote c) (not_true ((c == 44) || is_quote c) is) in
     let quotes = or_false (c == 34) (c == 39) no.1 in
-    ap (λ (b : Bool). goes_on (at + len_utf8 c) rest (if b then Ok (moved here.Double r) else if c == 39 then Ok (moved here.Single r) else if is_white c then Ok (moved here.Led r) else in_bare c r)) quotes.0
-    ∙ ap (λ (b : Bool). goes_on (at + len_utf8 c) rest (if b then Ok (moved here.Single r) else if is_white c then Ok (moved here.Led r) else in_bare c r)) quotes.1
-    ∙ ap (λ (b : Bool). goes_on (at + len_utf8 c) rest (if b then Ok (moved here.Led r) else in_bare c r)) other
+    ap (λ (b : Bool). goes_on (at + len_utf8 c) rest (if b then Ok (moved here.Double r) else if c == 39 then Ok (moved here.Single r) else if is_white c then Ok (moved here.BeforeValue r) else in_bare c r)) quotes.0
+    ∙ ap (λ (b : Bool). goes_on (at + len_utf8 c) rest (if b then Ok (moved here.Single r) else if is_white c then Ok (moved here.BeforeValue r) else in_bare c r)) quotes.1
+    ∙ ap (λ (b : Bool). goes_on (at + len_utf8 c) rest (if b then Ok (moved here.BeforeValue r) else in_bare c r)) other
     ∙ ap (goes_on (at + len_utf8 c) rest) (bare_one c r is)
 first_bare (w ∷ white) c rest at pairs name start is other =
-    let r = reached pairs name [] [] start here.Led in
+    let r = reached pairs name [] [] start here.BeforeValue in
     ap (λ (b : Bool). goes_on (at + len_utf8 c) rest (if b then Ok r else in_bare c r)) other ∙ ap (goes_on (at + len_utf8 c) rest) (bare_one c r is)
 
 gap_read : (white rest : List ℕ) (at : ℕ) (pairs : Told) (name v gap : List ℕ) (start : ℕ) → is_blank white ≡ true

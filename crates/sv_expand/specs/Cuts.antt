@@ -1,7 +1,11 @@
--- The parts of a text with expansions. A text has one cut into such parts, and its expansion is their
--- joined values.
-use Rattle.std.specs.Prelude.{◌≡◌, ◌≢◌, ◌==◌, ◌-◌, ℕ, List, [], ◌∷◌, ◌++◌, length, Bool, true, false, Option, Some, None, encode_utf8, encode_utf8_all, if◌then◌else◌, ⊤}
+-- The parts of a text with expansions. A text has one cut into such parts, and its expansion is
+-- their joined values.
+use Rattle.std.specs.Prelude.{◌≡◌, ◌≢◌, ◌==◌, ◌-◌, ℕ, List, [], ◌∷◌, ◌++◌, length, Bool, true}
+use Rattle.std.specs.Prelude.{false, Option, Some, None, encode_utf8, encode_utf8_all}
+use Rattle.std.specs.Prelude.{if◌then◌else◌, ⊤}
 use Rattle.std.specs.Str.{chars}
+use Rattle.sv_base.specs.Ascii.{digit_zero, left_parenthesis, letter_d, letter_s, percent_sign}
+use Rattle.sv_base.specs.Ascii.{right_parenthesis, space}
 use Rattle.sv_expand.specs.declared.fault.ExpandFault.{ExpandFault}
 use Rattle.sv_expand.specs.declared.fault.ExpandFault.TheVariants.{Unknown, BadForm, OutOfMemory}
 use Rattle.sv_expand.specs.declared.names.Names.{Names}
@@ -19,11 +23,15 @@ pub data Part : Type 0 where
 -- how a part is written: itself, `%%`, `%(NAME)s`, `%(NAME)d`, `%(NAME)Nd`, `%(NAME)0Nd`
 abbrev pub written : Part → List ℕ
 written (Plain c) = c ∷ []
-written Percent = 37 ∷ 37 ∷ []
-written (Value name) = 37 ∷ 40 ∷ (name ++ 41 ∷ 115 ∷ [])
-written (Number name) = 37 ∷ 40 ∷ (name ++ 41 ∷ 100 ∷ [])
-written (Spaced name digit) = 37 ∷ 40 ∷ (name ++ 41 ∷ digit ∷ 100 ∷ [])
-written (Zeroed name digit) = 37 ∷ 40 ∷ (name ++ 41 ∷ 48 ∷ digit ∷ 100 ∷ [])
+written Percent = percent_sign ∷ percent_sign ∷ []
+written (Value name) = percent_sign ∷ left_parenthesis ∷ (name ++ right_parenthesis ∷ letter_s ∷ [])
+written (Number name) =
+    percent_sign ∷ left_parenthesis ∷ (name ++ right_parenthesis ∷ letter_d ∷ [])
+written (Spaced name digit) =
+    percent_sign ∷ left_parenthesis ∷ (name ++ right_parenthesis ∷ digit ∷ letter_d ∷ [])
+written (Zeroed name digit) =
+    percent_sign ∷ left_parenthesis
+    ∷ (name ++ right_parenthesis ∷ digit_zero ∷ digit ∷ letter_d ∷ [])
 
 -- how parts are written: one after another
 abbrev pub written_all : List Part → List ℕ
@@ -33,11 +41,11 @@ written_all (part ∷ parts) = written part ++ written_all parts
 -- a name is any text without a closing bracket
 abbrev pub is_name : List ℕ → Bool
 is_name [] = true
-is_name (c ∷ cs) = if c == 41 then false else is_name cs
+is_name (c ∷ cs) = if c == right_parenthesis then false else is_name cs
 
 -- a plain part is no percent sign; the places of a number are from 1 to 9
 abbrev pub IsPart : Part → Type 0
-IsPart (Plain c) = (c == 37) ≡ false
+IsPart (Plain c) = (c == percent_sign) ≡ false
 IsPart Percent = ⊤
 IsPart (Value name) = is_name name ≡ true
 IsPart (Number name) = is_name name ≡ true
@@ -54,9 +62,9 @@ abbrev pub value : Names → Part → Option (List ℕ)
 value names (Plain c) = Some (encode_utf8 c)
 value names Percent = Some (encode_utf8 37)
 value names (Value name) = text_told names (encode_utf8_all name)
-value names (Number name) = number_told names 32 0 (encode_utf8_all name)
-value names (Spaced name digit) = number_told names 32 (digit - 48) (encode_utf8_all name)
-value names (Zeroed name digit) = number_told names 48 (digit - 48) (encode_utf8_all name)
+value names (Number name) = number_told names space 0 (encode_utf8_all name)
+value names (Spaced name digit) = number_told names space (digit - 48) (encode_utf8_all name)
+value names (Zeroed name digit) = number_told names digit_zero (digit - 48) (encode_utf8_all name)
 
 -- one value after another, where both are there
 abbrev pub joined : Option (List ℕ) → Option (List ℕ) → Option (List ℕ)

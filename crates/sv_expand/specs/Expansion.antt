@@ -1,15 +1,20 @@
 -- Expansions in a value, as a text is read from left to right (the manual's chapter on the
 -- configuration file).
-use Rattle.std.specs.Prelude.{◌≡◌, ◌==◌, ◌+◌, ◌-◌, ℕ, List, [], ◌∷◌, ◌++◌, Bool, ◌&&◌, Option, Some, None, Result, Ok, Err, nat_le, encode_utf8, if◌then◌else◌, ⊤}
+use Rattle.std.specs.Prelude.{◌≡◌, ◌==◌, ◌+◌, ◌-◌, ℕ, List, [], ◌∷◌, ◌++◌, Bool, ◌&&◌, Option, Some}
+use Rattle.std.specs.Prelude.{None, Result, Ok, Err, nat_le, encode_utf8, if◌then◌else◌, ⊤}
 use Rattle.std.specs.Char.{len_utf8}
 use Rattle.std.specs.Str.{chars}
+use Rattle.sv_base.specs.Ascii.{digit_zero, left_parenthesis, letter_d, letter_s, percent_sign}
+use Rattle.sv_base.specs.Ascii.{right_parenthesis, space}
 use Rattle.sv_expand.specs.Results.{and_then}
 use Rattle.sv_expand.specs.Values.{value_of, plain_value, number_value}
 use Rattle.sv_expand.specs.declared.fault.ExpandFault.{ExpandFault}
 use Rattle.sv_expand.specs.declared.fault.ExpandFault.TheVariants.{Unknown, BadForm, OutOfMemory}
 use Rattle.sv_expand.specs.declared.names.Names.{Names}
-use Rattle.sv_expand.specs.declared.expanding.Place.{Place}
-use Rattle.sv_expand.specs.declared.expanding.Place.TheVariants.{Plain, Percent, Name, Behind, Zero, Wide}
+use Rattle.sv_expand.specs.declared.expanding.ExpansionProgress.{ExpansionProgress}
+use Rattle.sv_expand.specs.declared.expanding.ExpansionProgress.TheVariants.{Plain, Percent}
+use Rattle.sv_expand.specs.declared.expanding.ExpansionProgress.TheVariants.{Name, AfterName, Zero}
+use Rattle.sv_expand.specs.declared.expanding.ExpansionProgress.TheVariants.{Wide}
 
 -- the pairs stand before the numbers
 abbrev pub text_told : Names → List ℕ → Option (List ℕ)
@@ -26,14 +31,14 @@ pub record Reached : Type 0 where
   pub told : List ℕ
   pub name : List ℕ
   pub start : ℕ
-  pub place : Place
+  pub place : ExpansionProgress
 
 -- before the first character
 abbrev pub at_start : Reached
 at_start = record { told = []; name = []; start = 0; place = Plain }
 
 -- the same, at another place of the scan
-abbrev pub moved : Place → Reached → Reached
+abbrev pub moved : ExpansionProgress → Reached → Reached
 moved place reached = record reached { place = place }
 
 -- a character that stands for itself
@@ -65,31 +70,31 @@ is_width c = nat_le 49 c && nat_le c 57
 -- a second percent sign, or the bracket before a name
 abbrev pub behind_percent : ℕ → Reached → Result Reached ExpandFault
 behind_percent c reached =
-    if c == 37 then Ok (with_char 37 reached)
-    else if c == 40 then Ok (moved Name reached)
+    if c == percent_sign then Ok (with_char percent_sign reached)
+    else if c == left_parenthesis then Ok (moved Name reached)
     else bad_form reached
 
 -- `s`, `d`, or the places of a number, which are filled with zeros where a zero stands before them
 abbrev pub behind_name : Names → ℕ → Reached → Result Reached ExpandFault
 behind_name names c reached =
-    if c == 115 then with_value (text_told names reached.name) reached
-    else if c == 100 then with_value (number_told names 32 0 reached.name) reached
-    else if c == 48 then Ok (moved Zero reached)
+    if c == letter_s then with_value (text_told names reached.name) reached
+    else if c == letter_d then with_value (number_told names space 0 reached.name) reached
+    else if c == digit_zero then Ok (moved Zero reached)
     else if is_width c then Ok (moved (Wide 32 (c - 48)) reached)
     else bad_form reached
 
 -- a character more, by where it stands
-abbrev pub after_at : Names → Place → ℕ → ℕ → Reached → Result Reached ExpandFault
+abbrev pub after_at : Names → ExpansionProgress → ℕ → ℕ → Reached → Result Reached ExpandFault
 after_at names Plain at c reached =
-    if c == 37 then Ok (begun at reached) else Ok (with_char c reached)
+    if c == percent_sign then Ok (begun at reached) else Ok (with_char c reached)
 after_at names Percent at c reached = behind_percent c reached
 after_at names Name at c reached =
-    if c == 41 then Ok (moved Behind reached) else Ok (with_name c reached)
-after_at names Behind at c reached = behind_name names c reached
+    if c == right_parenthesis then Ok (moved AfterName reached) else Ok (with_name c reached)
+after_at names AfterName at c reached = behind_name names c reached
 after_at names Zero at c reached =
     if is_width c then Ok (moved (Wide 48 (c - 48)) reached) else bad_form reached
 after_at names (Wide filler width) at c reached =
-    if c == 100 then with_value (number_told names filler width reached.name) reached
+    if c == letter_d then with_value (number_told names filler width reached.name) reached
     else bad_form reached
 
 -- the same, by where the reading has come
@@ -103,7 +108,7 @@ after_all names at (c ∷ cs) reached =
     and_then (after names at c reached) (λ next. after_all names (at + len_utf8 c) cs next)
 
 -- the expansion where the text ends: not in a form
-abbrev pub closed_at : Place → Reached → Result (List ℕ) ExpandFault
+abbrev pub closed_at : ExpansionProgress → Reached → Result (List ℕ) ExpandFault
 closed_at Plain reached = Ok reached.told
 closed_at place reached = Err (BadForm reached.start)
 

@@ -1,8 +1,10 @@
--- A text is cut into pairs NAME=VALUE parted by commas (the manual's chapter on the configuration file,
--- `environment`).
-use Rattle.std.specs.Prelude.{◌≡◌, ◌≢◌, ◌==◌, ℕ, List, [], ◌∷◌, ◌++◌, length, map, Bool, false, true, not, ◌||◌, encode_utf8_all, ⊤}
+-- A text is cut into pairs NAME=VALUE parted by commas (the manual's chapter on the configuration
+-- file, `environment`).
+use Rattle.std.specs.Prelude.{◌≡◌, ◌≢◌, ◌==◌, ℕ, List, [], ◌∷◌, ◌++◌, length, map, Bool, false}
+use Rattle.std.specs.Prelude.{true, not, ◌||◌, encode_utf8_all, ⊤}
 use Rattle.std.specs.List.{flat_map, list_all}
 use Rattle.std.specs.Str.{chars}
+use Rattle.sv_base.specs.Ascii.{comma, equals_sign}
 use Rattle.sv_expand.specs.Pairs.{is_white, is_name_char, is_quote}
 use Rattle.sv_expand.specs.declared.fault.PairFault.{PairFault}
 use Rattle.sv_expand.specs.declared.fault.PairFault.TheVariants.{BadPair, OutOfMemory}
@@ -30,7 +32,7 @@ value_written (Bare before cs after) = before ++ (cs ++ after)
 
 -- white space, the name, `=`, the value
 abbrev pub written : Pair → List ℕ
-written pair = pair.before ++ (pair.name ++ 61 ∷ value_written pair.value)
+written pair = pair.before ++ (pair.name ++ equals_sign ∷ value_written pair.value)
 
 -- what stands after the last comma
 abbrev pub last_written : Last → List ℕ
@@ -39,7 +41,7 @@ last_written (One pair) = written pair
 
 -- pairs with the comma after each
 abbrev pub listed : List Pair → List ℕ
-listed pairs = flat_map (λ pair. written pair ++ 44 ∷ []) pairs
+listed pairs = flat_map (λ pair. written pair ++ comma ∷ []) pairs
 
 -- white space and nothing else
 abbrev pub is_blank : List ℕ → Bool
@@ -56,14 +58,15 @@ ends_white [] = false
 ends_white (c ∷ []) = is_white c
 ends_white (c ∷ cs) = ends_white cs
 
--- in quotes their own quote doesn't stand; bare is neither a comma nor a quote, nor white space at an
--- end
+-- in quotes their own quote doesn't stand; bare is neither a comma nor a quote, nor white space at
+-- an end
 abbrev pub IsValue : Value → Type 0
 IsValue (Quoted quote cs after) =
     (is_quote quote ≡ true) × (list_all (λ c. not (c == quote)) cs ≡ true) × (is_blank after ≡ true)
 IsValue (Bare before cs after) =
-    (is_blank before ≡ true) × (list_all (λ c. not ((c == 44) || is_quote c)) cs ≡ true)
-    × (begins_white cs ≡ false) × (ends_white cs ≡ false) × (is_blank after ≡ true) × (cs ≡ [] → after ≡ [])
+    (is_blank before ≡ true) × (list_all (λ c. not ((c == comma) || is_quote c)) cs ≡ true)
+    × (begins_white cs ≡ false) × (ends_white cs ≡ false) × (is_blank after ≡ true)
+    × (cs ≡ [] → after ≡ [])
 
 -- a pair has a name
 abbrev pub IsPair : Pair → Type 0
@@ -106,7 +109,7 @@ pub record HasPairs (text : List ℕ) (pairs : List (List ℕ × List ℕ)) : Ty
 
 -- no pair begins with these characters
 pub record BeginsNoPair (cs : List ℕ) : Type 0 where
-  pub none : (pair : Pair) (more : List ℕ) → IsPair pair → cs ≡ written pair ++ 44 ∷ more → ⊥
+  pub none : (pair : Pair) (more : List ℕ) → IsPair pair → cs ≡ written pair ++ comma ∷ more → ⊥
   pub last : (last : Last) → IsLast last → cs ≡ last_written last → ⊥
 
 -- the first bad pair of a text: after pairs with their commas, and after white space, stands none

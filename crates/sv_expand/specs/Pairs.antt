@@ -1,44 +1,50 @@
 -- Pairs NAME=VALUE, as a text is read from left to right (the manual's chapter on the configuration
 -- file, `environment`).
-use Rattle.std.specs.Prelude.{◌≡◌, ◌==◌, ◌+◌, ℕ, List, [], ◌∷◌, ◌++◌, Bool, ◌&&◌, ◌||◌, Result, Ok, Err, nat_le, encode_utf8, if◌then◌else◌, ⊤}
+use Rattle.std.specs.Prelude.{◌≡◌, ◌==◌, ◌+◌, ℕ, List, [], ◌∷◌, ◌++◌, Bool, ◌&&◌, ◌||◌, Result, Ok}
+use Rattle.std.specs.Prelude.{Err, nat_le, encode_utf8, if◌then◌else◌, ⊤}
 use Rattle.std.specs.Char.{len_utf8}
 use Rattle.std.specs.Str.{chars}
+use Rattle.sv_base.specs.Ascii.{carriage_return, comma, double_quote, equals_sign, line_feed}
+use Rattle.sv_base.specs.Ascii.{single_quote, space, tab, underscore}
 use Rattle.sv_expand.specs.Results.{and_then}
 use Rattle.sv_expand.specs.declared.fault.PairFault.{PairFault}
 use Rattle.sv_expand.specs.declared.fault.PairFault.TheVariants.{BadPair, OutOfMemory}
-use Rattle.sv_expand.specs.declared.pairing.Place.{Place}
-use Rattle.sv_expand.specs.declared.pairing.Place.TheVariants.{Before, Name, Equals, Led, Bare, Single, Double, Closed}
+use Rattle.sv_expand.specs.declared.pairing.PairsProgress.{PairsProgress}
+use Rattle.sv_expand.specs.declared.pairing.PairsProgress.TheVariants.{Before, Name, Equals}
+use Rattle.sv_expand.specs.declared.pairing.PairsProgress.TheVariants.{BeforeValue, Bare}
+use Rattle.sv_expand.specs.declared.pairing.PairsProgress.TheVariants.{Single, Double, Closed}
 
--- what was read so far: the pairs that are over; of the one that is going on its name, its value, the
--- white space that may be the value's end, and the place of its first byte; and where that leaves us
+-- what was read so far: the pairs that are over; of the one that is going on its name, its value,
+-- the white space that may be the value's end, and the place of its first byte; and where that
+-- leaves us
 pub record Reached : Type 0 where
   pub pairs : List (List ℕ × List ℕ)
   pub name : List ℕ
   pub value : List ℕ
   pub gap : List ℕ
   pub start : ℕ
-  pub place : Place
+  pub place : PairsProgress
 
 -- a space, a tab, CR or a line feed
 abbrev pub is_white : ℕ → Bool
-is_white c = (c == 32) || ((c == 9) || ((c == 13) || (c == 10)))
+is_white c = (c == space) || ((c == tab) || ((c == carriage_return) || (c == line_feed)))
 
 -- a letter, a digit or `_`
 abbrev pub is_name_char : ℕ → Bool
 is_name_char c =
     (nat_le 97 c && nat_le c 122)
-    || ((nat_le 65 c && nat_le c 90) || ((nat_le 48 c && nat_le c 57) || (c == 95)))
+    || ((nat_le 65 c && nat_le c 90) || ((nat_le 48 c && nat_le c 57) || (c == underscore)))
 
 -- a double or a single quote
 abbrev pub is_quote : ℕ → Bool
-is_quote c = (c == 34) || (c == 39)
+is_quote c = (c == double_quote) || (c == single_quote)
 
 -- before the first character
 abbrev pub at_start : Reached
 at_start = record { pairs = []; name = []; value = []; gap = []; start = 0; place = Before }
 
 -- the same, at another place of the scan
-abbrev pub moved : Place → Reached → Reached
+abbrev pub moved : PairsProgress → Reached → Reached
 moved place reached = record reached { place = place }
 
 -- a pair begins
@@ -67,7 +73,8 @@ with_gap c reached = record reached { gap = reached.gap ++ encode_utf8 c }
 -- a character of a bare value, after the white space that now counts
 abbrev pub with_bare : ℕ → Reached → Reached
 with_bare c reached =
-    record reached { value = (reached.value ++ reached.gap) ++ encode_utf8 c; gap = []; place = Bare }
+    record reached
+    { value = (reached.value ++ reached.gap) ++ encode_utf8 c; gap = []; place = Bare }
 
 -- the pair is over
 abbrev pub ended : Reached → Reached
@@ -83,34 +90,34 @@ ended reached = record {
 -- in a bare value, but for white space: a comma ends it, and no quote stands in it
 abbrev pub in_bare : ℕ → Reached → Result Reached PairFault
 in_bare c reached =
-    if c == 44 then Ok (ended reached)
+    if c == comma then Ok (ended reached)
     else if is_quote c then Err (BadPair reached.start)
     else Ok (with_bare c reached)
 
 -- a character more, by where it stands
-abbrev pub after_at : Place → ℕ → ℕ → Reached → Result Reached PairFault
+abbrev pub after_at : PairsProgress → ℕ → ℕ → Reached → Result Reached PairFault
 after_at Before at c reached =
     if is_white c then Ok reached
     else if is_name_char c then Ok (begun at c reached)
     else Err (BadPair at)
 after_at Name at c reached =
-    if c == 61 then Ok (moved Equals reached)
+    if c == equals_sign then Ok (moved Equals reached)
     else if is_name_char c then Ok (with_name c reached)
     else Err (BadPair reached.start)
 after_at Equals at c reached =
-    if c == 34 then Ok (moved Double reached)
-    else if c == 39 then Ok (moved Single reached)
-    else if is_white c then Ok (moved Led reached)
+    if c == double_quote then Ok (moved Double reached)
+    else if c == single_quote then Ok (moved Single reached)
+    else if is_white c then Ok (moved BeforeValue reached)
     else in_bare c reached
-after_at Led at c reached = if is_white c then Ok reached else in_bare c reached
+after_at BeforeValue at c reached = if is_white c then Ok reached else in_bare c reached
 after_at Bare at c reached = if is_white c then Ok (with_gap c reached) else in_bare c reached
 after_at Single at c reached =
-    if c == 39 then Ok (moved Closed reached) else Ok (with_quoted c reached)
+    if c == single_quote then Ok (moved Closed reached) else Ok (with_quoted c reached)
 after_at Double at c reached =
-    if c == 34 then Ok (moved Closed reached) else Ok (with_quoted c reached)
+    if c == double_quote then Ok (moved Closed reached) else Ok (with_quoted c reached)
 after_at Closed at c reached =
     if is_white c then Ok reached
-    else if c == 44 then Ok (ended reached)
+    else if c == comma then Ok (ended reached)
     else Err (BadPair reached.start)
 
 -- the same, by where the reading has come
@@ -124,7 +131,7 @@ after_all at (c ∷ cs) reached =
     and_then (after at c reached) (λ next. after_all (at + len_utf8 c) cs next)
 
 -- the pairs where the text ends: a last one may be empty, none ends in its name or in quotes
-abbrev pub closed_at : Place → Reached → Result (List (List ℕ × List ℕ)) PairFault
+abbrev pub closed_at : PairsProgress → Reached → Result (List (List ℕ × List ℕ)) PairFault
 closed_at Before reached = Ok reached.pairs
 closed_at Name reached = Err (BadPair reached.start)
 closed_at Single reached = Err (BadPair reached.start)

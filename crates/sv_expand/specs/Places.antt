@@ -1,4 +1,5 @@
--- The place of each name in a list, kept in a table: the one that going through the list would find.
+-- The place of each name in a list, kept in a table: the one that going through the list would
+-- find.
 use Rattle.std.specs.Prelude.{◌≡◌, ℕ, List, Bool, Option, Some, None, String, if◌then◌else◌}
 use Rattle.std.specs.HashMap.{HashMap, get_by_text}
 use Rattle.std.specs.List.{position, slice_get}

@@ -1,5 +1,6 @@
 -- The values that names stand for, and how numbers are printed.
-use Rattle.std.specs.Prelude.{◌-◌, ℕ, suc, zero, List, [], ◌∷◌, ◌++◌, Option, Some, None, length, encode_utf8, if◌then◌else◌}
+use Rattle.std.specs.Prelude.{◌-◌, ℕ, suc, zero, List, [], ◌∷◌, ◌++◌, Option, Some, None, length}
+use Rattle.std.specs.Prelude.{encode_utf8, if◌then◌else◌}
 use Rattle.std.specs.Fmt.{decimal}
 use Rattle.std.specs.Str.{bytes_eq}
 

@@ -1,12 +1,14 @@
 -- A command is cut into gaps and pieces of words (the manual's chapter on the configuration file,
 -- `command`). Pieces that stand side by side make one word.
-use Rattle.std.specs.Prelude.{◌≡◌, ◌==◌, ℕ, List, [], ◌∷◌, ◌++◌, Bool, true, false, not, ◌&&◌, ◌||◌, ◌⊎◌, encode_utf8, encode_utf8_all, ⊤}
+use Rattle.std.specs.Prelude.{◌≡◌, ◌==◌, ℕ, List, [], ◌∷◌, ◌++◌, Bool, true, false, not, ◌&&◌, ◌||◌}
+use Rattle.std.specs.Prelude.{◌⊎◌, encode_utf8, encode_utf8_all, ⊤}
 use Rattle.std.specs.List.{flat_map, list_all}
 use Rattle.std.specs.Str.{chars}
+use Rattle.sv_base.specs.Ascii.{backslash, double_quote, single_quote}
 use Rattle.sv_expand.specs.Words.{parts_words}
 
--- what stands in double quotes: a character, a backslash with the quote or the backslash that it keeps,
--- and a backslash before any other character, which both stand for themselves
+-- what stands in double quotes: a character, a backslash with the quote or the backslash that it
+-- keeps, and a backslash before any other character, which both stand for themselves
 pub data Quoted : Type 0 where
   Itself : (c : ℕ) → Quoted
   Escaped : (c : ℕ) → Quoted
@@ -24,16 +26,16 @@ pub data Part : Type 0 where
 -- how each is written
 abbrev pub quoted_written : Quoted → List ℕ
 quoted_written (Itself c) = c ∷ []
-quoted_written (Escaped c) = 92 ∷ c ∷ []
-quoted_written (Both c) = 92 ∷ c ∷ []
+quoted_written (Escaped c) = backslash ∷ c ∷ []
+quoted_written (Both c) = backslash ∷ c ∷ []
 
 -- of a gap, and of each piece
 abbrev pub written : Part → List ℕ
 written (Gap c) = c ∷ []
 written (Plain c) = c ∷ []
-written (Kept c) = 92 ∷ c ∷ []
-written (Single cs) = 39 ∷ (cs ++ 39 ∷ [])
-written (Double quoted) = 34 ∷ (flat_map quoted_written quoted ++ 34 ∷ [])
+written (Kept c) = backslash ∷ c ∷ []
+written (Single cs) = single_quote ∷ (cs ++ single_quote ∷ [])
+written (Double quoted) = double_quote ∷ (flat_map quoted_written quoted ++ double_quote ∷ [])
 
 -- how parts are written: one after another
 abbrev pub written_all : List Part → List ℕ
@@ -41,7 +43,7 @@ written_all parts = flat_map written parts
 
 -- a double quote or a backslash, which a backslash keeps in double quotes
 abbrev pub is_escaped : ℕ → Bool
-is_escaped c = (c == 34) || (c == 92)
+is_escaped c = (c == double_quote) || (c == backslash)
 
 -- a backslash stands alone for itself only before other characters
 abbrev pub IsQuoted : Quoted → Type 0
@@ -56,11 +58,11 @@ AreQuoted (first ∷ quoted) = IsQuoted first × AreQuoted quoted
 
 -- characters without a single quote
 abbrev pub is_single : List ℕ → Bool
-is_single cs = list_all (λ c. not (c == 39)) cs
+is_single cs = list_all (λ c. not (c == single_quote)) cs
 
 -- a character of a word that stands for itself: it parts no words, and is no quote and no backslash
 abbrev pub is_plain : ℕ → Bool
-is_plain c = not (parts_words c) && (not (c == 39) && not (is_escaped c))
+is_plain c = not (parts_words c) && (not (c == single_quote) && not (is_escaped c))
 
 -- a gap parts words, a plain piece doesn't, and what stands in quotes doesn't close them
 abbrev pub IsPart : Part → Type 0
@@ -89,8 +91,8 @@ value (Kept c) = encode_utf8 c
 value (Single cs) = encode_utf8_all cs
 value (Double quoted) = flat_map quoted_value quoted
 
--- a piece before these parts, which have these words: it begins the first word, unless a gap or the end
--- stands between
+-- a piece before these parts, which have these words: it begins the first word, unless a gap or the
+-- end stands between
 abbrev pub with_piece : List ℕ → List Part → List (List ℕ) → List (List ℕ)
 with_piece piece [] words = piece ∷ words
 with_piece piece (Gap c ∷ parts) words = piece ∷ words
@@ -113,11 +115,12 @@ pub record HasWords (text : List ℕ) (words : List (List ℕ)) : Type 0 where
 -- a quote that isn't closed, or a backslash at the end
 abbrev pub IsOpen : List ℕ → Type 0
 IsOpen rest =
-    (rest ≡ 92 ∷ [])
-    ⊎ ((cs : List ℕ) × (is_single cs ≡ true) × (rest ≡ 39 ∷ cs))
-    ⊎ ((quoted : List Quoted) × AreQuoted quoted × (rest ≡ 34 ∷ flat_map quoted_written quoted))
+    (rest ≡ backslash ∷ [])
+    ⊎ ((cs : List ℕ) × (is_single cs ≡ true) × (rest ≡ single_quote ∷ cs))
     ⊎ ((quoted : List Quoted) × AreQuoted quoted
-    × (rest ≡ 34 ∷ (flat_map quoted_written quoted ++ 92 ∷ [])))
+    × (rest ≡ double_quote ∷ flat_map quoted_written quoted))
+    ⊎ ((quoted : List Quoted) × AreQuoted quoted
+    × (rest ≡ double_quote ∷ (flat_map quoted_written quoted ++ backslash ∷ [])))
 
 -- a text has no words where it ends so after whole parts
 pub record HasOpenQuote (text : List ℕ) : Type 0 where

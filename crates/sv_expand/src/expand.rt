@@ -4,7 +4,7 @@ ghost use Rattle.std.specs.Str.{chars};
 ghost use Rattle.sv_expand.specs.Cuts.{Expands, IsLeftmost};
 ghost use Rattle.sv_expand.specs.Expansion.{expansion_of, after_all, at_start, IsFault};
 
-use crate::expanding::Reading;
+use crate::expanding::Expander;
 use crate::fault::ExpandFault;
 use crate::names::Names;
 use std::alloc::Global;
@@ -32,13 +32,13 @@ fn read_text(alloc: Global, text: &str, names: &Names) -> Result<Text, ExpandFau
     }
 }
 
-fn read_all(alloc: Global, text: &str, names: &Names) -> Result<Reading, ExpandFault>
+fn read_all(alloc: Global, text: &str, names: &Names) -> Result<Expander, ExpandFault>
     ensures read { let all = after_all names.now 0 (chars text.now) at_start in
         IfOk result (λ reading. all ≡ Ok reading) }
     ensures fault { let all = after_all names.now 0 (chars text.now) at_start in
         IfErr result (λ fault. IsFault fault all) }
 {
-    let mut reading = Reading::new(alloc);
+    let mut reading = Expander::new(alloc);
     for (at, c) in text.char_indices() {
         match reading.read(alloc, names, at, c) {
             Ok(()) => {}

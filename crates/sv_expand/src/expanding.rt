@@ -13,7 +13,7 @@ use sv_base::text::Text;
 
 /// Where in a text the next character stands.
 #[derive(Clone, Copy)]
-pub enum Place {
+pub enum ExpansionProgress {
     /// Outside forms, or at an end.
     Plain,
     /// After a percent sign.
@@ -21,7 +21,7 @@ pub enum Place {
     /// In a name.
     Name,
     /// After a name.
-    Behind,
+    AfterName,
     /// After a name and a zero.
     Zero,
     /// After a name and a number of places, which are filled with spaces or zeros.
@@ -30,15 +30,15 @@ pub enum Place {
 
 /// What was read of a text so far.
 #[derive(Drop)]
-pub struct Reading {
+pub struct Expander {
     told: String,
     name: String,
     /// Where the form begins that is going on.
     start: usize,
-    place: Place,
+    place: ExpansionProgress,
 }
 
-impl Model for Reading {
+impl Model for Expander {
     ghost use Rattle.std.specs.Prelude.{string_bytes};
     ghost use Rattle.sv_expand.specs.Expansion.{Reached};
 
@@ -52,18 +52,20 @@ impl Model for Reading {
     } };
 }
 
-impl Reading {
-    ghost use Rattle.sv_expand.specs.Expansion.{Reached, at_start, after, moved, begun, behind_percent, behind_name, with_char, with_name, with_value, closed, IsFault};
+impl Expander {
+    ghost use Rattle.sv_expand.specs.Expansion.{Reached, at_start, after, moved, begun};
+    ghost use Rattle.sv_expand.specs.Expansion.{behind_percent, behind_name, with_char, with_name};
+    ghost use Rattle.sv_expand.specs.Expansion.{with_value, closed, IsFault};
 
     /// Before the first character.
-    pub fn new(alloc: Global) -> Reading
+    pub fn new(alloc: Global) -> Expander
         ensures { result ≡ at_start }
     {
-        Reading {
+        Expander {
             told: String::new(alloc),
             name: String::new(alloc),
             start: 0,
-            place: Place::Plain,
+            place: ExpansionProgress::Plain,
         }
     }
 
@@ -80,20 +82,25 @@ impl Reading {
         ensures fault { IfErr result (λ fault. IsFault fault (after names.now at c self.old)) }
     {
         match self.place {
-            Place::Plain if c == '%' => self.begin(alloc, at),
-            Place::Plain => self.add(c),
-            Place::Percent => self.read_percent(c),
-            Place::Name if c == ')' => self.go(Place::Behind),
-            Place::Name => self.add_name(c),
-            Place::Behind => self.read_behind(alloc, names, c),
-            Place::Zero if is_width(c) => self.go(Place::Wide('0', width_of(c))),
-            Place::Zero => Err(ExpandFault::BadForm(self.start)),
-            Place::Wide(filler, width) if c == 'd' => self.add_number(alloc, names, filler, width),
-            Place::Wide(..) => Err(ExpandFault::BadForm(self.start)),
+            ExpansionProgress::Plain if c == '%' => self.begin(alloc, at),
+            ExpansionProgress::Plain => self.add(c),
+            ExpansionProgress::Percent => self.read_percent(c),
+            ExpansionProgress::Name if c == ')' => self.go(ExpansionProgress::AfterName),
+            ExpansionProgress::Name => self.add_name(c),
+            ExpansionProgress::AfterName => self.read_after_name(alloc, names, c),
+            ExpansionProgress::Zero if is_width(c) => self.go(ExpansionProgress::Wide(
+                '0',
+                width_of(c),
+            )),
+            ExpansionProgress::Zero => Err(ExpandFault::BadForm(self.start)),
+            ExpansionProgress::Wide(filler, width) if c == 'd' => self.add_number(
+                alloc, names, filler, width,
+            ),
+            ExpansionProgress::Wide(..) => Err(ExpandFault::BadForm(self.start)),
         }
     }
 
-    fn go(&mut self, place: Place) -> Result<(), ExpandFault>
+    fn go(&mut self, place: ExpansionProgress) -> Result<(), ExpandFault>
         ensures read { OnOk result (self.new ≡ moved place self.old) }
         ensures fault { IfErr result (λ fault. fault ≡ OutOfMemory) }
     {
@@ -107,7 +114,7 @@ impl Reading {
     {
         self.name = String::new(alloc);
         self.start = at;
-        self.place = Place::Percent;
+        self.place = ExpansionProgress::Percent;
         Ok(())
     }
 
@@ -116,7 +123,7 @@ impl Reading {
         ensures fault { IfErr result (λ fault. fault ≡ OutOfMemory) }
     {
         self.told.push(c)?;
-        self.place = Place::Plain;
+        self.place = ExpansionProgress::Plain;
         Ok(())
     }
 
@@ -134,20 +141,20 @@ impl Reading {
     {
         match c {
             '%' => self.add('%'),
-            '(' => self.go(Place::Name),
+            '(' => self.go(ExpansionProgress::Name),
             _ => Err(ExpandFault::BadForm(self.start)),
         }
     }
 
-    fn read_behind(&mut self, alloc: Global, names: &Names, c: char) -> Result<(), ExpandFault>
+    fn read_after_name(&mut self, alloc: Global, names: &Names, c: char) -> Result<(), ExpandFault>
         ensures read { OnOk result (behind_name names.now c self.old ≡ Ok self.new) }
         ensures fault { IfErr result (λ fault. IsFault fault (behind_name names.now c self.old)) }
     {
         match c {
             's' => self.add_text(alloc, names),
             'd' => self.add_number(alloc, names, ' ', 0),
-            '0' => self.go(Place::Zero),
-            _ if is_width(c) => self.go(Place::Wide(' ', width_of(c))),
+            '0' => self.go(ExpansionProgress::Zero),
+            _ if is_width(c) => self.go(ExpansionProgress::Wide(' ', width_of(c))),
             _ => Err(ExpandFault::BadForm(self.start)),
         }
     }
@@ -185,7 +192,7 @@ impl Reading {
         match value {
             Some(value) => {
                 self.told.push_str(value.as_str())?;
-                self.place = Place::Plain;
+                self.place = ExpansionProgress::Plain;
                 Ok(())
             }
             None => {
@@ -199,14 +206,14 @@ impl Reading {
     pub fn close(self) -> Result<Text, ExpandFault>
         ensures { result ≡ closed self }
     {
-        let Reading {
+        let Expander {
             told,
             start,
             place,
             ..
         } = self;
         match place {
-            Place::Plain => Ok(Text::from_string(told)),
+            ExpansionProgress::Plain => Ok(Text::from_string(told)),
             _ => Err(ExpandFault::BadForm(start)),
         }
     }

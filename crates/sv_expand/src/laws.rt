@@ -3,9 +3,11 @@ ghost use Rattle.std.specs.Prelude.{◌≡◌, ◌↔◌, ◌++◌, List, ℕ, O
 ghost use Rattle.std.specs.Str.{chars};
 ghost use Rattle.sv_expand.specs.Cuts.{Part, AreParts, written_all, values, Expands, HasFault};
 ghost use Rattle.sv_expand.specs.Expansion.{expansion_of};
-ghost use Rattle.sv_expand.specs.PairCuts.{HasPairs, HasBadPair, Pair, Last, ArePairs, IsLast, listed, last_written};
+ghost use Rattle.sv_expand.specs.PairCuts.{HasPairs, HasBadPair, Pair, Last, ArePairs, IsLast};
+ghost use Rattle.sv_expand.specs.PairCuts.{listed, last_written};
 ghost use Rattle.sv_expand.specs.Pairs.{pairs_of};
-ghost use Rattle.sv_expand.specs.WordCuts.{HasWords, HasOpenQuote, Part as Piece, AreParts as ArePieces, written_all as pieces_written};
+ghost use Rattle.sv_expand.specs.WordCuts.{HasWords, HasOpenQuote, Part as Piece};
+ghost use Rattle.sv_expand.specs.WordCuts.{AreParts as ArePieces, written_all as pieces_written};
 ghost use Rattle.sv_expand.specs.Words.{words_of};
 ghost use Rattle.sv_expand.specs.declared.fault.ExpandFault.{ExpandFault};
 ghost use Rattle.sv_expand.specs.declared.fault.PairFault.TheVariants.{BadPair};

@@ -2,7 +2,7 @@
 ghost use Rattle.std.specs.Prelude.{◌≡◌, Ok, OnOk, IfOk, IfErr, string_bytes};
 ghost use Rattle.sv_expand.specs.Pairs.{is_white, is_name_char};
 ghost use Rattle.sv_expand.specs.declared.fault.PairFault.TheVariants.{OutOfMemory};
-ghost use Rattle.sv_expand.specs.declared.pairing.Place.TheVariants.{Before, Name};
+ghost use Rattle.sv_expand.specs.declared.pairing.PairsProgress.TheVariants.{Before, Name};
 
 use crate::fault::PairFault;
 use std::alloc::{AllocError, Global};
@@ -12,7 +12,7 @@ use sv_base::text::Text;
 
 /// Where in a text the next character stands.
 #[derive(Clone, Copy)]
-pub enum Place {
+pub enum PairsProgress {
     /// Before a pair, or at an end.
     Before,
     /// In a name.
@@ -20,7 +20,7 @@ pub enum Place {
     /// Right after the `=`.
     Equals,
     /// After the `=` and white space.
-    Led,
+    BeforeValue,
     /// In a bare value.
     Bare,
     /// In single quotes.
@@ -33,7 +33,7 @@ pub enum Place {
 
 /// What was read of a list of pairs so far.
 #[derive(Drop)]
-pub struct Reading {
+pub struct PairReader {
     pairs: Vec<(Text, Text)>,
     name: String,
     value: String,
@@ -41,10 +41,10 @@ pub struct Reading {
     gap: String,
     /// Where the pair begins that is going on.
     start: usize,
-    place: Place,
+    place: PairsProgress,
 }
 
-impl Model for Reading {
+impl Model for PairReader {
     ghost use Rattle.std.specs.Prelude.{string_bytes};
     ghost use Rattle.sv_expand.specs.Pairs.{Reached};
 
@@ -60,20 +60,22 @@ impl Model for Reading {
     } };
 }
 
-impl Reading {
-    ghost use Rattle.sv_expand.specs.Pairs.{Reached, at_start, after, after_at, moved, begun, with_name, with_quoted, with_gap, with_bare, ended, in_bare, closed, IsFault};
+impl PairReader {
+    ghost use Rattle.sv_expand.specs.Pairs.{Reached, at_start, after, after_at, moved, begun};
+    ghost use Rattle.sv_expand.specs.Pairs.{with_name, with_quoted, with_gap, with_bare, ended};
+    ghost use Rattle.sv_expand.specs.Pairs.{in_bare, closed, IsFault};
 
     /// Before the first character.
-    pub fn new(alloc: Global) -> Reading
+    pub fn new(alloc: Global) -> PairReader
         ensures { result ≡ at_start }
     {
-        Reading {
+        PairReader {
             pairs: Vec::new(alloc),
             name: String::new(alloc),
             value: String::new(alloc),
             gap: String::new(alloc),
             start: 0,
-            place: Place::Before,
+            place: PairsProgress::Before,
         }
     }
 
@@ -84,24 +86,25 @@ impl Reading {
         ensures fault { IfErr result (λ fault. IsFault fault (after at c self.old)) }
     {
         match self.place {
-            Place::Before => self.read_before(alloc, at, c),
-            Place::Name => self.read_name(c),
-            Place::Equals if c == '"' => self.go(Place::Double),
-            Place::Equals if c == '\'' => self.go(Place::Single),
-            Place::Equals if is_white(c) => self.go(Place::Led),
-            Place::Led if is_white(c) => Ok(()),
-            Place::Bare if is_white(c) => self.add_gap(c),
-            Place::Equals | Place::Led | Place::Bare => self.read_bare(alloc, c),
-            Place::Single if c == '\'' => self.go(Place::Closed),
-            Place::Double if c == '"' => self.go(Place::Closed),
-            Place::Single | Place::Double => self.add_quoted(c),
-            Place::Closed if is_white(c) => Ok(()),
-            Place::Closed if c == ',' => self.end_pair(alloc),
-            Place::Closed => Err(PairFault::BadPair(self.start)),
+            PairsProgress::Before => self.read_before(alloc, at, c),
+            PairsProgress::Name => self.read_name(c),
+            PairsProgress::Equals if c == '"' => self.go(PairsProgress::Double),
+            PairsProgress::Equals if c == '\'' => self.go(PairsProgress::Single),
+            PairsProgress::Equals if is_white(c) => self.go(PairsProgress::BeforeValue),
+            PairsProgress::BeforeValue if is_white(c) => Ok(()),
+            PairsProgress::Bare if is_white(c) => self.add_gap(c),
+            PairsProgress::Equals | PairsProgress::BeforeValue | PairsProgress::Bare =>
+                self.read_bare(alloc, c),
+            PairsProgress::Single if c == '\'' => self.go(PairsProgress::Closed),
+            PairsProgress::Double if c == '"' => self.go(PairsProgress::Closed),
+            PairsProgress::Single | PairsProgress::Double => self.add_quoted(c),
+            PairsProgress::Closed if is_white(c) => Ok(()),
+            PairsProgress::Closed if c == ',' => self.end_pair(alloc),
+            PairsProgress::Closed => Err(PairFault::BadPair(self.start)),
         }
     }
 
-    fn go(&mut self, place: Place) -> Result<(), PairFault>
+    fn go(&mut self, place: PairsProgress) -> Result<(), PairFault>
         ensures read { OnOk result (self.new ≡ moved place self.old) }
         ensures fault { IfErr result (λ fault. fault ≡ OutOfMemory) }
     {
@@ -131,7 +134,7 @@ impl Reading {
         self.value = String::new(alloc);
         self.gap = String::new(alloc);
         self.start = at;
-        self.place = Place::Name;
+        self.place = PairsProgress::Name;
         Ok(())
     }
 
@@ -140,7 +143,7 @@ impl Reading {
         ensures fault { IfErr result (λ fault. IsFault fault (after_at Name 0 c self.old)) }
     {
         if c == '=' {
-            self.go(Place::Equals)
+            self.go(PairsProgress::Equals)
         } else if is_name_char(c) {
             self.name.push(c)?;
             Ok(())
@@ -183,7 +186,7 @@ impl Reading {
         let gap = mem::replace(&mut self.gap, String::new(alloc));
         self.value.push_str(gap.as_str())?;
         self.value.push(c)?;
-        self.place = Place::Bare;
+        self.place = PairsProgress::Bare;
         Ok(())
     }
 
@@ -196,7 +199,7 @@ impl Reading {
         self.pairs
             .push((Text::from_string(name), Text::from_string(value)))?;
         self.gap = String::new(alloc);
-        self.place = Place::Before;
+        self.place = PairsProgress::Before;
         Ok(())
     }
 
@@ -205,7 +208,7 @@ impl Reading {
         ensures read { IfOk result (λ pairs. closed self ≡ Ok pairs.items) }
         ensures fault { IfErr result (λ fault. IsFault fault (closed self)) }
     {
-        let Reading {
+        let PairReader {
             mut pairs,
             name,
             value,
@@ -214,9 +217,14 @@ impl Reading {
             ..
         } = self;
         match place {
-            Place::Before => Ok(pairs),
-            Place::Name | Place::Single | Place::Double => Err(PairFault::BadPair(start)),
-            Place::Equals | Place::Led | Place::Bare | Place::Closed => {
+            PairsProgress::Before => Ok(pairs),
+            PairsProgress::Name | PairsProgress::Single | PairsProgress::Double => Err(
+                PairFault::BadPair(start),
+            ),
+            PairsProgress::Equals
+            | PairsProgress::BeforeValue
+            | PairsProgress::Bare
+            | PairsProgress::Closed => {
                 pairs.push((Text::from_string(name), Text::from_string(value)))?;
                 Ok(pairs)
             }

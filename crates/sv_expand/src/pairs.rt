@@ -5,7 +5,7 @@ ghost use Rattle.sv_expand.specs.PairCuts.{HasPairs, IsFirstBad};
 ghost use Rattle.sv_expand.specs.Pairs.{pairs_of, after_all, at_start, IsFault};
 
 use crate::fault::PairFault;
-use crate::pairing::Reading;
+use crate::pairing::PairReader;
 use std::alloc::Global;
 use sv_base::text::Text;
 
@@ -31,11 +31,11 @@ fn read_text(alloc: Global, text: &str) -> Result<Vec<(Text, Text)>, PairFault>
     }
 }
 
-fn read_all(alloc: Global, text: &str) -> Result<Reading, PairFault>
+fn read_all(alloc: Global, text: &str) -> Result<PairReader, PairFault>
     ensures read { IfOk result (λ reading. after_all 0 (chars text.now) at_start ≡ Ok reading) }
     ensures fault { IfErr result (λ fault. IsFault fault (after_all 0 (chars text.now) at_start)) }
 {
-    let mut reading = Reading::new(alloc);
+    let mut reading = PairReader::new(alloc);
     for (at, c) in text.char_indices() {
         match reading.read(alloc, at, c) {
             Ok(()) => {}

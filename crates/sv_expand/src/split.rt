@@ -11,7 +11,7 @@ use sv_base::text::Text;
 
 /// Where in a text the next character stands.
 #[derive(Clone, Copy)]
-pub enum Place {
+pub enum WordsProgress {
     /// Between two words, or at an end.
     Between,
     /// In a word, outside quotes.
@@ -28,13 +28,13 @@ pub enum Place {
 
 /// What was read of a command so far.
 #[derive(Drop)]
-pub struct Reading {
+pub struct WordSplitter {
     words: Vec<Text>,
     word: String,
-    place: Place,
+    place: WordsProgress,
 }
 
-impl Model for Reading {
+impl Model for WordSplitter {
     ghost use Rattle.std.specs.Prelude.{string_bytes};
     ghost use Rattle.sv_expand.specs.Words.{Reached};
 
@@ -47,17 +47,18 @@ impl Model for Reading {
     } };
 }
 
-impl Reading {
-    ghost use Rattle.sv_expand.specs.Words.{Reached, at_start, after, outside, with_char, kept_in_quotes, ended, closed, parts_words};
+impl WordSplitter {
+    ghost use Rattle.sv_expand.specs.Words.{Reached, at_start, after, outside, with_char};
+    ghost use Rattle.sv_expand.specs.Words.{kept_in_quotes, ended, closed, parts_words};
 
     /// Before the first character.
-    pub fn new(alloc: Global) -> Reading
+    pub fn new(alloc: Global) -> WordSplitter
         ensures { result ≡ at_start }
     {
-        Reading {
+        WordSplitter {
             words: Vec::new(alloc),
             word: String::new(alloc),
-            place: Place::Between,
+            place: WordsProgress::Between,
         }
     }
 
@@ -66,27 +67,27 @@ impl Reading {
         ensures { OnOk result (self.new ≡ after c self.old) }
     {
         match self.place {
-            Place::Between if parts_words(c) => Ok(()),
-            Place::Bare if parts_words(c) => self.end_word(alloc),
-            Place::Between | Place::Bare => self.read_outside(c),
-            Place::Kept => self.add(Place::Bare, c),
-            Place::Single if c == '\'' => self.go(Place::Bare),
-            Place::Single => self.add(Place::Single, c),
-            Place::Double if c == '"' => self.go(Place::Bare),
-            Place::Double if c == '\\' => self.go(Place::DoubleKept),
-            Place::Double => self.add(Place::Double, c),
-            Place::DoubleKept => self.read_kept(c),
+            WordsProgress::Between if parts_words(c) => Ok(()),
+            WordsProgress::Bare if parts_words(c) => self.end_word(alloc),
+            WordsProgress::Between | WordsProgress::Bare => self.read_outside(c),
+            WordsProgress::Kept => self.add(WordsProgress::Bare, c),
+            WordsProgress::Single if c == '\'' => self.go(WordsProgress::Bare),
+            WordsProgress::Single => self.add(WordsProgress::Single, c),
+            WordsProgress::Double if c == '"' => self.go(WordsProgress::Bare),
+            WordsProgress::Double if c == '\\' => self.go(WordsProgress::DoubleKept),
+            WordsProgress::Double => self.add(WordsProgress::Double, c),
+            WordsProgress::DoubleKept => self.read_kept(c),
         }
     }
 
-    fn go(&mut self, place: Place) -> Result<(), AllocError>
+    fn go(&mut self, place: WordsProgress) -> Result<(), AllocError>
         ensures { OnOk result (self.new ≡ record self.old { place = place }) }
     {
         self.place = place;
         Ok(())
     }
 
-    fn add(&mut self, place: Place, c: char) -> Result<(), AllocError>
+    fn add(&mut self, place: WordsProgress, c: char) -> Result<(), AllocError>
         ensures { OnOk result (self.new ≡ with_char place c self.old) }
     {
         self.word.push(c)?;
@@ -99,7 +100,7 @@ impl Reading {
     {
         let word = mem::replace(&mut self.word, String::new(alloc));
         self.words.push(Text::from_string(word))?;
-        self.place = Place::Between;
+        self.place = WordsProgress::Between;
         Ok(())
     }
 
@@ -107,10 +108,10 @@ impl Reading {
         ensures { OnOk result (self.new ≡ outside c self.old) }
     {
         match c {
-            '\'' => self.go(Place::Single),
-            '"' => self.go(Place::Double),
-            '\\' => self.go(Place::Kept),
-            _ => self.add(Place::Bare, c),
+            '\'' => self.go(WordsProgress::Single),
+            '"' => self.go(WordsProgress::Double),
+            '\\' => self.go(WordsProgress::Kept),
+            _ => self.add(WordsProgress::Bare, c),
         }
     }
 
@@ -118,9 +119,9 @@ impl Reading {
         ensures { OnOk result (self.new ≡ kept_in_quotes c self.old) }
     {
         if c != '"' && c != '\\' {
-            self.add(Place::Double, '\\')?;
+            self.add(WordsProgress::Double, '\\')?;
         }
-        self.add(Place::Double, c)
+        self.add(WordsProgress::Double, c)
     }
 
     /// The words, where the text ends here; none in quotes or after a backslash.
@@ -128,14 +129,14 @@ impl Reading {
         ensures words { IfOk result (λ words. closed self ≡ Some words.items) }
         ensures fault { result ≡ Err OpenQuote → closed self ≡ None }
     {
-        let Reading {
+        let WordSplitter {
             mut words,
             word,
             place,
         } = self;
         match place {
-            Place::Between => Ok(words),
-            Place::Bare => {
+            WordsProgress::Between => Ok(words),
+            WordsProgress::Bare => {
                 words.push(Text::from_string(word))?;
                 Ok(words)
             }

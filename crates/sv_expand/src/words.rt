@@ -6,7 +6,7 @@ ghost use Rattle.sv_expand.specs.WordCuts.{HasWords, HasOpenQuote};
 ghost use Rattle.sv_expand.specs.Words.{words_of, after_all, at_start};
 
 use crate::fault::WordFault;
-use crate::split::Reading;
+use crate::split::WordSplitter;
 use std::alloc::{AllocError, Global};
 use sv_base::text::Text;
 
@@ -28,10 +28,10 @@ fn read_text(alloc: Global, text: &str) -> Result<Vec<Text>, WordFault>
     read_all(alloc, text)?.close()
 }
 
-fn read_all(alloc: Global, text: &str) -> Result<Reading, AllocError>
+fn read_all(alloc: Global, text: &str) -> Result<WordSplitter, AllocError>
     ensures { IfOk result (λ reading. reading ≡ after_all (chars text.now) at_start) }
 {
-    let mut reading = Reading::new(alloc);
+    let mut reading = WordSplitter::new(alloc);
     for c in text.chars() {
         reading.read(alloc, c)?;
     }

@@ -1,11 +1,16 @@
--- The events of a child's edges (the manual's chapter on events, "PROCESS_STATE Event Type" and those below it).
+-- The events of a child's edges (the manual's chapter on events, "PROCESS_STATE Event Type" and
+-- those below it).
 use Rattle.std.specs.Prelude.{ℕ, Option, Some, None, Bool, not, slice_get}
 use Rattle.sv_base.specs.declared.kind.Kind.{Kind}
-use Rattle.sv_base.specs.declared.kind.Kind.TheVariants.{ProcessStateStarting, ProcessStateRunning, ProcessStateBackoff, ProcessStateStopping, ProcessStateExited, ProcessStateStopped, ProcessStateFatal, ProcessStateUnknown}
+use Rattle.sv_base.specs.declared.kind.Kind.TheVariants.{ProcessStateStarting, ProcessStateRunning}
+use Rattle.sv_base.specs.declared.kind.Kind.TheVariants.{ProcessStateBackoff, ProcessStateStopping}
+use Rattle.sv_base.specs.declared.kind.Kind.TheVariants.{ProcessStateExited, ProcessStateStopped}
+use Rattle.sv_base.specs.declared.kind.Kind.TheVariants.{ProcessStateFatal, ProcessStateUnknown}
 use Rattle.sv_base.specs.declared.spec.Spec.{Spec}
 use Rattle.sv_base.specs.declared.state.Autorestart.TheVariants.{Unexpected}
 use Rattle.sv_base.specs.declared.state.State.{State}
-use Rattle.sv_base.specs.declared.state.State.TheVariants.{Stopped, Starting, Running, Backoff, Stopping, Exited, Fatal, Unknown}
+use Rattle.sv_base.specs.declared.state.State.TheVariants.{Stopped, Starting, Running, Backoff}
+use Rattle.sv_base.specs.declared.state.State.TheVariants.{Stopping, Exited, Fatal, Unknown}
 use Rattle.sv_child.specs.Moves.{restarts_by}
 use Rattle.sv_child.specs.declared.child.Child.{Child}
 use Rattle.sv_child.specs.declared.step.Edge.{Edge}
@@ -24,11 +29,13 @@ kind_of Exited = ProcessStateExited
 kind_of Fatal = ProcessStateFatal
 kind_of Unknown = ProcessStateUnknown
 
--- its last exit was expected: it is none for which a program that is started again after unexpected ones is started
+-- its last exit was expected: it is none for which a program that is started again after unexpected
+-- ones is started
 abbrev pub is_expected : Spec → Child → Bool
 is_expected spec child = not (restarts_by Unexpected spec.exitcodes child.exit)
 
--- what the event of entering this state tells: of a process that had this number, of a child as it is after its step
+-- what the event of entering this state tells: of a process that had this number, of a child as it
+-- is after its step
 abbrev pub entry_fact : State → ℕ → Member → State → Fact
 entry_fact Stopped pid m from = Living m.spec.name m.group.name from pid
 entry_fact Starting pid m from = Trying m.spec.name m.group.name from m.child.tries
@@ -48,7 +55,8 @@ abbrev pub fact_of_one : ℕ → Option Member → Edge → Option Fact
 fact_of_one pid None edge = None
 fact_of_one pid (Some m) edge = Some (fact_of pid m edge)
 
--- what the event of an edge tells of the child of a place, whose process had this number before its step
+-- what the event of an edge tells of the child of a place, whose process had this number before its
+-- step
 abbrev pub fact_at : Crew → ℕ → ℕ → Edge → Option Fact
 fact_at crew place pid edge = fact_of_one pid (member_at crew place) edge
 

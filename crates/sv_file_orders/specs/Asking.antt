@@ -2,13 +2,15 @@
 use Rattle.std.specs.Prelude.{◌≡◌, ℕ, List, Option, None, Some, Result, Ok, Err}
 use Rattle.std.specs.Option.{ForSome}
 use Rattle.sv_file_orders.specs.declared.asking.FileAnswer.{FileAnswer}
-use Rattle.sv_file_orders.specs.declared.asking.FileAnswer.TheVariants.{Read, Done, Missing, Names, Size, Failed}
+use Rattle.sv_file_orders.specs.declared.asking.FileAnswer.TheVariants.{Read, Done, Missing, Names}
+use Rattle.sv_file_orders.specs.declared.asking.FileAnswer.TheVariants.{Size, Failed}
 use Rattle.sv_out.specs.Files.{AreNames, Becomes, Files, emptied, part_of, size_of}
 
 -- a told map has the file, with these bytes of it
 abbrev pub HasPart : Option Files → List ℕ → ℕ → ℕ → List ℕ → Type 0
 HasPart told name start most part =
-    ForSome told (λ files. (bytes : List ℕ) × (files name ≡ Some bytes) × (part ≡ part_of start most bytes))
+    ForSome told
+    (λ files. (bytes : List ℕ) × (files name ≡ Some bytes) × (part ≡ part_of start most bytes))
 
 -- a told map has the file, of this size
 abbrev pub HasSize : Option Files → List ℕ → ℕ → Type 0
@@ -34,7 +36,8 @@ Parts told name start most (Ok Failed) = Unit {0}
 Parts told name start most (Err error) = Unit {0}
 
 -- a file that is there becomes empty; a missing one, and one of which a call failed, stays as it is
-abbrev pub Clears : {E : Type 0} → Option Files → Option Files → List ℕ → Result FileAnswer E → Type 0
+abbrev pub Clears : {E : Type 0} → Option Files → Option Files → List ℕ → Result FileAnswer E
+    → Type 0
 Clears old new name (Ok (Read part)) = ⊥
 Clears old new name (Ok Done) = Has old name × Becomes old new (emptied name)
 Clears old new name (Ok Missing) = HasNo old name × (new ≡ old)

@@ -1,6 +1,8 @@
--- What becomes of the files as pieces are logged and files cleared one after the other: of a log's file and its backups, what the
--- appends of the pieces that are logged to it, and its clears, make of them.
-use Rattle.std.specs.Prelude.{◌≡◌, ◌≢◌, ℕ, suc, ◌-◌, ◌^◌, ◌<◌, ◌≤◌, List, [], ◌∷◌, Option, Some, None, Bool, false, length, min, filter}
+-- What becomes of the files as pieces are logged and files cleared one after the other: of a log's
+-- file and its backups, what the appends of the pieces that are logged to it, and its clears, make
+-- of them.
+use Rattle.std.specs.Prelude.{◌≡◌, ◌≢◌, ℕ, suc, ◌-◌, ◌^◌, ◌<◌, ◌≤◌, List, [], ◌∷◌, Option, Some}
+use Rattle.std.specs.Prelude.{None, Bool, false, length, min, filter}
 use Rattle.std.specs.List.{All}
 use Rattle.std.specs.Option.{option_map}
 use Rattle.std.specs.Str.{bytes_eq}
@@ -49,7 +51,8 @@ deed_done (Empties name) sizes files = emptied name files
 -- and after all of these, one after the other
 abbrev pub all_done : List LogDeed → Sizes → Files → Files
 all_done [] sizes files = files
-all_done (deed ∷ deeds) sizes files = all_done deeds (sizes_after deed sizes) (deed_done deed sizes files)
+all_done (deed ∷ deeds) sizes files =
+    all_done deeds (sizes_after deed sizes) (deed_done deed sizes files)
 
 -- this deed is of the file of this name
 abbrev pub is_of_file : List ℕ → LogDeed → Bool
@@ -61,18 +64,20 @@ abbrev pub deeds_of : List ℕ → List LogDeed → List LogDeed
 deeds_of name deeds = filter (is_of_file name) deeds
 
 -- the piece was appended to this file of the log, and what followed holds of the files after it
-pub record IsFollowed (name : List ℕ) (log : LogSpec) (piece : List ℕ) (before : Files) (follows : Files → Type 0) : Type 0 where
+pub record IsFollowed (name : List ℕ) (log : LogSpec) (piece : List ℕ) (before : Files)
+    (follows : Files → Type 0) : Type 0 where
   pub between : Files
   pub appended : IsAppended (plan_as name (length (bytes_of before name)) log) piece before between
   pub rest : follows between
 
--- these are the files after the deeds of this file, one after the other: pieces were appended to it, each as its log has it, and
--- it was made empty
+-- these are the files after the deeds of this file, one after the other: pieces were appended to
+-- it, each as its log has it, and it was made empty
 abbrev pub AreCarriedOut : List ℕ → List LogDeed → Files → Files → Type 0
 AreCarriedOut name [] before after = (other : List ℕ) → after other ≡ before other
 AreCarriedOut name (Adds log piece ∷ deeds) before after =
     IsFollowed name log piece before (λ between. AreCarriedOut name deeds between after)
-AreCarriedOut name (Empties own ∷ deeds) before after = AreCarriedOut name deeds (emptied name before) after
+AreCarriedOut name (Empties own ∷ deeds) before after =
+    AreCarriedOut name deeds (emptied name before) after
 
 -- the known size of a file is its size; it stops at the greatest number
 abbrev pub IsSize : List ℕ → Sizes → Files → Type 0
@@ -80,7 +85,9 @@ IsSize name sizes files = size_in name sizes ≡ min (length (bytes_of files nam
 
 -- this name is none of the log's backups: its file with `.i` after it, for i from 1 to their number
 abbrev pub IsNoBackup : List ℕ → LogSpec → Type 0
-IsNoBackup name log = (file : List ℕ) (number : ℕ) → log.file ≡ Some file → number < log.backups → name ≢ kept file (suc number)
+IsNoBackup name log =
+    (file : List ℕ) (number : ℕ) → log.file ≡ Some file → number < log.backups
+    → name ≢ kept file (suc number)
 
 -- neither log's file is a backup of the other; its limits are those of a log
 pub record IsBeside (log other : LogSpec) : Type 0 where
@@ -94,16 +101,19 @@ abbrev pub IsBesideDeed : LogSpec → LogDeed → Type 0
 IsBesideDeed log (Adds other piece) = IsBeside log other
 IsBesideDeed log (Empties name) = IsNoBackup name log
 
--- of the log's file and its backups the files hold what the deeds of this file, and no others, made of them, one after the other;
--- and its known size is its size
-pub record HasLogged (name : List ℕ) (log : LogSpec) (deeds : List LogDeed) (sizes : Sizes) (before after : Files) : Type 0 where
+-- of the log's file and its backups the files hold what the deeds of this file, and no others, made
+-- of them, one after the other; and its known size is its size
+pub record HasLogged (name : List ℕ) (log : LogSpec) (deeds : List LogDeed) (sizes : Sizes)
+    (before after : Files) : Type 0 where
   pub alone : Files
   pub carried : AreCarriedOut name (deeds_of name deeds) before alone
-  pub same : (number : ℕ) → number ≤ log.backups → after (kept name number) ≡ alone (kept name number)
+  pub same : (number : ℕ) → number ≤ log.backups
+      → after (kept name number) ≡ alone (kept name number)
   pub known : IsSize name (all_sizes deeds sizes) after
 
--- No logged byte is lost but by rotation and by a clear: where pieces are logged and files are cleared one after the other, and the
--- orders for that are carried out, each log's file has what was logged to it since. In the beginning its known size is its size.
+-- No logged byte is lost but by rotation and by a clear: where pieces are logged and files are
+-- cleared one after the other, and the orders for that are carried out, each log's file has what
+-- was logged to it since. In the beginning its known size is its size.
 abbrev pub EachFileHasWhatWasLogged : Type 0
 EachFileHasWhatWasLogged =
     (log : LogSpec) (name : List ℕ) (deeds : List LogDeed) (sizes : Sizes) (files : Files)

@@ -1,11 +1,13 @@
--- What becomes of log files, one thing after the other: which orders that gives, and which sizes are then known.
+-- What becomes of log files, one thing after the other: which orders that gives, and which sizes
+-- are then known.
 use Rattle.std.specs.Prelude.{ℕ, List, [], ◌∷◌, ◌++◌}
 use Rattle.sv_base.specs.declared.spec.LogSpec.{LogSpec}
 use Rattle.sv_files.specs.Logging.{log_orders, logged}
 use Rattle.sv_files.specs.Sizes.{Sizes, cleared}
 use Rattle.sv_out.specs.declared.order.Order.{Order}
 
--- a piece is added to a log; or a file is made empty, or is found missing, as a clear of it was asked for
+-- a piece is added to a log; or a file is made empty, or is found missing, as a clear of it was
+-- asked for
 pub data LogDeed : Type 0 where
   Adds : LogSpec → (piece : List ℕ) → LogDeed
   Empties : (file : List ℕ) → LogDeed
@@ -28,4 +30,5 @@ all_sizes (deed ∷ deeds) sizes = all_sizes deeds (sizes_after deed sizes)
 -- the orders of all of them
 abbrev pub all_orders : List LogDeed → Sizes → List Order
 all_orders [] sizes = []
-all_orders (deed ∷ deeds) sizes = deed_orders deed sizes ++ all_orders deeds (sizes_after deed sizes)
+all_orders (deed ∷ deeds) sizes =
+    deed_orders deed sizes ++ all_orders deeds (sizes_after deed sizes)

@@ -11,7 +11,8 @@ use Rattle.sv_out.specs.declared.order.Order.TheVariants.{Append, Shift, Fresh}
 
 -- a log with a file of this name and size
 abbrev pub plan_as : List ℕ → ℕ → LogSpec → LogPlan
-plan_as name size log = record { file = name; maxbytes = log.maxbytes; backups = log.backups; size = size }
+plan_as name size log =
+    record { file = name; maxbytes = log.maxbytes; backups = log.backups; size = size }
 
 -- the order for one step in the keeping of a log
 abbrev pub order_of : FileOrder → Order
@@ -21,7 +22,8 @@ order_of (file.Fresh name) = Fresh name
 
 -- a piece is added to a log with this file: the orders for that
 abbrev pub orders_as : List ℕ → LogSpec → List ℕ → Sizes → List Order
-orders_as name log piece sizes = map order_of (orders_of (plan_as name (size_in name sizes) log) piece)
+orders_as name log piece sizes =
+    map order_of (orders_of (plan_as name (size_in name sizes) log) piece)
 
 -- and the sizes after it
 abbrev pub logged_as : List ℕ → LogSpec → List ℕ → Sizes → Sizes

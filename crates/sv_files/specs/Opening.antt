@@ -18,7 +18,8 @@ begins log sizes = begins_as log.file sizes
 -- the logs of processes
 abbrev pub processes_begin : List Spec → Sizes → Sizes
 processes_begin [] sizes = sizes
-processes_begin (spec ∷ specs) sizes = processes_begin specs (begins spec.stderr (begins spec.stdout sizes))
+processes_begin (spec ∷ specs) sizes =
+    processes_begin specs (begins spec.stderr (begins spec.stdout sizes))
 
 -- those of groups
 abbrev pub groups_begin : List GroupSpec → Sizes → Sizes

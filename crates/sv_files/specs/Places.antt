@@ -18,4 +18,5 @@ pub record StandsAt (file : List ℕ) (sizes : Sizes) (place : ℕ) : Type 0 whe
 pub record IsGapFor (file : List ℕ) (sizes : Sizes) (place : ℕ) : Type 0 where
   pub below : place ≤ length sizes
   pub lesser : (other : ℕ) → other < place → slice_cmp nat_cmp (name_at sizes other) file ≡ Less
-  pub greater : (other : ℕ) → place ≤ other → other < length sizes → slice_cmp nat_cmp (name_at sizes other) file ≡ Greater
+  pub greater : (other : ℕ) → place ≤ other → other < length sizes
+      → slice_cmp nat_cmp (name_at sizes other) file ≡ Greater

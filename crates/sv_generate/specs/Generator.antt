@@ -1,5 +1,7 @@
--- The run of a number: a linear congruential generator, whose states give its inputs one after the other.
-use Rattle.std.specs.Prelude.{◌+◌, ◌*◌, ◌/◌, ◌%◌, ◌^◌, ◌==◌, ◌&&◌, ℕ, zero, suc, nat_lt, if◌then◌else◌}
+-- The run of a number: a linear congruential generator, whose states give its inputs one after the
+-- other.
+use Rattle.std.specs.Prelude.{◌+◌, ◌*◌, ◌/◌, ◌%◌, ◌^◌, ◌==◌, ◌&&◌, ℕ, zero, suc, nat_lt}
+use Rattle.std.specs.Prelude.{if◌then◌else◌}
 use Rattle.sv_generate.specs.declared.draw.Draw.{Draw}
 use Rattle.sv_generate.specs.declared.draw.Draw.TheVariants.{Tick, Exit, Stop, Start}
 
@@ -16,8 +18,8 @@ state_after number (suc draws) = next_state (state_after number draws)
 abbrev pub program_of : ℕ → ℕ
 program_of part = part / 4 % 200
 
--- the input at this moment that a part of the state gives, where so many runs were issued: one of four kinds by its last two
--- bits; an exit, where no run was issued, is a tick
+-- the input at this moment that a part of the state gives, where so many runs were issued: one of
+-- four kinds by its last two bits; an exit, where no run was issued, is a tick
 abbrev pub draw_of : ℕ → ℕ → ℕ → Draw
 draw_of at part issued =
     if (part % 4 == 1) && nat_lt 0 issued then Exit at (record { 0 = 1 + part / 4 % issued })

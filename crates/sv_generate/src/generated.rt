@@ -68,7 +68,8 @@ impl Generated {
     pub fn draw(&mut self, issued: u64) -> Option<Draw>
         requires { issued ≤ 4294967295 }
         ensures next { (number draws : ℕ) → HasDrawn self.old number draws → draws < number
-            → (result ≡ Some (nth_draw number draws issued)) × HasDrawn self.new number (draws + 1) }
+            → (result ≡ Some (nth_draw number draws issued))
+            × HasDrawn self.new number (draws + 1) }
         ensures end { (number draws : ℕ) → HasDrawn self.old number draws → number ≤ draws
             → (result ≡ None) × HasDrawn self.new number draws }
     {

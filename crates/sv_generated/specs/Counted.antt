@@ -2,6 +2,7 @@
 use Rattle.std.specs.Prelude.{◌≡◌, ◌++◌, ◌∷◌, ℕ, List, [], Bool, true, false, codes, length}
 use Rattle.std.specs.Fmt.{decimal}
 use Rattle.std.specs.List.{filter}
+use Rattle.sv_base.specs.Ascii.{line_feed}
 use Rattle.sv_generated.specs.declared.counts.Counts.{Counts}
 use Rattle.sv_out.specs.declared.order.Order.{Order}
 use Rattle.sv_out.specs.declared.order.Order.TheVariants as order
@@ -44,4 +45,4 @@ run_line number orders =
     ++ codes " spawns " ++ decimal (spawns orders)
     ++ codes " kills " ++ decimal (kills orders)
     ++ codes " edges " ++ decimal (edges orders)
-    ++ 10 ∷ []
+    ++ line_feed ∷ []

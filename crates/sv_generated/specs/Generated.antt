@@ -1,6 +1,7 @@
--- A generated run of the machine: the inputs that are drawn one after the other, each with the answers of the spawns that
--- it leads to.
+-- A generated run of the machine: the inputs that are drawn one after the other, each with the
+-- answers of the spawns that it leads to.
 use Rattle.std.specs.Prelude.{◌+◌, ◌/◌, ◌%◌, ◌++◌, ◌∷◌, ℕ, zero, suc, List, []}
+use Rattle.sv_base.specs.Ascii.{letter_p}
 use Rattle.sv_base.specs.declared.state.How.TheVariants.{Code}
 use Rattle.sv_core.specs.Deeds.{after, deeds}
 use Rattle.sv_core.specs.MachineState.{Model, hand}
@@ -16,7 +17,8 @@ use Rattle.sv_out.specs.declared.input.Input.TheVariants as input
 
 -- the name of a program: p and three digits
 abbrev pub program_name : ℕ → List ℕ
-program_name number = 112 ∷ (48 + number / 100 % 10) ∷ (48 + number / 10 % 10) ∷ (48 + number % 10) ∷ []
+program_name number =
+    letter_p ∷ (48 + number / 100 % 10) ∷ (48 + number / 10 % 10) ∷ (48 + number % 10) ∷ []
 
 -- the input that was drawn
 abbrev pub input_of : Draw → Input
@@ -25,7 +27,8 @@ input_of (draw.Exit at run) = input.Exit at run (Code 1)
 input_of (draw.Stop at program) = input.Stop at (program_name program)
 input_of (draw.Start at program) = input.Start at (program_name program)
 
--- the number of the process that the latest of these spawns starts: the spawn of run n is the nth, and starts 100 + n
+-- the number of the process that the latest of these spawns starts: the spawn of run n is the nth,
+-- and starts 100 + n
 abbrev pub process_of : ℕ → ℕ
 process_of spawned = 100 + spawned
 
@@ -33,7 +36,8 @@ process_of spawned = 100 + spawned
 abbrev pub answers : Turn → List Input
 answers (Done w) = []
 answers (Ask w question onward) =
-    input.Pid (process_of (spawns w.given)) ∷ answers (onward w (Started (process_of (spawns w.given))))
+    input.Pid (process_of (spawns w.given))
+    ∷ answers (onward w (Started (process_of (spawns w.given))))
 
 -- these inputs, and the answers of the turn that they lead to
 abbrev pub answered : Model → List Input → List Input

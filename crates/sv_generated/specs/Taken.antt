@@ -1,5 +1,6 @@
 -- How far a run was taken, and what is known of the machine meanwhile.
 use Rattle.std.specs.Prelude.{◌≡◌, ◌≤◌, ℕ, zero, suc, List, false, length}
+use Rattle.sv_base.specs.Limits.{process_limit}
 use Rattle.sv_base.specs.declared.config.Config.{Config}
 use Rattle.sv_base.specs.declared.config.Host.{Host}
 use Rattle.sv_core.specs.Deeds.{after, deeds}
@@ -24,22 +25,19 @@ pub record Beginning : Type 0 where
 abbrev pub first_of : Beginning → Model
 first_of begins = opening begins.config begins.sizes begins.host
 
--- a configuration has few processes
-abbrev pub process_limit : ℕ
-process_limit = 1024
-
 -- the machine is one that begins, with few processes
 pub record Begins (machine : Machine) (begins : Beginning) : Type 0 where
   pub stands : StandsFor machine (first_of begins)
   pub few : length (processes begins.config.groups) ≤ process_limit
 
 -- the machine took these inputs, and its orders are counted
-pub record IsAfter (machine : Machine) (counts : Counts) (first : Model) (inputs : List Input) : Type 0 where
+pub record IsAfter (machine : Machine) (counts : Counts) (first : Model) (inputs : List Input)
+    : Type 0 where
   pub stands : StandsFor machine (after first inputs)
   pub counted : Counted counts (deeds first inputs)
 
--- at most so many questions come, one after the other, where each is answered by the start of a process: each is a
--- spawn, and few were given
+-- at most so many questions come, one after the other, where each is answered by the start of a
+-- process: each is a spawn, and few were given
 abbrev pub AsksFew : ℕ → Turn → Type 0
 AsksFew most (Done w) = Unit {0}
 AsksFew zero (Ask w question onward) = ⊥

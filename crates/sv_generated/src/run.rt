@@ -1,5 +1,6 @@
 //! The run.
-ghost use Rattle.std.specs.Prelude.{◌≡◌, ◌≤◌, ◌+◌, ◌*◌, ◌^◌, ◌++◌, ◌∷◌, [], List, ℕ, IsTrue, IfOk, OnOk};
+ghost use Rattle.std.specs.Prelude.{◌≡◌, ◌≤◌, ◌+◌, ◌*◌, ◌^◌, ◌++◌, ◌∷◌, [], List, ℕ, IsTrue, IfOk};
+ghost use Rattle.std.specs.Prelude.{OnOk};
 ghost use Rattle.sv_core.specs.MachineState.{Model};
 ghost use Rattle.sv_core.specs.StandsFor.{is_fitting};
 ghost use Rattle.sv_generated.specs.Counted.{Counted};

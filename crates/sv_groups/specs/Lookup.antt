@@ -37,7 +37,8 @@ group_found (Some place) = Group place
 -- without a process's name the group is meant
 abbrev pub found_by : List ℕ → Option (List ℕ) → List GroupSpec → Found
 found_by group None groups = group_found (place_of group groups)
-found_by group (Some name) groups = one_found (position_from (is_called group name) 0 (names_of groups))
+found_by group (Some name) groups =
+    one_found (position_from (is_called group name) 0 (names_of groups))
 
 -- what a name of a command finds: a process, a group or nothing
 abbrev pub found : List ℕ → List GroupSpec → Found

@@ -1,5 +1,5 @@
 -- The order in which processes start and stop (the manual's chapter on configuration, `priority`).
-use Rattle.std.specs.Prelude.{ℕ, List, [], ◌∷◌, ◌+◌, length, map, take, drop, reverse}
+use Rattle.std.specs.Prelude.{ℕ, List, [], ◌∷◌, ◌+◌, ◌-◌, length, map, take, drop, reverse}
 use Rattle.std.specs.List.{flat_map}
 use Rattle.sv_base.specs.declared.ids.ChildId.{ChildId}
 use Rattle.sv_base.specs.declared.spec.GroupSpec.{GroupSpec}
@@ -50,3 +50,8 @@ span_of place groups = record {
 -- a group stops in the reverse of the order in which it starts
 abbrev pub stop_order : ℕ → List GroupSpec → List ChildId
 stop_order place groups = reverse (ids_from (first_of place groups) (members_at place groups))
+
+-- of so many groups that are left of the start order, the place of the one that is stopped next:
+-- the last
+abbrev pub next_to_stop : ℕ → ℕ
+next_to_stop left = left - 1

@@ -1,10 +1,11 @@
 //! Groups that are added and removed.
-ghost use Rattle.std.specs.Prelude.{◌≡◌, ◌+◌, ◌<◌, ◌≤◌, IfSome, IsTrue, Some, length, not, slice_get};
-ghost use Rattle.std.specs.List.{position_from, prefix_len, remove};
+ghost use Rattle.std.specs.Prelude.{◌≡◌, ◌+◌, ◌<◌, ◌≤◌, IfSome, IsTrue, Some, length, not};
+ghost use Rattle.std.specs.Prelude.{slice_get};
+ghost use Rattle.std.specs.List.{position_from, remove};
 ghost use Rattle.sv_base.specs.Roster.{is_membership};
 ghost use Rattle.sv_child.specs.Moves.{is_at_rest};
 ghost use Rattle.sv_child.specs.declared.child.Child.{Child};
-ghost use Rattle.sv_groups.specs.Changes.{Adds, Removes, stands, starts_before, still_running};
+ghost use Rattle.sv_groups.specs.Changes.{Adds, Removes, stands, still_running};
 ghost use Rattle.sv_groups.specs.StartOrder.{first_of, members_at, processes};
 
 use crate::fault::GroupFault;
@@ -12,14 +13,13 @@ use crate::names::Names;
 use crate::order::{Roster, count, first_members};
 use crate::seat::{more_seats, refill};
 use sv_base::ids::ChildId;
-use sv_base::ranked::start_order;
 use sv_base::spec::GroupSpec;
 use sv_child::child::Child;
+use sv_ranks::place_for;
 
 impl Roster {
     /// Adds a group, at its place in the start order; the processes after it get new ids. `Already` exactly where
     /// its name stands in the roster. A refusal, `OutOfMemory` too, leaves the roster as it was.
-    #[tactic(auto, using(crate::proofs::Kept::roster_with, crate::proofs::Kept::with_at))]
     pub fn add_group(&mut self, group: GroupSpec) -> Result<(), GroupFault>
         requires members { IsTrue (is_membership group.members) }
         requires groups { length self.old + 1 ≤ 256 }
@@ -76,17 +76,6 @@ fn stands(groups: &[GroupSpec], name: &str) -> bool
     ensures { result ≡ stands name.now groups.now }
 {
     groups.iter().any(|group| group.name.as_str() == name)
-}
-
-/// How many groups at the front start before this one.
-fn place_for(groups: &[GroupSpec], group: &GroupSpec) -> usize
-    ensures count { result ≡ prefix_len (starts_before group.now) groups.now }
-    ensures within { result ≤ length groups.now }
-{
-    groups
-        .iter()
-        .take_while(|other| start_order(*other, group).is_lt())
-        .count()
 }
 
 /// The first child of the group at this place that isn't at rest.

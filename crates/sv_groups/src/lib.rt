@@ -12,4 +12,4 @@ mod seat;
 
 pub use fault::GroupFault;
 pub use lookup::Found;
-pub use order::{Roster, Span};
+pub use order::{Roster, Span, next_to_stop};

@@ -1,7 +1,9 @@
 //! The roster of a daemon: its groups and processes in start order.
-ghost use Rattle.std.specs.Prelude.{◌≡◌, ◌+◌, ◌≤◌, ◌<◌, ◌^◌, ◌++◌, IfOk, IsTrue, MatchOption, None, OnOk, Some, length, slice_get};
+ghost use Rattle.std.specs.Prelude.{◌≡◌, ◌+◌, ◌≤◌, ◌<◌, ◌^◌, ◌++◌, IfOk, IsTrue, MatchOption, None};
+ghost use Rattle.std.specs.Prelude.{OnOk, Some, length, slice_get};
 ghost use Rattle.sv_base.specs.Roster.{is_roster};
-ghost use Rattle.sv_groups.specs.StartOrder.{first_members, ids_from, pairs_of, processes, span_of, start_order, stop_order};
+ghost use Rattle.sv_groups.specs.StartOrder.{first_members, ids_from, pairs_of, processes, span_of};
+ghost use Rattle.sv_groups.specs.StartOrder.{start_order, stop_order, next_to_stop};
 
 use crate::names::Names;
 use crate::seat::{Seat, empty_seats, refill};
@@ -44,6 +46,14 @@ impl Model for Roster {
 pub struct Span {
     pub from: usize,
     pub to: usize,
+}
+
+/// Of so many groups that are left of the start order, the place of the one that is stopped next: the last.
+pub fn next_to_stop(left: usize) -> usize
+    requires { 0 < left }
+    ensures { result ≡ next_to_stop left }
+{
+    left - 1
 }
 
 impl Roster {

@@ -16,8 +16,8 @@ use Rattle.sv_http.specs.declared.guard.Guard.{Guard}
 use Rattle.sv_http.specs.declared.head.Ruling.TheVariants.{Refused, Takes}
 use Rattle.sv_http.specs.declared.line.Line.{Line}
 use Rattle.sv_http.specs.declared.line.Line.TheVariants as line
-use Rattle.sv_http.specs.declared.reader.Place.{Place}
-use Rattle.sv_http.specs.declared.reader.Place.TheVariants as place
+use Rattle.sv_http.specs.declared.reader.StreamProgress.{StreamProgress}
+use Rattle.sv_http.specs.declared.reader.StreamProgress.TheVariants as place
 use Rattle.sv_http.specs.declared.status.Refusal.{Refusal}
 use Rattle.sv_http.specs.declared.status.Refusal.TheVariants.{HeadTooLarge}
 
@@ -145,7 +145,7 @@ settled guard kept stream asks goes none =
     (goes.next [] [] (subst (λ (all : List ℕ). BeginsNoAsk guard all) (sym (append-nil kept)) none)))
 
 -- what a reader stands for has these asks
-pub stands_asks : (guard : Guard) (at : Place) (head body stream : List ℕ) (asks : List Ask) → Stands guard at head body stream asks → AreAsks guard stream asks
+pub stands_asks : (guard : Guard) (at : StreamProgress) (head body stream : List ℕ) (asks : List Ask) → Stands guard at head body stream asks → AreAsks guard stream asks
 stands_asks guard (place.Head at) head body stream asks stands =
     settled guard head stream asks stands.4 (none_in_head guard head (no_head head at stands.0) stands.2 stands.1)
 stands_asks guard (place.Body size close) head body stream asks stands =

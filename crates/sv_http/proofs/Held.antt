@@ -11,7 +11,8 @@ use Rattle.sv_http.proofs.Advances.{settled, no_head, none_in_head, none_in_body
 use Rattle.sv_http.proofs.AskReading.{asks_are}
 use Rattle.sv_http.proofs.Streams.{asks_unique, begun_front, never_takes, size_of}
 use Rattle.sv_http.specs.Authorization.{Field, is_let_in}
-use Rattle.sv_http.specs.AskTable.{Judged, ruled, sized, values_of, has_field, closes, is_target, is_length, number_of, body_limit}
+use Rattle.sv_http.specs.AskTable.{Judged, ruled, sized, values_of, has_field, closes, is_target, is_length, body_limit}
+use Rattle.sv_base.specs.SizeText.{number_of}
 use Rattle.sv_http.specs.AsksOf.{asks_of}
 use Rattle.sv_http.specs.ReaderPlaces.{Stands, GoesOn, IsOver, counted}
 use Rattle.sv_http.specs.RequestStream.{AreAsks, BeginsNoAsk, ends_line, is_begun, head_limit}
@@ -20,8 +21,8 @@ use Rattle.sv_http.specs.declared.ask.Ask.{Ask}
 use Rattle.sv_http.specs.declared.guard.Guard.{Guard}
 use Rattle.sv_http.specs.declared.head.Ruling.{Ruling}
 use Rattle.sv_http.specs.declared.head.Ruling.TheVariants.{Refused, Takes}
-use Rattle.sv_http.specs.declared.reader.Place.{Place}
-use Rattle.sv_http.specs.declared.reader.Place.TheVariants as place
+use Rattle.sv_http.specs.declared.reader.StreamProgress.{StreamProgress}
+use Rattle.sv_http.specs.declared.reader.StreamProgress.TheVariants as place
 use Rattle.sv_http.specs.declared.status.Refusal.{Refusal}
 use Rattle.sv_http.specs.declared.status.Refusal.TheVariants.{BadRequest, Unauthorized, NotFound, MethodNotAllowed, LengthRequired, ContentTooLarge}
 
@@ -111,7 +112,7 @@ over_size guard stream asks over =
     (asked_behind guard stream asks are ∙ ap (behind_asks guard asks) (sym (append-nil stream)) ∙ over.left []) refl (inl refl)
 
 -- what a reader keeps or counts is what is undecided
-pub counted_is : (guard : Guard) (at : Place) (head body stream : List ℕ) (asks : List Ask) → Stands guard at head body stream asks
+pub counted_is : (guard : Guard) (at : StreamProgress) (head body stream : List ℕ) (asks : List Ask) → Stands guard at head body stream asks
     → counted at head body ≡ held_of guard stream
 counted_is guard (place.Head at) head body stream asks stands =
     let none = none_in_head guard head (no_head head at stands.0) stands.2 stands.1 in

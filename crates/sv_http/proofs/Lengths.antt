@@ -1,7 +1,8 @@
 -- The length of a body, of which a number above the limit keeps no more than that.
 use Rattle.std.proofs.Common.{◌≡◌, ◌+◌, ◌-◌, ◌*◌, ◌≤◌, ℕ, List, [], ◌∷◌, length, take, drop, get_or, sym, ap, ◌∙◌, arith, min}
 use Rattle.std.proofs.lemmas.List.{take_all}
-use Rattle.sv_http.specs.AskTable.{number_of, reply_limit}
+use Rattle.sv_http.specs.AskTable.{reply_limit}
+use Rattle.sv_base.specs.SizeText.{number_of}
 
 -- what is above the limit stays above it
 pub capped : (number : ℕ) (digits : List ℕ)

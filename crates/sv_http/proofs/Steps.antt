@@ -7,7 +7,7 @@ use Rattle.sv_http.proofs.Heads.{by_test, eq_true, unshifted}
 use Rattle.sv_http.proofs.Advances.{call_is, no_head, too_large, bad_head}
 use Rattle.sv_http.proofs.GoingOn.{goes_more, goes_call, goes_over, goes_dropped}
 use Rattle.sv_http.specs.AskTable.{Judged}
-use Rattle.sv_http.specs.ReaderPlaces.{Stands, GoesOn, IsOver, IsSearched, IsFound, Reading, Advances, reads, refused, called, after_ruling, EndsHead, goes_on}
+use Rattle.sv_http.specs.ReaderPlaces.{Stands, GoesOn, IsOver, IsSearched, IsFound, ReaderState, Advances, reads, refused, called, after_ruling, EndsHead, goes_on}
 use Rattle.sv_http.specs.RequestStream.{AreAsks, IsAsk, ends_line, is_begun, IsHead, IsTooLong, head_limit, head_length}
 use Rattle.sv_http.specs.declared.ask.Ask.{Ask}
 use Rattle.sv_http.specs.declared.ask.Ask.TheVariants.{Call, Bad}
@@ -17,17 +17,17 @@ use Rattle.sv_http.specs.declared.head.Ruling.TheVariants.{Refused, Takes}
 use Rattle.sv_http.specs.declared.line.Line.{Line}
 use Rattle.sv_http.specs.declared.line.Line.TheVariants as line
 use Rattle.sv_http.specs.Undecided.{behind_asks}
-use Rattle.sv_http.specs.declared.reader.Place.{Place}
+use Rattle.sv_http.specs.declared.reader.StreamProgress.{StreamProgress}
 use Rattle.sv_http.specs.declared.reader.Size.{Size}
-use Rattle.sv_http.specs.declared.reader.Place.TheVariants as place
+use Rattle.sv_http.specs.declared.reader.StreamProgress.TheVariants as place
 use Rattle.sv_http.specs.declared.status.Refusal.{Refusal}
 use Rattle.sv_http.specs.declared.status.Refusal.TheVariants.{HeadTooLarge}
 
-pub advances_none : (guard : Guard) (from : Reading) → Advances guard from [] from
+pub advances_none : (guard : Guard) (from : ReaderState) → Advances guard from [] from
 advances_none guard from = λ stream earlier stands.
     subst (λ (all : List ℕ). Stands guard from.place from.head from.body all (earlier ++ from.asks)) (sym (append-nil stream)) stands
 
-pub advances_more : (guard : Guard) (from between to : Reading) (front more : List ℕ) → Advances guard from front between → Advances guard between more to
+pub advances_more : (guard : Guard) (from between to : ReaderState) (front more : List ℕ) → Advances guard from front between → Advances guard between more to
     → Advances guard from (front ++ more) to
 advances_more guard from between to front more one other = λ stream earlier stands.
     subst (λ (all : List ℕ). Stands guard to.place to.head to.body all (earlier ++ to.asks)) (append_assoc stream front more)
@@ -107,7 +107,7 @@ ruled_stands : (guard : Guard) (judged : Ruling) (head body stream : List ℕ) (
 ruled_stands guard (Refused refusal) head body stream earlier asks begun is judged goes =
     refused_stands guard head head body stream refusal earlier asks goes (bad_head guard head refusal begun is judged)
 ruled_stands guard (Takes size close) head body stream earlier asks begun is judged goes =
-    by_test (λ (to : Reading). Stands guard to.place to.head to.body stream (earlier ++ to.asks)) (size == 0)
+    by_test (λ (to : ReaderState). Stands guard to.place to.head to.body stream (earlier ++ to.asks)) (size == 0)
     (called close [] [] asks) (reads (place.Body (record { head = length head; body = size }) close) [] [] asks)
     (λ none. let zero = eq_true size 0 none in
     called_stands guard head [] [] stream close earlier asks refl goes
@@ -124,14 +124,14 @@ ruled_stands guard (Takes size close) head body stream earlier asks begun is jud
     ))
 
 -- a whole head
-pub whole_advances : (guard : Guard) (at : Line) (head body front : List ℕ) (asks : List Ask) (to : Reading) → (head ≡ [] → is_begun front ≡ true)
+pub whole_advances : (guard : Guard) (at : Line) (head body front : List ℕ) (asks : List Ask) (to : ReaderState) → (head ≡ [] → is_begun front ≡ true)
     → ((earlier : List ℕ) → IsSearched earlier at → IsFound (earlier ++ front)) → length front ≤ max (head_limit - length head) 1
     → EndsHead guard (head ++ front) body asks to → Advances guard (reads (place.Head at) head body asks) front to
 whole_advances guard at head body front asks to starts found room ends = λ stream earlier stands.
     let small = stands.2 in
     let whole = found head stands.0 in
     let fits : length (head ++ front) ≤ head_limit = omega (arith, room, small, length-append head front) in
-    subst (λ (end : Reading). Stands guard end.place end.head end.body (stream ++ front) (earlier ++ end.asks)) (sym ends.2)
+    subst (λ (end : ReaderState). Stands guard end.place end.head end.body (stream ++ front) (earlier ++ end.asks)) (sym ends.2)
     (ruled_stands guard ends.0 (head ++ front) body (stream ++ front) earlier asks (begins_head head front stands.1 starts)
     (ap head_length (sym (append-nil (head ++ front))) ∙ whole [], fits) ends.1 (goes_more guard head front stream (earlier ++ asks) stands.4))
 
@@ -177,23 +177,23 @@ broken_advances guard head body front asks = λ stream earlier stands. absurd st
 
 -- the same steps, by what the calls answer
 
-pub call_taken : (guard : Guard) (at : Place) (size : Size) (close : Bool) (head body longer front : List ℕ) (asks : List Ask) (to : Reading)
+pub call_taken : (guard : Guard) (at : StreamProgress) (size : Size) (close : Bool) (head body longer front : List ℕ) (asks : List Ask) (to : ReaderState)
     → at ≡ place.Body size close → longer ≡ body ++ front → size.body ≤ length longer → length front ≤ max (size.body - length body) 1
     → to ≡ called close head longer asks → Advances guard (reads at head body asks) front to
 call_taken guard at size close head body longer front asks to in_body is whole room call =
-    subst (λ (end : Reading). Advances guard (reads at head body asks) front end) (sym call)
+    subst (λ (end : ReaderState). Advances guard (reads at head body asks) front end) (sym call)
     (subst (λ (kept : List ℕ). Advances guard (reads at head body asks) front (called close head kept asks)) (sym is)
-    (subst (λ (from : Place). Advances guard (reads from head body asks) front (called close head (body ++ front) asks)) (sym in_body)
+    (subst (λ (from : StreamProgress). Advances guard (reads from head body asks) front (called close head (body ++ front) asks)) (sym in_body)
     (call_advances guard size close head body front asks (subst (λ (kept : List ℕ). size.body ≤ length kept) is whole) room)))
 
-pub searched_taken : (guard : Guard) (at : Place) (from next : Line) (head body longer front : List ℕ) (asks : List Ask) (to : Reading)
+pub searched_taken : (guard : Guard) (at : StreamProgress) (from next : Line) (head body longer front : List ℕ) (asks : List Ask) (to : ReaderState)
     → at ≡ place.Head from → longer ≡ head ++ front → (head ≡ [] → is_begun front ≡ true)
     → ((earlier : List ℕ) → IsSearched earlier from → IsSearched (earlier ++ front) next)
     → length front ≤ max (head_limit - length head) 1 → to ≡ goes_on next longer body asks → Advances guard (reads at head body asks) front to
 searched_taken guard at from next head body longer front asks to in_head is starts searched room goes =
-    subst (λ (end : Reading). Advances guard (reads at head body asks) front end) (sym goes)
+    subst (λ (end : ReaderState). Advances guard (reads at head body asks) front end) (sym goes)
     (subst (λ (kept : List ℕ). Advances guard (reads at head body asks) front (goes_on next kept body asks)) (sym is)
-    (subst (λ (inside : Place). Advances guard (reads inside head body asks) front (goes_on next (head ++ front) body asks)) (sym in_head)
+    (subst (λ (inside : StreamProgress). Advances guard (reads inside head body asks) front (goes_on next (head ++ front) body asks)) (sym in_head)
     (by_test (Advances guard (reads (place.Head from) head body asks) front) (nat_lt (length (head ++ front)) head_limit)
     (reads (place.Head next) (head ++ front) body asks) (refused HeadTooLarge body asks)
     (λ small. head_advances guard from next head body front asks starts searched (below small))
@@ -205,18 +205,18 @@ searched_taken guard at from next head body longer front asks to in_head is star
     above : nat_lt (length (head ++ front)) head_limit ≡ false → head_limit ≤ length (head ++ front)
     above large = grind (arith, nat_tests)
 
-pub whole_taken : (guard : Guard) (at : Place) (from : Line) (head body longer front : List ℕ) (asks : List Ask) (to : Reading)
+pub whole_taken : (guard : Guard) (at : StreamProgress) (from : Line) (head body longer front : List ℕ) (asks : List Ask) (to : ReaderState)
     → at ≡ place.Head from → longer ≡ head ++ front → (head ≡ [] → is_begun front ≡ true)
     → ((earlier : List ℕ) → IsSearched earlier from → IsFound (earlier ++ front)) → length front ≤ max (head_limit - length head) 1
     → EndsHead guard longer body asks to → Advances guard (reads at head body asks) front to
 whole_taken guard at from head body longer front asks to in_head is starts found room ends =
-    subst (λ (inside : Place). Advances guard (reads inside head body asks) front to) (sym in_head)
+    subst (λ (inside : StreamProgress). Advances guard (reads inside head body asks) front to) (sym in_head)
     (whole_advances guard from head body front asks to starts found room (subst (λ (kept : List ℕ). EndsHead guard kept body asks to) is ends))
 
-pub dropped_taken : (guard : Guard) (at : Place) (from : Line) (head body front : List ℕ) (asks : List Ask) → at ≡ place.Head from → head ≡ []
+pub dropped_taken : (guard : Guard) (at : StreamProgress) (from : Line) (head body front : List ℕ) (asks : List Ask) → at ≡ place.Head from → head ≡ []
     → list_all ends_line front ≡ true → Advances guard (reads at head body asks) front (reads at head body asks)
 dropped_taken guard at from head body front asks in_head empty all =
-    subst (λ (inside : Place). Advances guard (reads inside head body asks) front (reads inside head body asks)) (sym in_head)
+    subst (λ (inside : StreamProgress). Advances guard (reads inside head body asks) front (reads inside head body asks)) (sym in_head)
     (dropped_advances guard from head body front asks empty all)
 
 pub when_none : {A : Type 0} (found : Option A) (P : Type 0) (Q : A → Type 0) → found ≡ None → MatchOption found P Q → P

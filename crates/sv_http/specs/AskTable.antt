@@ -1,13 +1,17 @@
 -- What the head of a request asks (RFC 9112 and RFC 9110): the first rule that holds decides.
-use Rattle.std.specs.Prelude.{◌+◌, ◌-◌, ◌*◌, ◌==◌, ◌&&◌, ◌||◌, ◌≡◌, ◌⊎◌, ◌≤◌, ℕ, List, [], ◌∷◌, Bool, length, map, codes, not, nat_lt, if◌then◌else◌}
+use Rattle.std.specs.Prelude.{◌==◌, ◌&&◌, ◌||◌, ◌≡◌, ◌⊎◌, ◌≤◌, ℕ, List, [], ◌∷◌}
+use Rattle.std.specs.Prelude.{Bool, length, map, codes, not, nat_lt, if◌then◌else◌}
 use Rattle.std.specs.List.{list_any, list_all, filter}
 use Rattle.std.specs.Char.{is_ascii_digit}
 use Rattle.std.specs.Str.{bytes_eq, str_eq_ignore_ascii_case}
 use Rattle.httparse.specs.Grammar.{RequestHead, ReadsRequest}
 use Rattle.httparse.specs.Spans.{name_and_value}
+use Rattle.sv_base.specs.SizeText.{number_of}
 use Rattle.sv_http.specs.Authorization.{Field, is_named, is_let_in}
 use Rattle.sv_http.specs.declared.guard.Guard.{Guard}
-use Rattle.sv_http.specs.declared.status.Refusal.TheVariants.{BadRequest, Unauthorized, NotFound, MethodNotAllowed, LengthRequired, ContentTooLarge}
+use Rattle.sv_http.specs.declared.status.Refusal.TheVariants.{BadRequest, Unauthorized, NotFound}
+use Rattle.sv_http.specs.declared.status.Refusal.TheVariants.{MethodNotAllowed, LengthRequired}
+use Rattle.sv_http.specs.declared.status.Refusal.TheVariants.{ContentTooLarge}
 use Rattle.sv_http.specs.declared.head.Ruling.{Ruling}
 use Rattle.sv_http.specs.declared.head.Ruling.TheVariants.{Refused, Takes}
 
@@ -33,16 +37,13 @@ has_field name fields = list_any (is_named name) fields
 
 -- some field of this name has this whole value, in any case of letters
 abbrev pub says : List ℕ → List ℕ → List Field → Bool
-says name value fields = list_any (λ field. is_named name field && str_eq_ignore_ascii_case field.1 value) fields
-
--- the number that these digits write after a number
-abbrev pub number_of : ℕ → List ℕ → ℕ
-number_of number [] = number
-number_of number (digit ∷ digits) = number_of (10 * number + (digit - 48)) digits
+says name value fields =
+    list_any (λ field. is_named name field && str_eq_ignore_ascii_case field.1 value) fields
 
 -- 1 to 19 digits
 abbrev pub is_length : List ℕ → Bool
-is_length value = nat_lt 0 (length value) && nat_lt (length value) 20 && list_all is_ascii_digit value
+is_length value =
+    nat_lt 0 (length value) && nat_lt (length value) 20 && list_all is_ascii_digit value
 
 -- the target of every call
 abbrev pub is_target : List ℕ → Bool
@@ -54,7 +55,8 @@ closes minor fields =
     says (codes "Connection") (codes "close") fields
     || (minor == 0 && not (says (codes "Connection") (codes "keep-alive") fields))
 
--- the length of the body: exactly one Content-Length field gives it (RFC 9112, section 6.3), and it is within the limit
+-- the length of the body: exactly one Content-Length field gives it (RFC 9112, section 6.3), and it
+-- is within the limit
 abbrev pub sized : List (List ℕ) → Bool → Ruling
 sized [] close = Refused LengthRequired
 sized (value ∷ []) close =
@@ -74,7 +76,8 @@ ruling guard method target minor fields =
 
 -- the ruling on a request head that was read
 abbrev pub ruled : Guard → RequestHead → Ruling
-ruled guard request = ruling guard request.method request.target request.minor (map name_and_value request.fields)
+ruled guard request =
+    ruling guard request.method request.target request.minor (map name_and_value request.fields)
 
 -- the bytes are a request head of HTTP/1.0 or 1.1 with at most 64 fields
 abbrev pub IsRequest : List ℕ → RequestHead → Type 0

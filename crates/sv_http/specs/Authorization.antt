@@ -1,11 +1,15 @@
--- Who is let in (RFC 7617, the scheme Basic): the username, a colon and the password in base64 (RFC 4648).
-use Rattle.std.specs.Prelude.{◌≡◌, ◌++◌, ◌==◌, ◌&&◌, ◌||◌, ℕ, List, [], ◌∷◌, Bool, true, false, length, take, drop, codes, Option, None, Some, Result, Ok, Err, if◌then◌else◌}
+-- Who is let in (RFC 7617, the scheme Basic): the username, a colon and the password in base64 (RFC
+-- 4648).
+use Rattle.std.specs.Prelude.{◌≡◌, ◌++◌, ◌==◌, ◌&&◌, ◌||◌, ℕ, List, [], ◌∷◌, Bool, true, false}
+use Rattle.std.specs.Prelude.{length, take, drop, codes, Option, None, Some, Result, Ok, Err}
+use Rattle.std.specs.Prelude.{if◌then◌else◌}
 use Rattle.std.specs.List.{list_any}
 use Rattle.std.specs.Str.{bytes_eq, str_eq_ignore_ascii_case}
 use Rattle.base64.specs.GeneralPurpose.{decode_of, encode_of}
 use Rattle.base64.specs.Engines.{standard}
 use Rattle.base64.specs.declared.decode.DecodeError.{DecodeError}
 use Rattle.sha1.specs.Sha1.{sha1}
+use Rattle.sv_base.specs.Ascii.{colon}
 use Rattle.sv_base.specs.declared.config.Password.{Password}
 use Rattle.sv_base.specs.declared.config.Password.TheVariants as password
 use Rattle.sv_http.specs.declared.guard.Guard.{Guard}
@@ -37,13 +41,14 @@ is_password (password.Sha digest) given = bytes_eq (sha1 given) digest
 
 -- what follows this prefix, where the bytes begin with it
 abbrev pub after_front : List ℕ → List ℕ → Option (List ℕ)
-after_front front bytes = if bytes_eq (take (length front) bytes) front then Some (drop (length front) bytes) else None
+after_front front bytes =
+    if bytes_eq (take (length front) bytes) front then Some (drop (length front) bytes) else None
 
 -- a colon and the password
 abbrev pub opens_behind : Password → Option (List ℕ) → Bool
 opens_behind asked None = false
 opens_behind asked (Some []) = false
-opens_behind asked (Some (byte ∷ given)) = byte == 58 && is_password asked given
+opens_behind asked (Some (byte ∷ given)) = byte == colon && is_password asked given
 
 -- the decoded bytes are the username, a colon and the password
 abbrev pub opens : Guard → List ℕ → Bool
@@ -54,7 +59,8 @@ abbrev pub opens_decoded : Guard → Result (List ℕ) DecodeError → Bool
 opens_decoded guard (Ok given) = opens guard given
 opens_decoded guard (Err error) = false
 
--- the base64 after the scheme and a space, where there is one, holds the credentials that are asked for
+-- the base64 after the scheme and a space, where there is one, holds the credentials that are asked
+-- for
 abbrev pub opens_encoded : Guard → Option (List ℕ) → Bool
 opens_encoded guard None = false
 opens_encoded guard (Some text) = opens_decoded guard (decode_of standard text)
@@ -65,7 +71,8 @@ lets_in guard value = opens_encoded guard (after_front (codes "Basic ") value)
 
 -- some Authorization field lets in
 abbrev pub some_lets_in : Guard → List Field → Bool
-some_lets_in guard fields = list_any (λ field. is_named (codes "Authorization") field && lets_in guard field.1) fields
+some_lets_in guard fields =
+    list_any (λ field. is_named (codes "Authorization") field && lets_in guard field.1) fields
 
 -- no username and no password is asked for, or some Authorization field lets in
 abbrev pub is_let_in : Guard → List Field → Bool
@@ -74,4 +81,5 @@ is_let_in guard fields = is_open guard || some_lets_in guard fields
 -- the base64 of the username, a colon and the password that is asked for
 abbrev pub IsCredentials : Guard → List ℕ → Type 0
 IsCredentials guard text =
-    (given : List ℕ) × (text ≡ encode_of standard (guard.username ++ 58 ∷ given)) × (is_password guard.password given ≡ true)
+    (given : List ℕ) × (text ≡ encode_of standard (guard.username ++ colon ∷ given))
+    × (is_password guard.password given ≡ true)

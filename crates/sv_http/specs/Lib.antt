@@ -1,4 +1,5 @@
--- what public contracts speak of: the asks of a stream, who may ask, and the texts that are written and read
+-- what public contracts speak of: the asks of a stream, who may ask, and the texts that are written
+-- and read
 pub mod RequestStream
 pub mod AskTable
 pub mod AsksOf

@@ -1,5 +1,6 @@
 -- How far the reader of a reply has come, and what it answers.
-use Rattle.std.specs.Prelude.{◌≡◌, ◌<◌, ◌≤◌, ℕ, List, Option, None, Some, Result, Ok, Err, length, drop}
+use Rattle.std.specs.Prelude.{◌≡◌, ◌<◌, ◌≤◌, ℕ, List, Option, None, Some, Result, Ok, Err, length}
+use Rattle.std.specs.Prelude.{drop}
 use Rattle.httparse.specs.Grammar.{MayBecomeResponse}
 use Rattle.sv_http.specs.RequestStream.{head_limit}
 use Rattle.sv_http.specs.ReplyStream.{Begins, IsReply, NeverReply, IsNoReply, GoesOn}
@@ -14,9 +15,12 @@ use Rattle.sv_http.specs.declared.reply_reader.ReplyPlace.TheVariants as place
 
 -- what a verdict on the first bytes says
 abbrev pub Judges : List ℕ → Verdict → Type 0
-Judges bytes verdict.Unfinished = IsNoReply bytes × MayBecomeResponse bytes × ((status size : ℕ) (body : List ℕ) → Begins bytes status size body → ⊥)
+Judges bytes verdict.Unfinished =
+    IsNoReply bytes × MayBecomeResponse bytes
+    × ((status size : ℕ) (body : List ℕ) → Begins bytes status size body → ⊥)
 Judges bytes verdict.Never = NeverReply bytes
-Judges bytes (verdict.Head count status size) = (count ≤ length bytes) × Begins bytes status size (drop count bytes)
+Judges bytes (verdict.Head count status size) =
+    (count ≤ length bytes) × Begins bytes status size (drop count bytes)
 
 -- what a reader stands for: a stream that isn't a reply yet
 abbrev pub Stands : ReplyPlace → List ℕ → List ℕ → Type 0

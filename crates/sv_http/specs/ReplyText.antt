@@ -1,6 +1,9 @@
 -- The text of a reply (RFC 9112, sections 4 and 6; RFC 9110, section 15).
 use Rattle.std.specs.Prelude.{ℕ, List, [], ◌∷◌, ◌++◌, Bool, true, false, length, codes, decimal}
-use Rattle.sv_http.specs.declared.status.Refusal.TheVariants.{BadRequest, Unauthorized, NotFound, MethodNotAllowed, LengthRequired, ContentTooLarge, HeadTooLarge}
+use Rattle.sv_base.specs.Ascii.{space}
+use Rattle.sv_http.specs.declared.status.Refusal.TheVariants.{BadRequest, Unauthorized, NotFound}
+use Rattle.sv_http.specs.declared.status.Refusal.TheVariants.{MethodNotAllowed, LengthRequired}
+use Rattle.sv_http.specs.declared.status.Refusal.TheVariants.{ContentTooLarge, HeadTooLarge}
 use Rattle.sv_http.specs.declared.status.Status.{Status}
 use Rattle.sv_http.specs.declared.status.Status.TheVariants.{Ok, Bad}
 
@@ -42,7 +45,8 @@ closing false = []
 
 -- the status line (RFC 9112, section 4)
 abbrev pub status_line : Status → List ℕ
-status_line status = line (codes "HTTP/1.1 " ++ decimal (number_of status) ++ 32 ∷ reason_of status)
+status_line status =
+    line (codes "HTTP/1.1 " ++ decimal (number_of status) ++ space ∷ reason_of status)
 
 -- the field that gives the length of the body (RFC 9112, section 6.2)
 abbrev pub length_line : ℕ → List ℕ

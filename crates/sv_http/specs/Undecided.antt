@@ -17,12 +17,15 @@ behind_first (Some (Call body close, rest)) = rest
 -- what follows these asks, with which the stream begins
 abbrev pub behind_asks : Guard → List Ask → List ℕ → List ℕ
 behind_asks guard [] stream = stream
-behind_asks guard (ask ∷ asks) stream = behind_asks guard asks (behind_first (first_ask guard stream))
+behind_asks guard (ask ∷ asks) stream =
+    behind_asks guard asks (behind_first (first_ask guard stream))
 
--- the head and the body so far after the last ask, without the CR and LF that are dropped before a head
+-- the head and the body so far after the last ask, without the CR and LF that are dropped before a
+-- head
 abbrev pub undecided : Guard → List ℕ → List ℕ
 undecided guard stream =
-    let rest = behind_asks guard (asks_of guard stream) stream in drop (prefix_len ends_line rest) rest
+    let rest =
+    behind_asks guard (asks_of guard stream) stream in drop (prefix_len ends_line rest) rest
 
 -- how many bytes of the stream are not decided
 unfoldable pub held_of : Guard → List ℕ → ℕ

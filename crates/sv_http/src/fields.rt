@@ -1,11 +1,14 @@
 //! What the fields of a head say.
-ghost use Rattle.std.specs.Prelude.{◌≡◌, ◌≤◌, ◌+◌, ◌∷◌, ◌&&◌, [], true, codes, map, min, ◌-◌, ◌*◌, IfOk, MatchOption, false};
+ghost use Rattle.std.specs.Prelude.{◌≡◌, ◌≤◌, ◌+◌, ◌∷◌, ◌&&◌, [], true, codes, map, min, ◌-◌, ◌*◌};
+ghost use Rattle.std.specs.Prelude.{IfOk, MatchOption, false};
 ghost use Rattle.std.specs.Char.{is_ascii_digit};
 ghost use Rattle.std.specs.List.{list_all};
 ghost use Rattle.std.specs.Str.{str_eq_ignore_ascii_case};
 ghost use Rattle.httparse.specs.Borrowed.{header_parts};
 ghost use Rattle.sv_http.specs.Authorization.{is_named, is_let_in};
-ghost use Rattle.sv_http.specs.AskTable.{values_of, has_field, says, closes, sized, number_of, is_length, reply_limit};
+ghost use Rattle.sv_http.specs.AskTable.{values_of, has_field, says, closes, sized};
+ghost use Rattle.sv_base.specs.SizeText.{number_of};
+ghost use Rattle.sv_http.specs.AskTable.{is_length, reply_limit};
 
 use crate::guard::Guard;
 use crate::head::Ruling;

@@ -4,7 +4,7 @@ ghost use Rattle.base64.specs.GeneralPurpose.{encode_of, IsBytes};
 ghost use Rattle.base64.specs.Engines.{standard};
 ghost use Rattle.sv_http.specs.Authorization.{IsCredentials, is_password, lets_in};
 ghost use Rattle.sv_http.specs.RequestStream.{AreAsks};
-ghost use Rattle.sv_http.specs.ReaderPlaces.{StandsFor};
+ghost use Rattle.sv_http.specs.ReaderPlaces.{StandsFor, guard_of};
 ghost use Rattle.sv_http.specs.AsksOf.{asks_of};
 ghost use Rattle.sv_http.specs.declared.reader.HttpReader.{HttpReader};
 ghost use Rattle.sv_http.specs.declared.ask.Ask.{Ask};
@@ -21,7 +21,7 @@ pub fn a_stream_has_one_list_of_asks()
 /// The asks of what a reader stands for are those of the stream.
 pub fn a_reader_gives_the_asks_of_its_stream()
     ensures { (reader : HttpReader) (stream : List ℕ) (asks : List Ask)
-        → StandsFor reader stream asks → AreAsks reader.guard stream asks }
+        → StandsFor reader stream asks → AreAsks (guard_of reader) stream asks }
 {}
 
 /// Nothing follows a refusal.

@@ -1,5 +1,6 @@
 //! The reader of a stream, which comes in pieces cut anywhere.
-ghost use Rattle.std.specs.Prelude.{◌≡◌, true, ◌↔◌, ◌++◌, ◌<◌, ◌≤◌, ◌∷◌, [], List, ℕ, length, take, IfOk, OnOk, OnErr, IsErr, IsTrue};
+ghost use Rattle.std.specs.Prelude.{◌≡◌, true, ◌↔◌, ◌++◌, ◌<◌, ◌≤◌, ◌∷◌, [], List, ℕ, length, take};
+ghost use Rattle.std.specs.Prelude.{IfOk, OnOk, OnErr, IsErr, IsTrue};
 ghost use Rattle.std.specs.List.{prefix_len};
 ghost use Rattle.sv_http.specs.RequestStream.{ends_line, is_begun};
 
@@ -25,7 +26,7 @@ struct Size {
 
 /// How far a stream has come.
 #[derive(Clone, Copy, Debug)]
-enum Place {
+enum StreamProgress {
     /// Before a head, or in one whose bytes end so.
     Head { line: Line },
     /// In the body of a call, which has this size with its head.
@@ -41,28 +42,30 @@ enum Place {
 #[derive(Debug, Drop)]
 pub struct HttpReader {
     guard: Guard,
-    place: Place,
+    place: StreamProgress,
     head: Vec<u8>,
     body: Vec<u8>,
 }
 
 impl HttpReader {
     ghost use Rattle.sv_http.specs.RequestStream.{AreAsks};
-    ghost use Rattle.sv_http.specs.ReaderPlaces.{StandsFor, IsRefused, IsBroken, Advances, EndsHead, shown, refused, called, goes_on, counted};
+    ghost use Rattle.sv_http.specs.ReaderPlaces.{StandsFor, IsRefused, IsBroken, guard_of};
+    ghost use Rattle.sv_http.specs.ReaderPlaces.{Advances, EndsHead, shown, refused, called};
+    ghost use Rattle.sv_http.specs.ReaderPlaces.{goes_on, counted};
     ghost use Rattle.sv_http.specs.AsksOf.{asks_of};
     ghost use Rattle.sv_http.specs.Undecided.{held_of, held_limit};
     ghost use Rattle.sv_http.specs.declared.line.Line.{Line};
     ghost use Rattle.sv_http.specs.declared.ask.Ask.{Ask};
-    ghost use Rattle.sv_http.specs.declared.reader.Place.{Place};
+    ghost use Rattle.sv_http.specs.declared.reader.StreamProgress.{StreamProgress};
 
     /// A stream that has no bytes yet. It takes no memory.
     pub fn new(alloc: Global, guard: Guard) -> HttpReader
         ensures stands { StandsFor result [] [] }
-        ensures guard { result.guard ≡ guard }
+        ensures guard { guard_of result ≡ guard }
     {
         HttpReader {
             guard,
-            place: Place::Head { line: Line::Text },
+            place: StreamProgress::Head { line: Line::Text },
             head: Vec::new(alloc),
             body: Vec::new(alloc),
         }
@@ -74,15 +77,15 @@ impl HttpReader {
     pub fn feed(&mut self, alloc: Global, piece: &[u8]) -> Result<Vec<Ask>, AllocError>
         ensures asks { IfOk result (λ told. (stream : List ℕ) (asks : List Ask)
             → StandsFor self.old stream asks
-            → AreAsks self.old.guard (stream ++ piece.now) (asks ++ told.items)) }
+            → AreAsks (guard_of self.old) (stream ++ piece.now) (asks ++ told.items)) }
         ensures read { IfOk result (λ told. (stream : List ℕ) (asks : List Ask)
             → StandsFor self.old stream asks
-            → asks ++ told.items ≡ asks_of self.old.guard (stream ++ piece.now)) }
+            → asks ++ told.items ≡ asks_of (guard_of self.old) (stream ++ piece.now)) }
         ensures stands { IfOk result (λ told. (stream : List ℕ) (asks : List Ask)
             → StandsFor self.old stream asks
             → StandsFor self.new (stream ++ piece.now) (asks ++ told.items)) }
         ensures over { IsRefused self.old → IfOk result (λ told. told.items ≡ []) }
-        ensures guard { self.new.guard ≡ self.old.guard }
+        ensures guard { guard_of self.new ≡ guard_of self.old }
         ensures refused { OnErr result (IsBroken self.new) }
         ensures none { OnErr result ((stream : List ℕ) (asks : List Ask)
             → StandsFor self.new stream asks → ⊥) }
@@ -95,7 +98,7 @@ impl HttpReader {
         match self.take_all(alloc, piece, &mut asks) {
             Ok(()) => Ok(asks),
             Err(refusal) => {
-                self.place = Place::Broken;
+                self.place = StreamProgress::Broken;
                 Err(refusal)
             }
         }
@@ -105,7 +108,7 @@ impl HttpReader {
     /// without the CR and LF that are dropped before it. None are after a refused request and after out of memory.
     pub fn held(&self) -> u64
         ensures held { (stream : List ℕ) (asks : List Ask) → StandsFor self.now stream asks
-            → result ≡ held_of self.now.guard stream }
+            → result ≡ held_of (guard_of self.now) stream }
         ensures bound { result ≤ held_limit }
         ensures over { IsRefused self.now → result ≡ 0 }
         ensures broken { IsBroken self.now → result ≡ 0 }
@@ -118,12 +121,14 @@ impl HttpReader {
         ensures { result ≡ counted self.now.place self.now.head.items self.now.body.items }
     {
         match self.place {
-            Place::Head { .. } => (self.head.as_slice().len() as u64).min(HEAD_LIMIT as u64),
-            Place::Body { size, .. } => {
+            StreamProgress::Head { .. } => (self.head.as_slice().len() as u64).min(
+                HEAD_LIMIT as u64,
+            ),
+            StreamProgress::Body { size, .. } => {
                 let body = (self.body.as_slice().len() as u64).min(BODY_LIMIT);
                 (size.head as u64).min(HEAD_LIMIT as u64) + body
             }
-            Place::Over | Place::Broken => 0,
+            StreamProgress::Over | StreamProgress::Broken => 0,
         }
     }
 
@@ -131,7 +136,7 @@ impl HttpReader {
         ensures { IsTrue result ↔ IsBroken self.now }
     {
         match self.place {
-            Place::Broken => true,
+            StreamProgress::Broken => true,
             _ => false,
         }
     }
@@ -144,8 +149,9 @@ impl HttpReader {
     ) -> Result<(), AllocError>
         ensures advances { OnOk result (Advances self.old.guard (shown self.old asks.old.items)
             piece.now (shown self.new asks.new.items)) }
-        ensures over { self.old.place ≡ Place.Over
-            → OnOk result ((asks.new.items ≡ asks.old.items) × (self.new.place ≡ Place.Over)) }
+        ensures over { self.old.place ≡ StreamProgress.Over
+            → OnOk result ((asks.new.items ≡ asks.old.items)
+            × (self.new.place ≡ StreamProgress.Over)) }
         ensures guard { self.new.guard ≡ self.old.guard }
     {
         let mut rest = piece;
@@ -168,20 +174,21 @@ impl HttpReader {
             Advances self.old.guard (shown self.old asks.old.items)
             (take count bytes.now) (shown self.new asks.new.items)) }
         ensures guard { self.new.guard ≡ self.old.guard }
-        ensures over { self.old.place ≡ Place.Over
-            → OnOk result ((asks.new.items ≡ asks.old.items) × (self.new.place ≡ Place.Over)) }
+        ensures over { self.old.place ≡ StreamProgress.Over
+            → OnOk result ((asks.new.items ≡ asks.old.items)
+            × (self.new.place ≡ StreamProgress.Over)) }
         ensures bound { IfOk result (λ count. count ≤ length bytes.now) }
         ensures progress { IfOk result (λ count. 0 < count) }
     {
         match self.place {
-            Place::Head { line } => {
+            StreamProgress::Head { line } => {
                 if self.head.as_slice().is_empty() && ends_line(bytes[0]) {
                     return Ok(dropped(bytes));
                 }
                 self.take_head(alloc, line, bytes, asks)
             }
-            Place::Body { size, close } => self.take_body(alloc, size, close, bytes, asks),
-            Place::Over | Place::Broken => Ok(bytes.len()),
+            StreamProgress::Body { size, close } => self.take_body(alloc, size, close, bytes, asks),
+            StreamProgress::Over | StreamProgress::Broken => Ok(bytes.len()),
         }
     }
 
@@ -193,7 +200,7 @@ impl HttpReader {
         asks: &mut Vec<Ask>,
     ) -> Result<usize, AllocError>
         requires some { 0 < length bytes.now }
-        requires place { self.old.place ≡ Place.Head line }
+        requires place { self.old.place ≡ StreamProgress.Head line }
         requires begun { self.old.head.items ≡ [] → is_begun bytes.now ≡ true }
         ensures advances { IfOk result (λ count.
             Advances self.old.guard (shown self.old asks.old.items)
@@ -220,7 +227,7 @@ impl HttpReader {
         ensures guard { self.new.guard ≡ self.old.guard }
     {
         if self.head.as_slice().len() < HEAD_LIMIT {
-            self.place = Place::Head { line };
+            self.place = StreamProgress::Head { line };
             Ok(())
         } else {
             self.refuse(alloc, Refusal::HeadTooLarge, asks)
@@ -243,7 +250,7 @@ impl HttpReader {
                     self.call(alloc, close, asks)
                 } else {
                     let size = Size { head, body: size };
-                    self.place = Place::Body { size, close };
+                    self.place = StreamProgress::Body { size, close };
                     Ok(())
                 }
             }
@@ -259,7 +266,7 @@ impl HttpReader {
         asks: &mut Vec<Ask>,
     ) -> Result<usize, AllocError>
         requires some { 0 < length bytes.now }
-        requires place { self.old.place ≡ Place.Body size close }
+        requires place { self.old.place ≡ StreamProgress.Body size close }
         ensures advances { IfOk result (λ count.
             Advances self.old.guard (shown self.old asks.old.items)
             (take count bytes.now) (shown self.new asks.new.items)) }
@@ -287,7 +294,7 @@ impl HttpReader {
             body: Bytes::from_vec(body),
             close,
         })?;
-        self.place = Place::Head { line: Line::Text };
+        self.place = StreamProgress::Head { line: Line::Text };
         Ok(())
     }
 
@@ -303,7 +310,7 @@ impl HttpReader {
         ensures guard { self.new.guard ≡ self.old.guard }
     {
         asks.push(Ask::Bad(refusal))?;
-        self.place = Place::Over;
+        self.place = StreamProgress::Over;
         self.head = Vec::new(alloc);
         Ok(())
     }

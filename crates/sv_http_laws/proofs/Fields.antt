@@ -18,7 +18,8 @@ use Rattle.httparse.proofs.TrimLemmas.{trim_ows_space}
 use Rattle.httparse.specs.Grammar.{Field, IsField, RequestHead, IsRequestHead, crlf, field_value, is_token_byte, is_uri_byte, is_value_byte, skip_ows}
 use Rattle.httparse.specs.Spans.{name_and_value}
 use Rattle.sv_http.proofs.Credentials.{let_in}
-use Rattle.sv_http.specs.AskTable.{body_limit, is_length, number_of, ruling, sized}
+use Rattle.sv_base.specs.SizeText.{number_of}
+use Rattle.sv_http.specs.AskTable.{body_limit, is_length, ruling, sized}
 use Rattle.sv_http.specs.Authorization.{is_let_in, lets_in}
 use Rattle.sv_http.specs.declared.guard.Guard.{Guard}
 use Rattle.sv_http_laws.proofs.Visible.{all_by, all_reversed, are_digits, both, digits_visible, number_back, skips_all, skips_none, visible_value}

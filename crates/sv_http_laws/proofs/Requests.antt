@@ -9,7 +9,8 @@ use Rattle.base64.specs.GeneralPurpose.{IsBytes, encode_of}
 use Rattle.httparse.specs.Grammar.{print_request}
 use Rattle.sv_http.proofs.Advances.{call_is, none_in_head}
 use Rattle.sv_http.proofs.Streams.{asks_unique}
-use Rattle.sv_http.specs.AskTable.{number_of, ruling}
+use Rattle.sv_base.specs.SizeText.{number_of}
+use Rattle.sv_http.specs.AskTable.{ruling}
 use Rattle.sv_http.specs.ReplyText.{line, length_line}
 use Rattle.sv_http.specs.RequestStream.{AreAsks, IsAsk, IsHead, head_limit, is_begun}
 use Rattle.sv_http.specs.RequestText.{request_text}

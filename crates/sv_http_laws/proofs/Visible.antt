@@ -15,7 +15,7 @@ use Rattle.base64.specs.GeneralPurpose.{IsBytes, encode_of, engine_symbols}
 use Rattle.base64.specs.Rfc4648.{encode, encode_symbols, padding_len}
 use Rattle.httparse.proofs.TrimLemmas.{AllPass-reverse}
 use Rattle.httparse.specs.Grammar.{is_ows, is_value_byte, skip_ows}
-use Rattle.sv_http.specs.AskTable.{number_of}
+use Rattle.sv_base.specs.SizeText.{number_of}
 use Rattle.sv_http_laws.specs.Sendable.{is_visible}
 
 -- ---- bytes

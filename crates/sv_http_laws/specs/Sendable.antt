@@ -1,7 +1,9 @@
 -- The client's requests that a server takes.
-use Rattle.std.specs.Prelude.{◌≡◌, ◌≤◌, ◌<◌, ◌⊎◌, ◌+◌, ◌&&◌, ◌++◌, ◌∷◌, ℕ, List, Bool, true, length, nat_lt}
+use Rattle.std.specs.Prelude.{◌≡◌, ◌≤◌, ◌<◌, ◌⊎◌, ◌+◌, ◌&&◌, ◌++◌, ◌∷◌, ℕ, List, Bool, true, length}
+use Rattle.std.specs.Prelude.{nat_lt}
 use Rattle.std.specs.List.{list_all}
 use Rattle.base64.specs.GeneralPurpose.{IsBytes}
+use Rattle.sv_base.specs.Ascii.{colon}
 use Rattle.sv_http.specs.AskTable.{body_limit}
 use Rattle.sv_http.specs.Authorization.{is_open, is_password}
 use Rattle.sv_http.specs.RequestStream.{head_limit}
@@ -17,10 +19,12 @@ pub record IsSendable (body host username password : List ℕ) : Type 0 where
   pub body_fits : length body ≤ body_limit
   pub head_fits : length (request_text body host username password) ≤ head_limit + length body
   pub host_visible : list_all is_visible host ≡ true
-  pub bytes : IsBytes (username ++ 58 ∷ password)
+  pub bytes : IsBytes (username ++ colon ∷ password)
 
 -- the server asks for nothing, or for this name and this password
 abbrev pub LetsIn : Guard → List ℕ → List ℕ → Type 0
 LetsIn guard username password =
     (is_open guard ≡ true)
-    ⊎ ((0 < length username) × (guard.username ≡ username) × (is_password guard.password password ≡ true))
+    ⊎
+    ((0 < length username) × (guard.username ≡ username)
+    × (is_password guard.password password ≡ true))

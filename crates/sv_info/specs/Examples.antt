@@ -2,7 +2,8 @@
 use Rattle.std.specs.Prelude.{◌≡◌, ℕ, List, [], ◌∷◌, Some, None, codes}
 use Rattle.sv_info.specs.Faults.{fault_text}
 use Rattle.sv_info.specs.Times.{clock_text}
-use Rattle.sv_info.specs.declared.fault.Fault.TheVariants.{AlreadyStarted, BadArguments, BadName, Failed, NoFile}
+use Rattle.sv_info.specs.declared.fault.Fault.TheVariants.{AlreadyStarted, BadArguments, BadName}
+use Rattle.sv_info.specs.declared.fault.Fault.TheVariants.{Failed, NoFile}
 
 -- the time of a day: midnight, before noon, noon, the last minute
 pub record IsClock : Type 0 where

@@ -1,7 +1,13 @@
 -- The faults of the manual's chapter on its XML-RPC interface.
-use Rattle.std.specs.Prelude.{ℕ, List, [], ◌∷◌, ◌++◌, Bool, true, false, Option, Some, None, codes, ◌==◌, find, unwrap_or, if◌then◌else◌}
+use Rattle.std.specs.Prelude.{ℕ, List, [], ◌∷◌, ◌++◌, Bool, true, false, Option, Some, None, codes}
+use Rattle.std.specs.Prelude.{◌==◌, find, unwrap_or, if◌then◌else◌}
 use Rattle.sv_info.specs.declared.fault.Fault.{Fault}
-use Rattle.sv_info.specs.declared.fault.Fault.TheVariants.{UnknownMethod, IncorrectParameters, BadArguments, SignatureUnsupported, ShutdownState, BadName, BadSignal, NoFile, NotExecutable, Failed, AbnormalTermination, SpawnError, AlreadyStarted, NotRunning}
+use Rattle.sv_info.specs.declared.fault.Fault.TheVariants.{UnknownMethod, IncorrectParameters}
+use Rattle.sv_info.specs.declared.fault.Fault.TheVariants.{BadArguments, SignatureUnsupported}
+use Rattle.sv_info.specs.declared.fault.Fault.TheVariants.{ShutdownState, BadName, BadSignal}
+use Rattle.sv_info.specs.declared.fault.Fault.TheVariants.{NoFile, NotExecutable, Failed}
+use Rattle.sv_info.specs.declared.fault.Fault.TheVariants.{AbnormalTermination, SpawnError}
+use Rattle.sv_info.specs.declared.fault.Fault.TheVariants.{AlreadyStarted, NotRunning}
 
 -- the number of a fault
 abbrev pub fault_number : Fault → ℕ

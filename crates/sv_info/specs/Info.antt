@@ -1,5 +1,5 @@
--- What is said of a process (the manual's chapter on its XML-RPC interface, `getProcessInfo`), and in a
--- row of a status array.
+-- What is said of a process (the manual's chapter on its XML-RPC interface, `getProcessInfo`), and
+-- in a row of a status array.
 use Rattle.std.specs.Prelude.{ℕ, ◌/◌, ℤ, pos, List, [], ◌∷◌, ◌++◌, Option, Some, None, codes}
 use Rattle.std.specs.Fmt.{decimal}
 use Rattle.sv_base.specs.Names.{state_name, state_number}

@@ -1,16 +1,14 @@
 -- The texts of times: how long a process is up, and when it stopped.
-use Rattle.std.specs.Prelude.{ℕ, ◌+◌, ◌-◌, ◌/◌, ◌%◌, List, [], ◌∷◌, ◌++◌, Option, Some, None, codes, ◌==◌, nat_lt, if◌then◌else◌}
+use Rattle.std.specs.Prelude.{ℕ, ◌+◌, ◌-◌, ◌/◌, ◌%◌, List, [], ◌∷◌, ◌++◌, Option, Some, None, codes}
+use Rattle.std.specs.Prelude.{◌==◌, nat_lt, if◌then◌else◌}
 use Rattle.std.specs.Fmt.{decimal}
-use Rattle.sv_dates.specs.Dates.{date_of}
+use Rattle.sv_base.specs.Ascii.{colon, space}
+use Rattle.sv_dates.specs.Dates.{date_of, two_digits}
 use Rattle.sv_dates.specs.declared.dates.Day.{Day}
-
--- a number below 100 by two digits
-abbrev pub two_digits : ℕ → List ℕ
-two_digits n = (48 + n / 10) ∷ (48 + n % 10) ∷ []
 
 -- H:MM:SS of seconds
 abbrev pub hours_text : ℕ → List ℕ
-hours_text s = decimal (s / 3600) ++ 58 ∷ two_digits (s / 60 % 60) ++ 58 ∷ two_digits (s % 60)
+hours_text s = decimal (s / 3600) ++ colon ∷ two_digits (s / 60 % 60) ++ colon ∷ two_digits (s % 60)
 
 -- the days before it, from one day on
 abbrev pub days_text : ℕ → List ℕ
@@ -53,14 +51,14 @@ half_name hour = if nat_lt hour 12 then codes "AM" else codes "PM"
 -- HH:MM AM of the minutes of a day
 abbrev pub clock_text : ℕ → List ℕ
 clock_text minutes =
-    two_digits (hour_of_twelve (minutes / 60)) ++ 58 ∷ two_digits (minutes % 60)
-    ++ 32 ∷ half_name (minutes / 60)
+    two_digits (hour_of_twelve (minutes / 60)) ++ colon ∷ two_digits (minutes % 60)
+    ++ space ∷ half_name (minutes / 60)
 
 -- Mon DD
 abbrev pub day_text : Day → List ℕ
-day_text day = month_name day.month ++ 32 ∷ two_digits day.day
+day_text day = month_name day.month ++ space ∷ two_digits day.day
 
 -- Mon DD HH:MM AM of a moment, in UTC
 abbrev pub moment_text : ℕ → List ℕ
 moment_text moment =
-    day_text (date_of (moment / 86400000)) ++ 32 ∷ clock_text (moment % 86400000 / 60000)
+    day_text (date_of (moment / 86400000)) ++ space ∷ clock_text (moment % 86400000 / 60000)

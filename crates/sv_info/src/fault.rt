@@ -2,7 +2,8 @@
 ghost use Rattle.std.specs.Prelude.{◌≡◌, ◌==◌, ◌++◌, IfOk, codes, find};
 ghost use Rattle.std.specs.Option.{option_copied};
 ghost use Rattle.sv_info.specs.declared.fault.Fault.{Fault};
-ghost use Rattle.sv_info.specs.Faults.{all_faults, fault_name, fault_number, fault_of, fault_text, names_subject};
+ghost use Rattle.sv_info.specs.Faults.{all_faults, fault_name, fault_number, fault_of, fault_text};
+ghost use Rattle.sv_info.specs.Faults.{names_subject};
 
 use std::alloc::{AllocError, Global};
 use sv_base::text::Text;

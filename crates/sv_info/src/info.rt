@@ -1,7 +1,9 @@
 //! The struct of a process, and the row of a status array.
 ghost use Rattle.std.specs.Prelude.{◌≡◌, ◌++◌, IfOk, OnOk, pos};
 ghost use Rattle.std.specs.Option.{option_copied};
-ghost use Rattle.sv_info.specs.Info.{ends_part, full_name, info, log_names, logs_part, names_part, outcome_number, outcome_text, seconds_of, state_names, state_part, status, times_part};
+ghost use Rattle.sv_info.specs.Info.{ends_part, full_name, info, log_names, logs_part, names_part};
+ghost use Rattle.sv_info.specs.Info.{outcome_number, outcome_text, seconds_of, state_names};
+ghost use Rattle.sv_info.specs.Info.{state_part, status, times_part};
 ghost use Rattle.sv_info.specs.Members.{trees_by_name};
 ghost use Rattle.sv_xmlcall.specs.Trees.{view};
 

@@ -1,7 +1,10 @@
 //! The texts of times: how long a process is up, and when it stopped.
 ghost use Rattle.std.specs.Prelude.{◌≡◌, ◌+◌, ◌<◌, ◌≤◌, ◌++◌, ◌∷◌, OnOk, string_bytes};
 ghost use Rattle.std.specs.Fmt.{decimal};
-ghost use Rattle.sv_info.specs.Times.{clock_text, days_text, half_name, hour_of_twelve, hours_text, moment_text, month_name, seconds_since, two_digits, uptime_text};
+ghost use Rattle.sv_info.specs.Times.{clock_text, days_text, half_name, hour_of_twelve, hours_text};
+ghost use Rattle.sv_info.specs.Times.{moment_text, month_name, seconds_since};
+ghost use Rattle.sv_dates.specs.Dates.{two_digits};
+ghost use Rattle.sv_info.specs.Times.{uptime_text};
 
 use itoa::Buffer;
 use std::alloc::AllocError;

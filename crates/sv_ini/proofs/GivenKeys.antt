@@ -18,7 +18,7 @@ use Rattle.sv_ini.specs.Keys.{place_of_key, with_key, with_further, with_keys}
 use Rattle.sv_ini.specs.Lines.{LineKind}
 use Rattle.sv_ini.specs.Lines.LineKind.{Blank, Comment, Further, Opens, Sets, Bad}
 use Rattle.sv_ini.specs.Sections.{no_section, with_section, in_section, section_at, place_of_section, sections_of}
-use Rattle.sv_ini.specs.declared.reading.Reading.{Reading}
+use Rattle.sv_ini.specs.declared.reading.SectionReader.{SectionReader}
 use Rattle.sv_ini.specs.declared.section.Section.{Section}
 
 -- the first element that passes
@@ -169,7 +169,7 @@ set_keys true going name key value place sections kinds e placed =
 set_keys false going name key value place sections kinds e placed =
     ap (λ (keys : Keys). keyed keys (given_keys name false kinds)) (sym (pending_none going false (keys_of name sections)))
 
-abbrev at : List Section → Option ℕ → Option ℕ → Reading
+abbrev at : List Section → Option ℕ → Option ℕ → SectionReader
 at sections current going = record { sections = sections; current = current; going = going }
 
 keys_run : (kinds : List LineKind) (sections : List Section) (current going : Option ℕ) (name : List ℕ) → Placed current sections

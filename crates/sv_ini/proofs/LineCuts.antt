@@ -13,7 +13,7 @@ use Rattle.sv_ini.specs.Lines.{is_feed, cut_at, without_return, whole_lines, lin
 use Rattle.sv_ini.specs.Sections.{text_limit, sections_of, after_lines, after_line, and_then, nothing_read, IsFault}
 use Rattle.sv_ini.specs.declared.fault.IniFault.TheVariants.{TooLong, NotUtf8, BadLine, OutsideSection, OutOfMemory}
 use Rattle.sv_ini.specs.declared.fault.IniFault.{IniFault}
-use Rattle.sv_ini.specs.declared.reading.Reading.{Reading}
+use Rattle.sv_ini.specs.declared.reading.SectionReader.{SectionReader}
 use Rattle.sv_ini.specs.declared.section.Section.{Section}
 use Rattle.std.specs.Prelude.{Result, Ok, Err, if◌then◌else◌}
 
@@ -70,16 +70,16 @@ read_valid bs short text =
     within_limits (nat_lt text_limit (length bs)) (nat_lt (utf8_valid_len bs) (length bs)) (Err TooLong) (Err (NotUtf8 (utf8_valid_len bs)))
     (and_then (after_lines 1 (lines_of bs) nothing_read) (λ reading. Ok reading.sections)) fits valid
 
-fault_first : {A : Type 0} (fault : IniFault) (step : Result Reading IniFault) (f : Reading → Result A IniFault) → IsFault fault step
+fault_first : {A : Type 0} (fault : IniFault) (step : Result SectionReader IniFault) (f : SectionReader → Result A IniFault) → IsFault fault step
     → IsFault fault (and_then step f)
 fault_first OutOfMemory step f e = tt
-fault_first TooLong step f e = ap (λ (r : Result Reading IniFault). and_then r f) e
-fault_first (NotUtf8 place) step f e = ap (λ (r : Result Reading IniFault). and_then r f) e
-fault_first (BadLine line) step f e = ap (λ (r : Result Reading IniFault). and_then r f) e
-fault_first (OutsideSection line) step f e = ap (λ (r : Result Reading IniFault). and_then r f) e
+fault_first TooLong step f e = ap (λ (r : Result SectionReader IniFault). and_then r f) e
+fault_first (NotUtf8 place) step f e = ap (λ (r : Result SectionReader IniFault). and_then r f) e
+fault_first (BadLine line) step f e = ap (λ (r : Result SectionReader IniFault). and_then r f) e
+fault_first (OutsideSection line) step f e = ap (λ (r : Result SectionReader IniFault). and_then r f) e
 
 -- a line that is read in turn
-pub one_line : (number : ℕ) (left line shown rest : List ℕ) (reading next : Reading) (whole : Result Reading IniFault)
+pub one_line : (number : ℕ) (left line shown rest : List ℕ) (reading next : SectionReader) (whole : Result SectionReader IniFault)
     → cut_at is_feed left ≡ Some (line, rest) → shown ≡ without_return line → after_line number shown reading ≡ Ok next
     → after_lines number (lines_of left) reading ≡ whole → after_lines (number + 1) (lines_of rest) next ≡ whole
 one_line number left line shown rest reading next whole cut is_shown read e =
@@ -88,11 +88,11 @@ one_line number left line shown rest reading next whole cut is_shown read e =
     ap (λ (l : List ℕ). after_line number l reading) (sym is_shown) ∙ read in
     let step : after_lines number (lines_of left) reading ≡ after_lines (suc number) (lines_of rest) next =
     ap (λ (ls : List (List ℕ)). after_lines number ls reading) lines
-    ∙ ap (λ (r : Result Reading IniFault). and_then r (λ n. after_lines (suc number) (lines_of rest) n)) start in
+    ∙ ap (λ (r : Result SectionReader IniFault). and_then r (λ n. after_lines (suc number) (lines_of rest) n)) start in
     rw add-one (sym step ∙ e)
 
 -- a line with a fault
-pub fault_in_line : (fault : IniFault) (number : ℕ) (left line shown rest : List ℕ) (reading : Reading) (whole : Result Reading IniFault)
+pub fault_in_line : (fault : IniFault) (number : ℕ) (left line shown rest : List ℕ) (reading : SectionReader) (whole : Result SectionReader IniFault)
     → cut_at is_feed left ≡ Some (line, rest) → shown ≡ without_return line → IsFault fault (after_line number shown reading)
     → after_lines number (lines_of left) reading ≡ whole → IsFault fault whole
 fault_in_line fault number left line shown rest reading whole cut is_shown read e =
@@ -106,15 +106,15 @@ fault_in_line fault number left line shown rest reading whole cut is_shown read 
     (fault_first fault (after_line number (without_return line) reading) (λ n. after_lines (suc number) (lines_of rest) n) start)
 
 -- the last line
-pub last_line : (number : ℕ) (left : List ℕ) (reading next : Reading) (whole : Result Reading IniFault)
+pub last_line : (number : ℕ) (left : List ℕ) (reading next : SectionReader) (whole : Result SectionReader IniFault)
     → cut_at is_feed left ≡ None → after_line number left reading ≡ Ok next
     → after_lines number (lines_of left) reading ≡ whole → whole ≡ Ok next
 last_line number left reading next whole cut read e =
     let step : after_lines number (lines_of left) reading ≡ and_then (after_line number left reading) (λ n. Ok n) =
     ap (λ (ls : List (List ℕ)). after_lines number ls reading) (lines_uncut left cut) in
-    sym e ∙ step ∙ ap (λ (r : Result Reading IniFault). and_then r (λ n. Ok n)) read
+    sym e ∙ step ∙ ap (λ (r : Result SectionReader IniFault). and_then r (λ n. Ok n)) read
 
-pub fault_in_last : (fault : IniFault) (number : ℕ) (left : List ℕ) (reading : Reading) (whole : Result Reading IniFault)
+pub fault_in_last : (fault : IniFault) (number : ℕ) (left : List ℕ) (reading : SectionReader) (whole : Result SectionReader IniFault)
     → cut_at is_feed left ≡ None → IsFault fault (after_line number left reading)
     → after_lines number (lines_of left) reading ≡ whole → IsFault fault whole
 fault_in_last fault number left reading whole cut read e =
@@ -123,11 +123,11 @@ fault_in_last fault number left reading whole cut read e =
     subst (IsFault fault) (sym step ∙ e) (fault_first fault (after_line number left reading) (λ n. Ok n) read)
 
 -- the sections of a text that is neither too long nor broken
-pub sections_from : (bs : List ℕ) (reading : Reading) (sections : List Section) → length bs ≤ text_limit → IsUtf8 bs
+pub sections_from : (bs : List ℕ) (reading : SectionReader) (sections : List Section) → length bs ≤ text_limit → IsUtf8 bs
     → after_lines 1 (lines_of bs) nothing_read ≡ Ok reading → sections ≡ reading.sections → sections_of bs ≡ Ok sections
 sections_from bs reading sections short text e same =
     read_valid bs short text
-    ∙ ap (λ (r : Result Reading IniFault). and_then r (λ reading. Ok reading.sections)) e
+    ∙ ap (λ (r : Result SectionReader IniFault). and_then r (λ reading. Ok reading.sections)) e
     ∙ ap (λ (found : List Section). Ok found) (sym same)
 
 pub fault_from : (fault : IniFault) (bs : List ℕ) → length bs ≤ text_limit → IsUtf8 bs

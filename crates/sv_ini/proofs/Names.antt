@@ -13,7 +13,7 @@ use Rattle.sv_ini.specs.Keys.{with_key, with_further}
 use Rattle.sv_ini.specs.Lines.{LineKind}
 use Rattle.sv_ini.specs.Lines.LineKind.{Blank, Comment, Further, Opens, Sets, Bad}
 use Rattle.sv_ini.specs.Sections.{no_section, with_section, in_section, gone_on, section_at, sections_of, nothing_read}
-use Rattle.sv_ini.specs.declared.reading.Reading.{Reading}
+use Rattle.sv_ini.specs.declared.reading.SectionReader.{SectionReader}
 use Rattle.sv_ini.specs.declared.section.Section.{Section}
 
 found_if : (test : Bool) (first size : ℕ) → nat_lt (cond test 0 (suc first)) (suc size) ≡ cond test true (nat_lt first size)
@@ -55,19 +55,19 @@ same_names : (place : ℕ) (change : List (List ℕ × List ℕ) → List (List 
 same_names place change sections =
     map-set_same (λ (s : Section). s.name) sections place (record (section_at place sections) { keys = change (section_at place sections).keys }) no_section refl
 
-names_gone : (current going : Option ℕ) (text : List ℕ) (r : Reading)
+names_gone : (current going : Option ℕ) (text : List ℕ) (r : SectionReader)
     → names_of (gone_on current going text r).sections ≡ names_of r.sections
 names_gone (Some place) (Some key) text r = same_names place (with_further key text) r.sections
 names_gone (Some place) None text r = refl
 names_gone None (Some key) text r = refl
 names_gone None None text r = refl
 
-names_set : (current : Option ℕ) (key value : List ℕ) (r : Reading)
+names_set : (current : Option ℕ) (key value : List ℕ) (r : SectionReader)
     → names_of (set_by current key value r).sections ≡ names_of r.sections
 names_set (Some place) key value r = same_names place (with_key key value) r.sections
 names_set None key value r = refl
 
-pub names_run : (kinds : List LineKind) (r : Reading)
+pub names_run : (kinds : List LineKind) (r : SectionReader)
     → names_of (run kinds r).sections ≡ adds (names_of r.sections) (opened_names kinds)
 names_run [] r = refl
 names_run (Blank ∷ kinds) r = names_run kinds (step Blank r)

@@ -9,14 +9,14 @@ use Rattle.sv_ini.specs.Lines.{LineKind, kind_of, lines_of}
 use Rattle.sv_ini.specs.Lines.LineKind.{Blank, Comment, Further, Opens, Sets, Bad}
 use Rattle.sv_ini.specs.Sections.{ended, opened, set_at, gone_on, after_key, after_kind, after_line, after_lines, and_then, nothing_read, sections_of, text_limit}
 use Rattle.sv_ini.specs.declared.fault.IniFault.{IniFault}
-use Rattle.sv_ini.specs.declared.reading.Reading.{Reading}
+use Rattle.sv_ini.specs.declared.reading.SectionReader.{SectionReader}
 use Rattle.sv_ini.specs.declared.section.Section.{Section}
 
-abbrev pub set_by : Option ℕ → List ℕ → List ℕ → Reading → Reading
+abbrev pub set_by : Option ℕ → List ℕ → List ℕ → SectionReader → SectionReader
 set_by (Some place) key value r = set_at place key value r
 set_by None key value r = r
 
-abbrev pub step : LineKind → Reading → Reading
+abbrev pub step : LineKind → SectionReader → SectionReader
 step Blank r = ended r
 step Comment r = r
 step (Further text) r = gone_on r.current r.going text r
@@ -24,11 +24,11 @@ step (Opens name) r = opened name r
 step (Sets key value) r = set_by r.current key value r
 step Bad r = ended r
 
-abbrev pub run : List LineKind → Reading → Reading
+abbrev pub run : List LineKind → SectionReader → SectionReader
 run [] r = r
 run (kind ∷ kinds) r = run kinds (step kind r)
 
-gone_kept : (current going : Option ℕ) (text : List ℕ) (r : Reading) → (gone_on current going text r).going ≡ r.going
+gone_kept : (current going : Option ℕ) (text : List ℕ) (r : SectionReader) → (gone_on current going text r).going ≡ r.going
 gone_kept (Some place) (Some key) text r = refl
 gone_kept (Some place) None text r = refl
 gone_kept None (Some key) text r = refl
@@ -37,40 +37,40 @@ gone_kept None None text r = refl
 ok_same : {A : Type 0} (x y : A) → ◌≡◌ {A = Result A IniFault} (Ok x) (Ok y) → y ≡ x
 ok_same x y e = cc
 
-went_set : (current : Option ℕ) (number : ℕ) (key value : List ℕ) (r next : Reading)
+went_set : (current : Option ℕ) (number : ℕ) (key value : List ℕ) (r next : SectionReader)
     → after_key current number key value r ≡ Ok next → (next ≡ set_by current key value r) × (is_some next.going ≡ true)
 went_set (Some place) number key value r next e =
     let same = ok_same (set_at place key value r) next e in
-    (same, ap (λ (n : Reading). is_some n.going) same)
+    (same, ap (λ (n : SectionReader). is_some n.going) same)
 went_set None number key value r next e = cc
 
-went : (kind : LineKind) (number : ℕ) (r next : Reading) → after_kind kind number r ≡ Ok next
+went : (kind : LineKind) (number : ℕ) (r next : SectionReader) → after_kind kind number r ≡ Ok next
     → (next ≡ step kind r) × (is_some next.going ≡ goes_on (is_some r.going) kind)
 went Blank number r next e =
-    let same = ok_same (ended r) next e in (same, ap (λ (n : Reading). is_some n.going) same)
+    let same = ok_same (ended r) next e in (same, ap (λ (n : SectionReader). is_some n.going) same)
 went Comment number r next e =
-    let same = ok_same r next e in (same, ap (λ (n : Reading). is_some n.going) same)
+    let same = ok_same r next e in (same, ap (λ (n : SectionReader). is_some n.going) same)
 went (Further text) number r next e =
     let same = ok_same (gone_on r.current r.going text r) next e in
-    (same, ap (λ (n : Reading). is_some n.going) same ∙ ap (λ (o : Option ℕ). is_some o) (gone_kept r.current r.going text r))
+    (same, ap (λ (n : SectionReader). is_some n.going) same ∙ ap (λ (o : Option ℕ). is_some o) (gone_kept r.current r.going text r))
 went (Opens name) number r next e =
-    let same = ok_same (opened name r) next e in (same, ap (λ (n : Reading). is_some n.going) same)
+    let same = ok_same (opened name r) next e in (same, ap (λ (n : SectionReader). is_some n.going) same)
 went (Sets key value) number r next e = went_set r.current number key value r next e
 went Bad number r next e = cc
 
-by_step : (result : Result Reading IniFault) (number : ℕ) (line : List ℕ) (lines : List (List ℕ)) (r final : Reading)
+by_step : (result : Result SectionReader IniFault) (number : ℕ) (line : List ℕ) (lines : List (List ℕ)) (r final : SectionReader)
     → after_line number line r ≡ result
-    → ((next : Reading) → after_lines (suc number) lines next ≡ Ok final → final ≡ run (kinds_from (is_some next.going) lines) next)
+    → ((next : SectionReader) → after_lines (suc number) lines next ≡ Ok final → final ≡ run (kinds_from (is_some next.going) lines) next)
     → and_then result (λ next. after_lines (suc number) lines next) ≡ Ok final
     → final ≡ run (kinds_from (is_some r.going) (line ∷ lines)) r
 by_step (Ok next) number line lines r final is rest e =
     let w = went (kind_of (is_some r.going) line) number r next is in
     rest next e
     ∙ ap (λ (b : Bool). run (kinds_from b lines) next) w.1
-    ∙ ap (λ (n : Reading). run (kinds_from (goes_on (is_some r.going) (kind_of (is_some r.going) line)) lines) n) w.0
+    ∙ ap (λ (n : SectionReader). run (kinds_from (goes_on (is_some r.going) (kind_of (is_some r.going) line)) lines) n) w.0
 by_step (Err fault) number line lines r final is rest e = cc
 
-pub lines_run : (number : ℕ) (lines : List (List ℕ)) (r final : Reading) → after_lines number lines r ≡ Ok final
+pub lines_run : (number : ℕ) (lines : List (List ℕ)) (r final : SectionReader) → after_lines number lines r ≡ Ok final
     → final ≡ run (kinds_from (is_some r.going) lines) r
 lines_run number [] r final e = ok_same r final e
 lines_run number (line ∷ lines) r final e =
@@ -82,8 +82,8 @@ limits_ok true broken x y z a e = cc
 limits_ok false true x y z a e = cc
 limits_ok false false x y z a e = e
 
-read_ok : (read : Result Reading IniFault) (sections : List Section) → and_then read (λ reading. Ok reading.sections) ≡ Ok sections
-    → (r : Reading) × (read ≡ Ok r) × (sections ≡ r.sections)
+read_ok : (read : Result SectionReader IniFault) (sections : List Section) → and_then read (λ reading. Ok reading.sections) ≡ Ok sections
+    → (r : SectionReader) × (read ≡ Ok r) × (sections ≡ r.sections)
 read_ok (Ok r) sections e = (r, refl, ok_same r.sections sections e)
 read_ok (Err fault) sections e = cc
 
@@ -93,4 +93,4 @@ pub told_by_run : (text : List ℕ) (sections : List Section) → sections_of te
 told_by_run text sections e =
     let read = read_ok (after_lines 1 (lines_of text) nothing_read) sections
     (limits_ok (nat_lt text_limit (length text)) (nat_lt (utf8_valid_len text) (length text)) TooLong (NotUtf8 (utf8_valid_len text)) _ sections e) in
-    read.2 ∙ ap (λ (r : Reading). r.sections) (lines_run 1 (lines_of text) nothing_read read.0 read.1)
+    read.2 ∙ ap (λ (r : SectionReader). r.sections) (lines_run 1 (lines_of text) nothing_read read.0 read.1)

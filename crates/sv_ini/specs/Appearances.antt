@@ -1,8 +1,11 @@
--- What the lines of a text give: names and keys in order of first appearance, the last value of each key.
-use Rattle.std.specs.Prelude.{ℕ, List, [], ◌∷◌, ◌++◌, Bool, true, false, not, Option, Some, None, if◌then◌else◌}
+-- What the lines of a text give: names and keys in order of first appearance, the last value of
+-- each key.
+use Rattle.std.specs.Prelude.{ℕ, List, [], ◌∷◌, ◌++◌, Bool, true, false, not, Option, Some, None}
+use Rattle.std.specs.Prelude.{if◌then◌else◌}
 use Rattle.std.specs.List.{filter, find}
 use Rattle.std.specs.Option.{option_map, option_map_or, option_or}
 use Rattle.std.specs.Str.{bytes_eq}
+use Rattle.sv_base.specs.Ascii.{line_feed}
 use Rattle.sv_ini.specs.declared.section.Section.{Section}
 use Rattle.sv_ini.specs.Lines.{LineKind, lines_of, kind_of}
 use Rattle.sv_ini.specs.Lines.LineKind.{Blank, Comment, Further, Opens, Sets, Bad}
@@ -37,14 +40,15 @@ opened_names [] = []
 opened_names (Opens name ∷ kinds) = name ∷ opened_names kinds
 opened_names (kind ∷ kinds) = opened_names kinds
 
--- the further lines of a value, each after a line feed; a comment may stand between, other lines end it
+-- the further lines of a value, each after a line feed; a comment may stand between, other lines
+-- end it
 abbrev pub further_lines : List LineKind → List ℕ
-further_lines (Further text ∷ kinds) = 10 ∷ text ++ further_lines kinds
+further_lines (Further text ∷ kinds) = line_feed ∷ text ++ further_lines kinds
 further_lines (Comment ∷ kinds) = further_lines kinds
 further_lines kinds = []
 
--- the keys that lines give to the section of this name, each with its whole value; before the lines that
--- section is open or not
+-- the keys that lines give to the section of this name, each with its whole value; before the lines
+-- that section is open or not
 abbrev pub given_keys : List ℕ → Bool → List LineKind → List (List ℕ × List ℕ)
 given_keys name here [] = []
 given_keys name here (Opens other ∷ kinds) = given_keys name (bytes_eq other name) kinds

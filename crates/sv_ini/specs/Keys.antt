@@ -1,7 +1,9 @@
 -- The keys of a section.
-use Rattle.std.specs.Prelude.{ℕ, List, [], ◌∷◌, ◌++◌, nat_lt, length, slice_set, slice_index_or, if◌then◌else◌}
+use Rattle.std.specs.Prelude.{ℕ, List, [], ◌∷◌, ◌++◌, nat_lt, length, slice_set, slice_index_or}
+use Rattle.std.specs.Prelude.{if◌then◌else◌}
 use Rattle.std.specs.List.{position_or_len}
 use Rattle.std.specs.Str.{bytes_eq}
+use Rattle.sv_base.specs.Ascii.{line_feed}
 use Rattle.sv_ini.specs.declared.section.Section.{Section}
 
 -- where this key stands, or would be added
@@ -19,7 +21,7 @@ with_key key value keys =
 abbrev pub with_further : ℕ → List ℕ → List (List ℕ × List ℕ) → List (List ℕ × List ℕ)
 with_further place text keys =
     let entry = slice_index_or keys place ([], []) in
-    slice_set keys place (entry.0, entry.1 ++ 10 ∷ text)
+    slice_set keys place (entry.0, entry.1 ++ line_feed ∷ text)
 
 -- the section with these keys in place of its own
 abbrev pub with_keys : Section → List (List ℕ × List ℕ) → Section

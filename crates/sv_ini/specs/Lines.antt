@@ -1,36 +1,41 @@
--- The lines of a configuration text, and what each of them is (the manual's chapter on the configuration file).
-use Rattle.std.specs.Prelude.{◌==◌, ◌+◌, ◌-◌, ℕ, suc, List, [], ◌∷◌, Bool, true, false, ◌&&◌, ◌||◌, not, Option, Some, None, length, take, drop, slice_index, if◌then◌else◌}
+-- The lines of a configuration text, and what each of them is (the manual's chapter on the
+-- configuration file).
+use Rattle.std.specs.Prelude.{◌==◌, ◌+◌, ◌-◌, ℕ, suc, List, [], ◌∷◌, Bool, true, false, ◌&&◌, ◌||◌}
+use Rattle.std.specs.Prelude.{not, Option, Some, None, length, take, drop, slice_index}
+use Rattle.std.specs.Prelude.{if◌then◌else◌}
 use Rattle.std.specs.List.{position, prefix_len, suffix_len, slice_split}
 use Rattle.std.specs.Option.{option_map}
 use Rattle.std.specs.Str.{str_to_ascii_lowercase}
+use Rattle.sv_base.specs.Ascii.{carriage_return, colon, equals_sign, left_bracket, line_feed}
+use Rattle.sv_base.specs.Ascii.{number_sign, right_bracket, semicolon, space, tab}
 
 -- a space or a tab
 abbrev pub is_blank : ℕ → Bool
-is_blank b = (b == 32) || (b == 9)
+is_blank b = (b == space) || (b == tab)
 
 -- what ends a line
 abbrev pub is_feed : ℕ → Bool
-is_feed b = b == 10
+is_feed b = b == line_feed
 
 -- `[`, with which the line of a section begins
 abbrev pub is_opening : ℕ → Bool
-is_opening b = b == 91
+is_opening b = b == left_bracket
 
 -- `]`, which ends a section's name
 abbrev pub is_bracket : ℕ → Bool
-is_bracket b = b == 93
+is_bracket b = b == right_bracket
 
 -- what parts a key from its value
 abbrev pub is_separator : ℕ → Bool
-is_separator b = (b == 61) || (b == 58)
+is_separator b = (b == equals_sign) || (b == colon)
 
 -- what begins a comment after a value
 abbrev pub is_semicolon : ℕ → Bool
-is_semicolon b = b == 59
+is_semicolon b = b == semicolon
 
 -- a comment line begins with one of these
 abbrev pub is_comment_mark : ℕ → Bool
-is_comment_mark b = (b == 59) || (b == 35)
+is_comment_mark b = (b == semicolon) || (b == number_sign)
 
 -- no bytes at all
 abbrev pub is_empty : List ℕ → Bool
@@ -60,7 +65,8 @@ cut_at p bs = option_map (λ at. (take at bs, drop (at + 1) bs)) (position p bs)
 
 -- a CR before a line feed belongs to the line's end
 abbrev pub without_return : List ℕ → List ℕ
-without_return bs = if slice_index bs (length bs - 1) == 13 then take (length bs - 1) bs else bs
+without_return bs =
+    if slice_index bs (length bs - 1) == carriage_return then take (length bs - 1) bs else bs
 
 -- the lines without the CR that belongs to their ends; after the last one stands no line feed
 abbrev pub whole_lines : List (List ℕ) → List (List ℕ)
@@ -68,7 +74,8 @@ whole_lines [] = []
 whole_lines (last ∷ []) = last ∷ []
 whole_lines (line ∷ next ∷ lines) = without_return line ∷ whole_lines (next ∷ lines)
 
--- the lines of a text; what stands after the last line feed is one too, a blank one where nothing stands there
+-- the lines of a text; what stands after the last line feed is one too, a blank one where nothing
+-- stands there
 abbrev pub lines_of : List ℕ → List (List ℕ)
 lines_of bs = whole_lines (slice_split is_feed bs)
 

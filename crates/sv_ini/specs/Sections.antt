@@ -1,12 +1,14 @@
 -- The sections of a configuration text.
-use Rattle.std.specs.Prelude.{◌≡◌, ℕ, suc, List, [], ◌∷◌, ◌++◌, nat_lt, Option, Some, None, Result, Ok, Err, length, slice_set, slice_index_or, if◌then◌else◌, ⊤}
+use Rattle.std.specs.Prelude.{◌≡◌, ℕ, suc, List, [], ◌∷◌, ◌++◌, nat_lt, Option, Some, None, Result}
+use Rattle.std.specs.Prelude.{Ok, Err, length, slice_set, slice_index_or, if◌then◌else◌, ⊤}
 use Rattle.std.specs.List.{position_or_len}
 use Rattle.std.specs.Option.{is_some}
 use Rattle.std.specs.Str.{bytes_eq}
 use Rattle.std.specs.Str.Lossy.{utf8_valid_len}
 use Rattle.sv_ini.specs.declared.fault.IniFault.{IniFault}
-use Rattle.sv_ini.specs.declared.fault.IniFault.TheVariants.{TooLong, NotUtf8, BadLine, OutsideSection, OutOfMemory}
-use Rattle.sv_ini.specs.declared.reading.Reading.{Reading}
+use Rattle.sv_ini.specs.declared.fault.IniFault.TheVariants.{TooLong, NotUtf8, BadLine}
+use Rattle.sv_ini.specs.declared.fault.IniFault.TheVariants.{OutsideSection, OutOfMemory}
+use Rattle.sv_ini.specs.declared.reading.SectionReader.{SectionReader}
 use Rattle.sv_ini.specs.declared.section.Section.{Section}
 use Rattle.sv_ini.specs.Keys.{place_of_key, with_key, with_further, with_keys}
 use Rattle.sv_ini.specs.Lines.{LineKind, lines_of, kind_of}
@@ -35,15 +37,15 @@ with_section name sections =
     else sections ++ record { name = name; keys = [] } ∷ []
 
 -- before the first line
-abbrev pub nothing_read : Reading
+abbrev pub nothing_read : SectionReader
 nothing_read = record { sections = []; current = None; going = None }
 
 -- no value is going on any more
-abbrev pub ended : Reading → Reading
+abbrev pub ended : SectionReader → SectionReader
 ended reading = record reading { going = None }
 
 -- a section opens: the one of that name, if there is one already
-abbrev pub opened : List ℕ → Reading → Reading
+abbrev pub opened : List ℕ → SectionReader → SectionReader
 opened name reading = record {
   sections = with_section name reading.sections;
   current = Some (place_of_section name reading.sections);
@@ -58,7 +60,7 @@ in_section place change sections =
     (with_keys (section_at place sections) (change (section_at place sections).keys))
 
 -- a key of the open section, whose value is then going on
-abbrev pub set_at : ℕ → List ℕ → List ℕ → Reading → Reading
+abbrev pub set_at : ℕ → List ℕ → List ℕ → SectionReader → SectionReader
 set_at place key value reading = record {
   sections = in_section place (with_key key value) reading.sections;
   current = Some place;
@@ -66,18 +68,19 @@ set_at place key value reading = record {
 }
 
 -- a further line of the value that is going on
-abbrev pub gone_on : Option ℕ → Option ℕ → List ℕ → Reading → Reading
+abbrev pub gone_on : Option ℕ → Option ℕ → List ℕ → SectionReader → SectionReader
 gone_on (Some place) (Some key) text reading =
     record reading { sections = in_section place (with_further key text) reading.sections }
 gone_on current going text reading = reading
 
 -- a key in the open section; before any section it is a fault
-abbrev pub after_key : Option ℕ → ℕ → List ℕ → List ℕ → Reading → Result Reading IniFault
+abbrev pub after_key : Option ℕ → ℕ → List ℕ → List ℕ → SectionReader
+    → Result SectionReader IniFault
 after_key (Some place) number key value reading = Ok (set_at place key value reading)
 after_key None number key value reading = Err (OutsideSection number)
 
 -- what a line of this kind makes of what was read before it
-abbrev pub after_kind : LineKind → ℕ → Reading → Result Reading IniFault
+abbrev pub after_kind : LineKind → ℕ → SectionReader → Result SectionReader IniFault
 after_kind Blank number reading = Ok (ended reading)
 after_kind Comment number reading = Ok reading
 after_kind (Further text) number reading = Ok (gone_on reading.current reading.going text reading)
@@ -86,7 +89,7 @@ after_kind (Sets key value) number reading = after_key reading.current number ke
 after_kind Bad number reading = Err (BadLine number)
 
 -- what the line of this number makes of what was read before it
-abbrev pub after_line : ℕ → List ℕ → Reading → Result Reading IniFault
+abbrev pub after_line : ℕ → List ℕ → SectionReader → Result SectionReader IniFault
 after_line number line reading = after_kind (kind_of (is_some reading.going) line) number reading
 
 -- goes on, unless there was a fault
@@ -96,7 +99,7 @@ and_then (Ok x) f = f x
 and_then (Err fault) f = Err fault
 
 -- the lines in turn, of which the first has this number, up to the first one with a fault
-abbrev pub after_lines : ℕ → List (List ℕ) → Reading → Result Reading IniFault
+abbrev pub after_lines : ℕ → List (List ℕ) → SectionReader → Result SectionReader IniFault
 after_lines number [] reading = Ok reading
 after_lines number (line ∷ lines) reading =
     and_then (after_line number line reading) (λ next. after_lines (suc number) lines next)

@@ -1,10 +1,14 @@
 //! The ways to cut a line: at a byte, at its indent, at a comment.
 
-ghost use Rattle.std.specs.Prelude.{◌≡◌, ◌<◌, ◌+◌, ◌-◌, IfSome, List, ℕ, length, take, drop, slice_index};
+ghost use Rattle.std.specs.Prelude.{◌≡◌, ◌<◌, ◌+◌, ◌-◌, IfSome, List, ℕ, length, take, drop};
+ghost use Rattle.std.specs.Prelude.{slice_index};
 ghost use Rattle.std.specs.List.{position, prefix_len, suffix_len};
 ghost use Rattle.std.specs.Option.{option_map};
 ghost use Rattle.std.specs.Str.{IsUtf8};
-ghost use Rattle.sv_ini.specs.Lines.{is_blank, is_feed, is_opening, is_bracket, behind_bracket, is_separator, is_semicolon, is_empty, begins_with, without_indent, without_tail, trimmed, cut_at, without_return, comment_at, value_in};
+ghost use Rattle.sv_ini.specs.Lines.{is_blank, is_feed, is_opening, is_bracket, behind_bracket};
+ghost use Rattle.sv_ini.specs.Lines.{is_separator, is_semicolon, is_empty, begins_with};
+ghost use Rattle.sv_ini.specs.Lines.{without_indent, without_tail, trimmed, cut_at, without_return};
+ghost use Rattle.sv_ini.specs.Lines.{comment_at, value_in};
 
 /// A space or a tab.
 pub fn is_blank(byte: u8) -> bool

@@ -2,7 +2,9 @@
 
 ghost use Rattle.std.specs.Prelude.{◌≡◌};
 ghost use Rattle.std.specs.Option.{option_map};
-ghost use Rattle.sv_ini.specs.Lines.{kind_of, section_name, is_end, is_semicolon, is_comment_mark, begins_with, key_and_value, name_between, is_bracket, cut_at, is_separator, without_indent};
+ghost use Rattle.sv_ini.specs.Lines.{kind_of, section_name, is_end, is_semicolon, is_comment_mark};
+ghost use Rattle.sv_ini.specs.Lines.{begins_with, key_and_value, name_between, is_bracket, cut_at};
+ghost use Rattle.sv_ini.specs.Lines.{is_separator, without_indent};
 ghost use Rattle.sv_ini.specs.Kinds.{seen};
 
 use crate::cuts;

@@ -1,7 +1,8 @@
 //! Laws of the definition: what stands in the sections of a text, and in which order.
 
 ghost use Rattle.std.specs.Prelude.{◌≡◌, List, ℕ, Ok, map};
-ghost use Rattle.sv_ini.specs.Appearances.{first_ones, opened_names, kinds_of, keys_given, keys_of, last_value, value_of};
+ghost use Rattle.sv_ini.specs.Appearances.{first_ones, opened_names, kinds_of, keys_given, keys_of};
+ghost use Rattle.sv_ini.specs.Appearances.{last_value, value_of};
 ghost use Rattle.sv_ini.specs.Sections.{sections_of};
 ghost use Rattle.sv_ini.specs.declared.section.Section.{Section};
 

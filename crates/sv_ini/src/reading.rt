@@ -32,7 +32,7 @@ impl Model for Drafts {
 
 /// What was read of a text so far.
 #[derive(Drop)]
-pub struct Reading {
+pub struct SectionReader {
     sections: Drafts,
     /// The place of the section that is open.
     current: Option<usize>,
@@ -127,15 +127,16 @@ impl Drafts {
     }
 }
 
-impl Reading {
+impl SectionReader {
     ghost use Rattle.std.specs.Str.{str_to_ascii_lowercase};
-    ghost use Rattle.sv_ini.specs.Sections.{nothing_read, gone_on, opened, set_at, after_line, IsFault};
+    ghost use Rattle.sv_ini.specs.Sections.{nothing_read, gone_on, opened, set_at, after_line};
+    ghost use Rattle.sv_ini.specs.Sections.{IsFault};
 
     /// Before the first line.
-    pub fn new(alloc: Global) -> Reading
+    pub fn new(alloc: Global) -> SectionReader
         ensures { result ≡ nothing_read }
     {
-        Reading {
+        SectionReader {
             sections: Drafts::new(alloc),
             current: None,
             going: None,
@@ -194,7 +195,7 @@ impl Reading {
     pub fn into_sections(self, alloc: Global) -> Result<Vec<Section>, AllocError>
         ensures { IfOk result (λ sections. sections.items ≡ self.sections) }
     {
-        let Reading { sections, .. } = self;
+        let SectionReader { sections, .. } = self;
         sections.into_sections(alloc)
     }
 }

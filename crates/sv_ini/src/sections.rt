@@ -2,11 +2,12 @@
 
 ghost use Rattle.std.specs.Prelude.{◌≡◌, ◌≤◌, Ok, IfOk, IfErr, length};
 ghost use Rattle.sv_ini.specs.Lines.{lines_of};
-ghost use Rattle.sv_ini.specs.Sections.{text_limit, nothing_read, after_lines, sections_of, IsFault};
+ghost use Rattle.sv_ini.specs.Sections.{text_limit, nothing_read, after_lines, sections_of};
+ghost use Rattle.sv_ini.specs.Sections.{IsFault};
 
 use crate::cuts;
 use crate::fault::IniFault;
-use crate::reading::Reading;
+use crate::reading::SectionReader;
 use crate::section::Section;
 use std::alloc::Global;
 use std::str;
@@ -41,14 +42,14 @@ fn sections_of_text(alloc: Global, text: &str) -> Result<Vec<Section>, IniFault>
 }
 
 /// Reads the lines in turn.
-fn read_lines(alloc: Global, text: &str) -> Result<Reading, IniFault>
+fn read_lines(alloc: Global, text: &str) -> Result<SectionReader, IniFault>
     requires { length text.now ≤ text_limit }
     ensures read { IfOk result
         (λ reading. after_lines 1 (lines_of text.now) nothing_read ≡ Ok reading) }
     ensures fault { IfErr result
         (λ fault. IsFault fault (after_lines 1 (lines_of text.now) nothing_read)) }
 {
-    let mut reading = Reading::new(alloc);
+    let mut reading = SectionReader::new(alloc);
     let mut number = 1;
     let mut left = text;
     while let Some(cut) = cuts::cut_at_feed(left) {

@@ -10,7 +10,7 @@ use Rattle.sv_jobs.specs.declared.notes.LinkWord.{LinkWord}
 use Rattle.sv_jobs.specs.declared.notes.LinkWord.TheVariants.{More, Send}
 use Rattle.sv_jobs.specs.declared.notes.Note.{Note}
 use Rattle.sv_jobs.specs.declared.notes.Note.TheVariants as note
-use Rattle.sv_jobs.specs.declared.reading.Reading.TheVariants as reading
+use Rattle.sv_jobs.specs.declared.reading.ReadResult.TheVariants as reading
 use Rattle.sv_out.specs.Exchanges.{sent_more}
 use Rattle.sv_out.specs.declared.connection.Exchange.{Exchange}
 

@@ -1,5 +1,6 @@
 -- What is accepted, and what is posted of it.
-use Rattle.std.specs.Prelude.{◌≡◌, ◌≤◌, ◌+◌, ◌-◌, ◌^◌, ◌==◌, ◌++◌, ℕ, List, Option, length, min, option_map, replicate, if◌then◌else◌}
+use Rattle.std.specs.Prelude.{◌≡◌, ◌≤◌, ◌+◌, ◌-◌, ◌^◌, ◌==◌, ◌++◌, ℕ, List, Option, length, min}
+use Rattle.std.specs.Prelude.{option_map, replicate, if◌then◌else◌}
 use Rattle.sv_base.specs.declared.state.Side.{Side}
 use Rattle.sv_jobs.specs.declared.notes.Note.{Note}
 use Rattle.sv_jobs.specs.declared.notes.Note.TheVariants.{Open}
@@ -17,7 +18,8 @@ accepts_more calls given accepts = record {
 }
 
 -- there were so many calls; each link that was given was posted, in order, and one open for each
-pub record Accepted {L : Type 0} (side : Side) (turns : ℕ) (told told_after : Option Accepts) (links links_after : List L) (notes notes_after : List Note) : Type 0 where
+pub record Accepted {L : Type 0} (side : Side) (turns : ℕ) (told told_after : Option Accepts)
+    (links links_after : List L) (notes notes_after : List Note) : Type 0 where
   pub given : List L
   pub posted : links_after ≡ links ++ given
   pub opened : notes_after ≡ notes ++ replicate (length given) (Open side)

@@ -1,7 +1,9 @@
 -- The lines of the console, each ended by a line feed, and what they ask for.
-use Rattle.std.specs.Prelude.{◌≢◌, ◌==◌, ◌++◌, ◌∷◌, ◌||◌, ℕ, Bool, List, [], Option, None, Some, All, codes, length, nat_lt, not, take, if◌then◌else◌, option_map}
+use Rattle.std.specs.Prelude.{◌≢◌, ◌==◌, ◌++◌, ◌∷◌, ◌||◌, ℕ, Bool, List, [], Option, None, Some}
+use Rattle.std.specs.Prelude.{All, codes, length, nat_lt, not, take, if◌then◌else◌, option_map}
 use Rattle.std.specs.List.{before_first, after_first, filter_map, find, position_or_len}
 use Rattle.std.specs.Str.{bytes_eq, is_utf8}
+use Rattle.sv_base.specs.Ascii.{line_feed, space}
 use Rattle.sv_base.specs.Names.{signal_name}
 use Rattle.sv_base.specs.declared.signal.Signal.{Signal}
 use Rattle.sv_base.specs.declared.signal.Signal.TheVariants.{Term, Int, Quit, Kill, Usr1, Usr2}
@@ -22,7 +24,7 @@ kept line = take kept_limit line
 
 -- a space
 abbrev pub is_space : ℕ → Bool
-is_space byte = byte == 32
+is_space byte = byte == space
 
 -- what stands before and after the first space, where there is one
 abbrev pub parted : List ℕ → Option (List ℕ × List ℕ)
@@ -59,7 +61,7 @@ notes_of lines = filter_map note_of lines
 
 -- a line with its line feed
 abbrev pub with_feed : List ℕ → List ℕ
-with_feed line = line ++ 10 ∷ []
+with_feed line = line ++ line_feed ∷ []
 
 -- no line feed
 abbrev pub IsPlain : List ℕ → Type 0

@@ -8,9 +8,10 @@ use Rattle.sv_jobs.specs.declared.notes.Note.TheVariants.{NoMemory}
 use Rattle.sv_outside.specs.declared.jobs.PumpEnd.{PumpEnd}
 use Rattle.sv_outside.specs.declared.jobs.PumpEnd.TheVariants.{Ended, Failed, OutOfMemory}
 
--- the bytes that were read are lines, each ended by its line feed, and a rest; what the lines ask for was posted, in
--- order. The rest has no line feed, but where memory was refused
-pub record Consoling (end : PumpEnd) (left left_after : Option (List ℕ)) (notes notes_after : List Note) : Type 0 where
+-- the bytes that were read are lines, each ended by its line feed, and a rest; what the lines ask
+-- for was posted, in order. The rest has no line feed, but where memory was refused
+pub record Consoling (end : PumpEnd) (left left_after : Option (List ℕ))
+    (notes notes_after : List Note) : Type 0 where
   pub lines : List (List ℕ)
   pub rest : List ℕ
   pub bytes : Consumes left left_after (flat_map with_feed lines ++ rest)
@@ -26,7 +27,8 @@ refusal Failed = []
 refusal OutOfMemory = NoMemory ∷ []
 
 -- and after that, where memory was refused, a note that says so
-pub record Consoled (end : PumpEnd) (left left_after : Option (List ℕ)) (notes notes_after : List Note) : Type 0 where
+pub record Consoled (end : PumpEnd) (left left_after : Option (List ℕ))
+    (notes notes_after : List Note) : Type 0 where
   pub lines : List (List ℕ)
   pub rest : List ℕ
   pub bytes : Consumes left left_after (flat_map with_feed lines ++ rest)

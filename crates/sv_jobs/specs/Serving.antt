@@ -69,7 +69,8 @@ EndsAt OutOfMemory More before after = after ≡ before
 EndsAt OutOfMemory (Send bytes) before after = ⊥
 
 -- each word that was taken was worked off, in order, with its note; the last one ended the work
-pub record Serving (link : LinkId) (end : PumpEnd) (told told_after : Option Exchange) (taken taken_after : List (ℕ × LinkWord)) (posted posted_after : List Note) : Type 0 where
+pub record Serving (link : LinkId) (end : PumpEnd) (told told_after : Option Exchange)
+    (taken taken_after : List (ℕ × LinkWord)) (posted posted_after : List Note) : Type 0 where
   pub deeds : List (ℕ × Deed)
   pub seat : ℕ
   pub word : LinkWord
@@ -78,10 +79,12 @@ pub record Serving (link : LinkId) (end : PumpEnd) (told told_after : Option Exc
   pub notes : posted_after ≡ posted ++ map (note_of link) (deeds_of deeds)
 
 -- and the last note is that the link is over
-pub record Served (link : LinkId) (end : PumpEnd) (told told_after : Option Exchange) (taken taken_after : List (ℕ × LinkWord)) (posted posted_after : List Note) : Type 0 where
+pub record Served (link : LinkId) (end : PumpEnd) (told told_after : Option Exchange)
+    (taken taken_after : List (ℕ × LinkWord)) (posted posted_after : List Note) : Type 0 where
   pub deeds : List (ℕ × Deed)
   pub seat : ℕ
   pub word : LinkWord
   pub words : taken_after ≡ (taken ++ words_of deeds) ++ (seat, word) ∷ []
   pub bytes : EndsAt end word (option_map (after_deeds (deeds_of deeds)) told) told_after
-  pub notes : posted_after ≡ (posted ++ map (note_of link) (deeds_of deeds)) ++ last_notes end (note.LinkEnd link)
+  pub notes : posted_after ≡ (posted ++ map (note_of link) (deeds_of deeds))
+      ++ last_notes end (note.LinkEnd link)

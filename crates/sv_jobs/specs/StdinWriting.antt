@@ -33,9 +33,10 @@ EndsAt Ended (Write text) old new bytes = ⊥
 EndsAt Failed Close old new bytes = ⊥
 EndsAt OutOfMemory word old new bytes = ⊥
 
--- the bytes of the words that were taken were written, in order, and one note posted for each that was written whole; the
--- last word is a Close, or the one whose write failed
-pub record Writing (run : Run) (end : PumpEnd) (written written_after : Option (List ℕ)) (taken taken_after : List (ℕ × StdinWord)) (posted posted_after : List Note) : Type 0 where
+-- the bytes of the words that were taken were written, in order, and one note posted for each that
+-- was written whole; the last word is a Close, or the one whose write failed
+pub record Writing (run : Run) (end : PumpEnd) (written written_after : Option (List ℕ))
+    (taken taken_after : List (ℕ × StdinWord)) (posted posted_after : List Note) : Type 0 where
   pub texts : List (ℕ × List ℕ)
   pub seat : ℕ
   pub word : StdinWord
@@ -44,10 +45,12 @@ pub record Writing (run : Run) (end : PumpEnd) (written written_after : Option (
   pub told : posted_after ≡ posted ++ replicate (length texts) (note.Wrote run)
 
 -- and the last note is that nothing more is written
-pub record Wrote (run : Run) (end : PumpEnd) (written written_after : Option (List ℕ)) (taken taken_after : List (ℕ × StdinWord)) (posted posted_after : List Note) : Type 0 where
+pub record Wrote (run : Run) (end : PumpEnd) (written written_after : Option (List ℕ))
+    (taken taken_after : List (ℕ × StdinWord)) (posted posted_after : List Note) : Type 0 where
   pub texts : List (ℕ × List ℕ)
   pub seat : ℕ
   pub word : StdinWord
   pub words : taken_after ≡ (taken ++ writes texts) ++ (seat, word) ∷ []
   pub bytes : EndsAt end word written written_after (joined texts)
-  pub told : posted_after ≡ (posted ++ replicate (length texts) (note.Wrote run)) ++ note.StdinEnd run ∷ []
+  pub told : posted_after ≡ (posted ++ replicate (length texts) (note.Wrote run))
+      ++ note.StdinEnd run ∷ []

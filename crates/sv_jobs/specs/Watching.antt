@@ -20,7 +20,8 @@ end_of (Ok how) = Ended
 end_of (Err failed) = Failed
 
 -- the waiter gave one answer, and that is the one note
-pub record Watched {W : Type 0} (answers : W → Result How call.Failed → W → Type 0) (run : Run) (end : PumpEnd) (waiter waiter_after : W) (notes notes_after : List Note) : Type 0 where
+pub record Watched {W : Type 0} (answers : W → Result How call.Failed → W → Type 0) (run : Run)
+    (end : PumpEnd) (waiter waiter_after : W) (notes notes_after : List Note) : Type 0 where
   pub answer : Result How call.Failed
   pub answered : answers waiter answer waiter_after
   pub posted : notes_after ≡ notes ++ Exit run (how_of answer) ∷ []

@@ -7,7 +7,7 @@ ghost use Rattle.sv_out.specs.Faults.{RisesWhere};
 
 use crate::ending::post_end;
 use crate::notes::Note;
-use crate::reading::{Reading, read_piece};
+use crate::reading::{ReadResult, read_piece};
 use crate::room::Room;
 use std::alloc::Global;
 use std::sync::Wait;
@@ -58,10 +58,10 @@ fn pump_pieces<S: Source, R: Wait>(
     let mut room = Room::first();
     for _ in rt.forever() {
         match read_piece(alloc, source, &mut room) {
-            Reading::Piece(piece) => poster.post(rt, Note::Out(run, stream, piece)),
-            Reading::End => return PumpEnd::Ended,
-            Reading::Failed => return PumpEnd::Failed,
-            Reading::OutOfMemory => return PumpEnd::OutOfMemory,
+            ReadResult::Piece(piece) => poster.post(rt, Note::Out(run, stream, piece)),
+            ReadResult::End => return PumpEnd::Ended,
+            ReadResult::Failed => return PumpEnd::Failed,
+            ReadResult::OutOfMemory => return PumpEnd::OutOfMemory,
         }
     }
     unreachable!()

@@ -12,7 +12,7 @@ use sv_out::source::Source;
 
 /// What came of a read.
 #[derive(Debug, Drop)]
-pub(crate) enum Reading {
+pub(crate) enum ReadResult {
     Piece(Piece),
     /// The end; nothing was read.
     End,
@@ -23,41 +23,41 @@ pub(crate) enum Reading {
 }
 
 /// Reads a piece of a source. The memory is taken first, so that no byte is lost for want of it.
-pub(crate) fn read_piece<S: Source>(alloc: Global, source: &mut S, room: &mut Room) -> Reading
+pub(crate) fn read_piece<S: Source>(alloc: Global, source: &mut S, room: &mut Room) -> ReadResult
     ensures bytes { Consumes (S.left source.old) (S.left source.new) (bytes_of result) }
-    ensures end { result ≡ Reading.End → IsAtEnd (S.left source.new) }
+    ensures end { result ≡ ReadResult.End → IsAtEnd (S.left source.new) }
     ensures cause { RisesWhere (S.faults source.old) (S.faults source.new)
-        (result ≡ Reading.Failed) }
+        (result ≡ ReadResult.Failed) }
 {
     let Ok(mut bytes) = Vec::from_elem(alloc, 0u8, room.bytes()) else {
-        return Reading::OutOfMemory;
+        return ReadResult::OutOfMemory;
     };
     let Ok(count) = source.read(bytes.as_mut_slice()) else {
-        return Reading::Failed;
+        return ReadResult::Failed;
     };
     room.read(count);
     bytes.truncate(count);
     match Piece::new(bytes) {
-        Some(piece) => Reading::Piece(piece),
-        None => Reading::End,
+        Some(piece) => ReadResult::Piece(piece),
+        None => ReadResult::End,
     }
 }
 
 /// Reads a piece of a link, likewise.
-pub(crate) fn hear_piece<K: Link>(alloc: Global, link: &mut K, room: &mut Room) -> Reading
+pub(crate) fn hear_piece<K: Link>(alloc: Global, link: &mut K, room: &mut Room) -> ReadResult
     ensures told { K.told link.new ≡ option_map (heard_as result) (K.told link.old) }
-    ensures cause { RisesWhere (K.faults link.old) (K.faults link.new) (result ≡ Reading.Failed) }
+    ensures cause { RisesWhere (K.faults link.old) (K.faults link.new) (result ≡ ReadResult.Failed) }
 {
     let Ok(mut bytes) = Vec::from_elem(alloc, 0u8, room.bytes()) else {
-        return Reading::OutOfMemory;
+        return ReadResult::OutOfMemory;
     };
     let Ok(count) = link.read(bytes.as_mut_slice()) else {
-        return Reading::Failed;
+        return ReadResult::Failed;
     };
     room.read(count);
     bytes.truncate(count);
     match Piece::new(bytes) {
-        Some(piece) => Reading::Piece(piece),
-        None => Reading::End,
+        Some(piece) => ReadResult::Piece(piece),
+        None => ReadResult::End,
     }
 }

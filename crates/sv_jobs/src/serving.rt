@@ -6,7 +6,7 @@ ghost use Rattle.sv_out.specs.Faults.{RisesWhere};
 
 use crate::ending::post_end;
 use crate::notes::{LinkWord, Note};
-use crate::reading::{Reading, hear_piece};
+use crate::reading::{ReadResult, hear_piece};
 use crate::room::Room;
 use std::alloc::Global;
 use std::sync::Wait;
@@ -65,10 +65,10 @@ fn serve_words<K: Link, R: Wait>(
                 poster.post(rt, Note::Sent(number));
             }
             LinkWord::More => match hear_piece(alloc, link, &mut room) {
-                Reading::Piece(piece) => poster.post(rt, Note::Piece(number, piece)),
-                Reading::End => return PumpEnd::Ended,
-                Reading::Failed => return PumpEnd::Failed,
-                Reading::OutOfMemory => return PumpEnd::OutOfMemory,
+                ReadResult::Piece(piece) => poster.post(rt, Note::Piece(number, piece)),
+                ReadResult::End => return PumpEnd::Ended,
+                ReadResult::Failed => return PumpEnd::Failed,
+                ReadResult::OutOfMemory => return PumpEnd::OutOfMemory,
             },
         }
     }

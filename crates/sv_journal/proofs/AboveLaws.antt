@@ -9,15 +9,15 @@ use Rattle.std.specs.declared.cmp.Ordering.TheVariants.{Less, Equal, Greater}
 use Rattle.std.proofs.lemmas.Bool.{false≢true, cases_lt, cases_eq, lt-ltb, le-ltb, eq-eqb, ne_eqb, eqb-true, and_parts, and_from, ltb-true, leb-true, le-leb}
 use Rattle.sv_out.specs.Rising.{is_before, rise}
 use Rattle.sv_journal.specs.Spelling.{byte_spelling, bytes_spelling, token}
-use Rattle.sv_journal.specs.Tokens.{allows, after}
+use Rattle.sv_letters.specs.Letters.{allows, after}
 use Rattle.sv_journal.specs.Escapes.{byte_of}
 use Rattle.sv_journal.specs.Reading.{◌>>=◌, with_first, with_item}
 use Rattle.sv_journal.specs.Reading.Stage.{Between}
 use Rattle.sv_journal.specs.JournalLine.{AreTexts, then_token}
 use Rattle.sv_journal.specs.Names.{text_byte, any_from, above_from, name_at, spaced_name_at, names_at}
-use Rattle.sv_journal.specs.declared.token.Letters.TheVariants.{OfText}
-use Rattle.sv_journal.specs.declared.token.Awaits.{Awaits}
-use Rattle.sv_journal.specs.declared.token.Awaits.TheVariants.{Character}
+use Rattle.sv_letters.specs.declared.letters.Letters.TheVariants.{OfText}
+use Rattle.sv_letters.specs.declared.letters.Awaits.{Awaits}
+use Rattle.sv_letters.specs.declared.letters.Awaits.TheVariants.{Character}
 use Rattle.sv_journal.proofs.Escapes.{OneTaken, byte_takes, byte_again}
 use Rattle.sv_journal.proofs.Letters.{accepts}
 use Rattle.sv_journal.proofs.LineParts.{bind_then, word_then_takes}

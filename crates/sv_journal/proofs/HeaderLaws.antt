@@ -14,8 +14,8 @@ use Rattle.sv_journal.specs.declared.header.Header.TheVariants as header_is
 use Rattle.sv_journal.specs.declared.header.Program.{Program}
 use Rattle.sv_journal.specs.declared.words.Opening.{Opening}
 use Rattle.sv_journal.specs.declared.words.Opening.TheVariants as opening_is
-use Rattle.sv_journal.specs.declared.token.Letters.{Letters}
-use Rattle.sv_journal.specs.declared.token.Letters.TheVariants.{OfText, OfName, OfBytes}
+use Rattle.sv_letters.specs.declared.letters.Letters.{Letters}
+use Rattle.sv_letters.specs.declared.letters.Letters.TheVariants.{OfText, OfName, OfBytes}
 use Rattle.sv_journal.specs.Limits.{number_limit, run_limit, program_limit}
 use Rattle.sv_journal.specs.Spelling.{token, comma_list}
 use Rattle.sv_journal.specs.ProgramNames.{IsName}

@@ -26,8 +26,8 @@ use Rattle.sv_journal.specs.declared.words.Ending.{Ending}
 use Rattle.sv_journal.specs.declared.words.Ending.TheVariants as ending_is
 use Rattle.sv_journal.specs.declared.words.Answer.{Answer}
 use Rattle.sv_journal.specs.declared.words.Answer.TheVariants as answer_is
-use Rattle.sv_journal.specs.declared.token.Letters.{Letters}
-use Rattle.sv_journal.specs.declared.token.Letters.TheVariants.{OfText, OfBytes}
+use Rattle.sv_letters.specs.declared.letters.Letters.{Letters}
+use Rattle.sv_letters.specs.declared.letters.Letters.TheVariants.{OfText, OfBytes}
 use Rattle.sv_journal.specs.Limits.{number_limit, run_limit}
 use Rattle.sv_journal.specs.Spelling.{token}
 use Rattle.sv_journal.specs.JournalLine.{IsPiece, AreTexts, then_token, how_words, FitsHow, stream_word, stream_end_word, side_word, input_line, FitsInput}

@@ -3,7 +3,7 @@ use Rattle.std.proofs.Common.{◌≡◌, ℕ, eqb, List, [], ◌∷◌, ◌++◌
 use Rattle.std.proofs.lemmas.Bool.{eqb-true}
 use Rattle.sv_journal.specs.Reading.{◌>>=◌, end_at, word_at, keyword_or, keyword_from, keyword_at, number_at, token_at, last_token_at}
 use Rattle.sv_journal.specs.ReadingLines.{word_then, keyword_then, number_then, token_then, last_token_then}
-use Rattle.sv_journal.specs.declared.token.Letters.{Letters}
+use Rattle.sv_letters.specs.declared.letters.Letters.{Letters}
 use Rattle.sv_journal.proofs.Results.{ok_value, ok_pair}
 use Rattle.sv_journal.proofs.TokenLaws.{chosen, TokenTaken, token_at_takes}
 use Rattle.sv_journal.proofs.NumberLaws.{IsLimit, NumberTaken, number_takes}

@@ -5,10 +5,11 @@ use Rattle.std.specs.Prelude.{chars}
 use Rattle.std.specs.List.{list_all}
 use Rattle.sv_journal.specs.JournalLine.{is_byte, AreBytes}
 use Rattle.sv_journal.specs.ProgramNames.{IsName}
-use Rattle.sv_journal.specs.Tokens.{is_letter}
-use Rattle.sv_journal.specs.declared.token.Letters.TheVariants.{OfText, OfName, OfBytes}
-use Rattle.sv_journal.specs.declared.token.Awaits.TheVariants.{Character}
-use Rattle.sv_journal.proofs.Letters.{accepts, read_accepted, read_utf8, read_letters, accepts_read}
+use Rattle.sv_letters.specs.Letters.{is_letter}
+use Rattle.sv_letters.specs.declared.letters.Letters.TheVariants.{OfText, OfName, OfBytes}
+use Rattle.sv_letters.specs.declared.letters.Awaits.TheVariants.{Character}
+use Rattle.sv_letters.proofs.LetterLaws.{read_utf8, read_letters}
+use Rattle.sv_journal.proofs.Letters.{accepts, read_accepted, accepts_read}
 use Rattle.sv_journal.specs.Reading.{token_at}
 use Rattle.sv_journal.proofs.TokenLaws.{Good, token_at_takes}
 

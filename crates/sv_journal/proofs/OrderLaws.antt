@@ -14,7 +14,7 @@ use Rattle.sv_journal.specs.declared.order_words.OrderWord.{OrderWord}
 use Rattle.sv_journal.specs.declared.order_words.OrderWord.TheVariants as word_is
 use Rattle.sv_journal.specs.declared.order_words.Receiver.{Receiver}
 use Rattle.sv_journal.specs.declared.order_words.Receiver.TheVariants as receiver_is
-use Rattle.sv_journal.specs.declared.token.Letters.TheVariants.{OfBytes}
+use Rattle.sv_letters.specs.declared.letters.Letters.TheVariants.{OfBytes}
 use Rattle.sv_journal.specs.Limits.{number_limit, run_limit}
 use Rattle.sv_journal.specs.JournalLine.{AreBytes, then_token, then_pair, counted_words, counted_pairs, order_line}
 use Rattle.sv_journal.specs.Orders.{FitsSpawn, FitsOrder}

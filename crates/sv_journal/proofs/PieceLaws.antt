@@ -5,12 +5,13 @@ use Rattle.std.proofs.lemmas.Bool.{cases_Bool, lt-ltb, ltb-true, and_parts, and_
 use Rattle.sv_base.specs.Limits.{piece_limit}
 use Rattle.sv_journal.specs.JournalLine.{is_byte, IsPiece}
 use Rattle.sv_journal.specs.Spelling.{stands_for_itself, hex_digit, byte_spelling, bytes_spelling, token}
-use Rattle.sv_journal.specs.Tokens.{allows, escapes, is_hex, hex_value, may_begin, is_first_digit, is_second_digit}
+use Rattle.sv_journal.specs.Tokens.{escapes, is_hex, hex_value, may_begin, is_first_digit, is_second_digit}
+use Rattle.sv_letters.specs.Letters.{allows}
 use Rattle.sv_journal.specs.Reading.{◌>>=◌, second_digit_at, escape_at}
 use Rattle.sv_journal.specs.Pieces.{byte_at, with_bytes, bytes_at, piece_at}
 use Rattle.sv_journal.specs.ReadingLines.{last_piece_then}
-use Rattle.sv_journal.specs.declared.token.Letters.TheVariants.{OfBytes}
-use Rattle.sv_journal.specs.declared.token.Awaits.TheVariants.{Character}
+use Rattle.sv_letters.specs.declared.letters.Letters.TheVariants.{OfBytes}
+use Rattle.sv_letters.specs.declared.letters.Awaits.TheVariants.{Character}
 use Rattle.sv_journal.proofs.LineParts.{bind_then}
 use Rattle.sv_journal.proofs.Results.{ok_value, ok_pair}
 use Rattle.sv_journal.proofs.TokenLaws.{chosen, choose_true, hex_below, hex_again, itself_small, spelled_itself, spelled_escaped, digit_is_hex, value_of_digit, first_again}

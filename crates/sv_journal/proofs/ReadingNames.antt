@@ -5,15 +5,15 @@ use Rattle.std.proofs.lemmas.Bool.{eq-eqb, ne_eqb}
 use Rattle.std.proofs.lemmas.List.{take_all}
 use Rattle.sv_out.specs.Files.{AreRising}
 use Rattle.sv_out.proofs.NamesInOrder.{rise_rising}
-use Rattle.sv_journal.specs.Tokens.{after}
+use Rattle.sv_letters.specs.Letters.{after}
 use Rattle.sv_journal.specs.Escapes.{byte_of}
 use Rattle.sv_journal.specs.Reading.{Stops, ◌>>=◌, with_first, with_front, with_item}
 use Rattle.sv_journal.specs.Names.{text_byte, any_from, above_from, spaced_name_at, names_at}
 use Rattle.sv_journal.specs.OrderReading.{with_items}
 use Rattle.sv_journal.specs.declared.stop.Stop.{Stop}
-use Rattle.sv_journal.specs.declared.token.Letters.TheVariants.{OfText}
-use Rattle.sv_journal.specs.declared.token.Awaits.{Awaits}
-use Rattle.sv_journal.specs.declared.token.Awaits.TheVariants.{Character}
+use Rattle.sv_letters.specs.declared.letters.Letters.TheVariants.{OfText}
+use Rattle.sv_letters.specs.declared.letters.Awaits.{Awaits}
+use Rattle.sv_letters.specs.declared.letters.Awaits.TheVariants.{Character}
 use Rattle.sv_journal.proofs.AboveLaws.{above_takes, names_take}
 use Rattle.sv_journal.proofs.Counted.{joins, stops_so}
 use Rattle.sv_journal.proofs.Names.{text_good}

@@ -5,23 +5,24 @@ use Rattle.std.proofs.lemmas.Bool.{cases_Bool, cases_lt, le-ltb, le-leb, lt-leb,
 use Rattle.sv_out.specs.declared.input.Input.TheVariants as input_is
 use Rattle.sv_journal.specs.Limits.{number_limit}
 use Rattle.sv_journal.specs.Spelling.{stands_for_itself, byte_spelling, bytes_spelling}
-use Rattle.sv_journal.specs.Tokens.{allows, after}
+use Rattle.sv_letters.specs.Letters.{allows, after}
 use Rattle.sv_journal.specs.Escapes.{byte_of}
 use Rattle.sv_journal.specs.Reading.{◌>>=◌, word_at, token_from, with_first, with_item, end_at}
 use Rattle.sv_journal.specs.Reading.Stage.{Between}
 use Rattle.sv_journal.specs.ReadingLines.{word_then, names_line_at}
 use Rattle.sv_journal.specs.Names.{text_byte, any_from, above_from, name_at, spaced_name_at, names_at}
-use Rattle.sv_journal.specs.declared.token.Letters.{Letters}
-use Rattle.sv_journal.specs.declared.token.Letters.TheVariants.{OfText}
-use Rattle.sv_journal.specs.declared.token.Awaits.{Awaits}
-use Rattle.sv_journal.specs.declared.token.Awaits.TheVariants.{Character, Continuation}
+use Rattle.sv_letters.specs.declared.letters.Letters.{Letters}
+use Rattle.sv_letters.specs.declared.letters.Letters.TheVariants.{OfText}
+use Rattle.sv_letters.specs.declared.letters.Awaits.{Awaits}
+use Rattle.sv_letters.specs.declared.letters.Awaits.TheVariants.{Character, Private, Continuation}
 use Rattle.sv_journal.proofs.AboveLaws.{from_least, to_least}
 use Rattle.sv_journal.proofs.Escapes.{SomeEscape, byte_takes, byte_again, byte_cut}
 use Rattle.sv_journal.proofs.InputLaws.{number_fits}
 use Rattle.sv_journal.proofs.Letters.{accepts}
 use Rattle.sv_journal.proofs.Sharp.{Failure, Sharp, any, plain, plain_no_digit, plain_ends, err_value, behind, sharp_end, sharp_word, sharp_number}
 use Rattle.sv_journal.proofs.SharpOrders.{sharp_same, bind_twice}
-use Rattle.sv_journal.proofs.SharpToken.{IsGood, Ending, after_good, ending, token_breaks, sharp_good}
+use Rattle.sv_letters.proofs.LetterLaws.{IsOpen, after_open}
+use Rattle.sv_journal.proofs.SharpToken.{Ending, ending, token_breaks, sharp_good}
 use Rattle.sv_journal.proofs.TokenLaws.{accepts_one, token_takes, token_closes, bytes_again, closes, ends_closes}
 
 -- one of some bytes, and then what reads the rest
@@ -79,7 +80,7 @@ closes_head letters (c ∷ front) b more other e = e
 abbrev SharpBehind : {X : Type 0} → Awaits → (List ℕ → List ℕ → Result X ℕ) → Type 0
 SharpBehind awaits next = (v : List ℕ) → accepts OfText awaits v ≡ true → Sharp (next v) plain
 
-sharp_rest : {X : Type 0} (awaits : Awaits) (next : List ℕ → List ℕ → Result X ℕ) → IsGood awaits → SharpBehind awaits next → Sharp (rest_then awaits next) any
+sharp_rest : {X : Type 0} (awaits : Awaits) (next : List ℕ → List ℕ → Result X ℕ) → IsOpen awaits → SharpBehind awaits next → Sharp (rest_then awaits next) any
 sharp_rest {X} awaits next g sharp = record {
   sample = bytes_spelling one.v ++ first.sample;
   value = first.value;
@@ -146,8 +147,16 @@ lead_escape least a =
     ] in
     record { b = 244; small = omega arith; good = and_from (text_byte least Character 244) true (to_least least Character 244 low refl) refl }
 
-least_escape : (least : ℕ) (awaits : Awaits) → IsGood awaits → least < 256 → allows OfText awaits least ≡ true → SomeEscape (text_byte least awaits)
+least_escape : (least : ℕ) (awaits : Awaits) → IsOpen awaits → least < 256 → allows OfText awaits least ≡ true → SomeEscape (text_byte least awaits)
 least_escape least Character g small a = lead_escape least a
+least_escape least Private g small a =
+    let above = leb-true 128 least (and_parts (leb 128 least) (leb least 191) a).0 in
+    record {
+      b = least;
+      small = small;
+      good = and_from (text_byte least Private least) (not (stands_for_itself least)) (to_least least Private least (omega arith) a)
+          (rw (lt-leb least 126 (omega arith), le-leb 33 least (omega arith)) refl);
+    }
 least_escape least (Continuation low high more) g small a =
     let p = and_parts (leb low least) (leb least high) a in
     let begin = g.0 in
@@ -161,14 +170,15 @@ least_escape least (Continuation low high more) g small a =
 
 ended_escape : (awaits : Awaits) → accepts OfText awaits [] ≡ true → SomeEscape (text_byte 0 awaits)
 ended_escape Character a = record { b = 37; small = omega arith; good = refl }
+ended_escape Private a = cc a
 ended_escape (Continuation low high more) a = cc a
 
-sharp_above : {X : Type 0} (left : List ℕ) (awaits : Awaits) (next : List ℕ → List ℕ → Result X ℕ) → IsGood awaits → accepts OfText awaits left ≡ true → SharpBehind awaits next → Sharp (above_then left awaits next) any
+sharp_above : {X : Type 0} (left : List ℕ) (awaits : Awaits) (next : List ℕ → List ℕ → Result X ℕ) → IsOpen awaits → accepts OfText awaits left ≡ true → SharpBehind awaits next → Sharp (above_then left awaits next) any
 sharp_above {X} [] awaits next g a sharp =
     sharp_same (above_then [] awaits next) (byte_then (text_byte 0 awaits) (λ x. rest_then (after OfText awaits x) (λ v. next (x ∷ v)))) any
     (λ bs. byte_first (any_from awaits) next (byte_of (text_byte 0 awaits) bs))
     (sharp_byte (text_byte 0 awaits) (λ x. rest_then (after OfText awaits x) (λ v. next (x ∷ v))) (ended_escape awaits a) (λ x small may.
-    sharp_rest (after OfText awaits x) (λ v. next (x ∷ v)) (after_good OfText awaits x) (λ v good. sharp (x ∷ v) (accepts_one OfText awaits x v small (from_least 0 awaits x may).1 good))))
+    sharp_rest (after OfText awaits x) (λ v. next (x ∷ v)) (after_open OfText awaits x) (λ v good. sharp (x ∷ v) (accepts_one OfText awaits x v small (from_least 0 awaits x may).1 good))))
 sharp_above {X} (same ∷ left) awaits next g a sharp =
     let p = and_parts (ltb same 256 && allows OfText awaits same) (accepts OfText (after OfText awaits same) left) a in
     let q = and_parts (ltb same 256) (allows OfText awaits same) p.0 in
@@ -181,12 +191,12 @@ sharp_above {X} (same ∷ left) awaits next g a sharp =
       | inl is ↦
           sharp_same (λ bs. goes x bs >>= (λ s. next (x ∷ s.0) s.1)) (above_then left (after OfText awaits x) (λ v. next (x ∷ v))) any
           (λ bs. ap (λ (t : Bool). cond t (above_from left (after OfText awaits x) bs) (any_from awaits x bs) >>= (λ s. next (x ∷ s.0) s.1)) is)
-          (sharp_above left (after OfText awaits x) (λ v. next (x ∷ v)) (after_good OfText awaits x)
+          (sharp_above left (after OfText awaits x) (λ v. next (x ∷ v)) (after_open OfText awaits x)
           (ap (λ (y : ℕ). accepts OfText (after OfText awaits y) left) (eqb-true x same is) ∙ p.1) further)
       | inr is ↦
           sharp_same (λ bs. goes x bs >>= (λ s. next (x ∷ s.0) s.1)) (rest_then (after OfText awaits x) (λ v. next (x ∷ v))) any
           (λ bs. ap (λ (t : Bool). cond t (above_from left (after OfText awaits x) bs) (any_from awaits x bs) >>= (λ s. next (x ∷ s.0) s.1)) is)
-          (sharp_rest (after OfText awaits x) (λ v. next (x ∷ v)) (after_good OfText awaits x) further)
+          (sharp_rest (after OfText awaits x) (λ v. next (x ∷ v)) (after_open OfText awaits x) further)
     ]))
 
 -- names

@@ -11,8 +11,8 @@ use Rattle.sv_journal.specs.declared.order_words.OrderWord.{OrderWord}
 use Rattle.sv_journal.specs.declared.order_words.OrderWord.TheVariants as word_is
 use Rattle.sv_journal.specs.declared.order_words.Receiver.{Receiver}
 use Rattle.sv_journal.specs.declared.order_words.Receiver.TheVariants as receiver_is
-use Rattle.sv_journal.specs.declared.token.Letters.{Letters}
-use Rattle.sv_journal.specs.declared.token.Letters.TheVariants.{OfText, OfBytes}
+use Rattle.sv_letters.specs.declared.letters.Letters.{Letters}
+use Rattle.sv_letters.specs.declared.letters.Letters.TheVariants.{OfText, OfBytes}
 use Rattle.sv_journal.specs.Limits.{number_limit, run_limit}
 use Rattle.sv_journal.specs.JournalLine.{order_line}
 use Rattle.sv_journal.specs.Orders.{FitsOrder}

@@ -3,12 +3,13 @@ use Rattle.std.proofs.Common.{◌≡◌, ℕ, zero, suc, ◌/◌, ◌%◌, ◌<�
 use Rattle.std.proofs.lemmas.Bool.{and_parts, eqb-true, not-true}
 use Rattle.sv_base.specs.Limits.{piece_limit}
 use Rattle.sv_journal.specs.Spelling.{stands_for_itself, hex_digit, byte_spelling}
-use Rattle.sv_journal.specs.Tokens.{allows, is_hex, hex_value, may_begin, is_first_digit, is_second_digit}
+use Rattle.sv_journal.specs.Tokens.{is_hex, hex_value, may_begin, is_first_digit, is_second_digit}
+use Rattle.sv_letters.specs.Letters.{allows}
 use Rattle.sv_journal.specs.Reading.{◌>>=◌, second_digit_at, escape_at}
 use Rattle.sv_journal.specs.Pieces.{byte_at, with_bytes, bytes_at, piece_at}
 use Rattle.sv_journal.specs.ReadingLines.{last_piece_then}
-use Rattle.sv_journal.specs.declared.token.Letters.TheVariants.{OfBytes}
-use Rattle.sv_journal.specs.declared.token.Awaits.TheVariants.{Character}
+use Rattle.sv_letters.specs.declared.letters.Letters.TheVariants.{OfBytes}
+use Rattle.sv_letters.specs.declared.letters.Awaits.TheVariants.{Character}
 use Rattle.sv_journal.proofs.PieceLaws.{byte_again, byte_takes, byte_some, step_ok, step_err, nothing_left, piece_cons}
 use Rattle.sv_journal.proofs.Results.{never}
 use Rattle.sv_journal.proofs.Sharp.{Failure, Sharp, any, err_value, cons_head, at_nothing}

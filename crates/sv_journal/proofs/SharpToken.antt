@@ -1,52 +1,23 @@
 -- A reader of a token stops at the first byte with which no good text goes on.
 use Rattle.std.proofs.Common.{◌≡◌, ℕ, zero, suc, ◌+◌, ◌*◌, ◌/◌, ◌%◌, ◌<◌, ◌≤◌, Bool, true, false, not, cond, ◌&&◌, eqb, ltb, List, [], ◌∷◌, ◌⊎◌, ◌++◌, length, get_or, drop, Result, Ok, Err, inl, inr, refl, sym, ap, ◌∙◌, subst, arith, append_assoc}
 use Rattle.std.specs.List.{list_any, list_all}
-use Rattle.std.proofs.lemmas.Bool.{false≢true, cases_Bool, cases_eq, lt-ltb, le-leb, lt-leb, eq-eqb, ne_eqb, eqb-true, ltb-true, and_parts, or_cases, not-true}
+use Rattle.std.proofs.lemmas.Bool.{false≢true, lt-ltb, le-leb, lt-leb, eqb-true, ltb-true, and_parts, or_cases, not-true}
 use Rattle.sv_journal.specs.Spelling.{stands_for_itself, hex_digit, byte_spelling, bytes_spelling, token}
-use Rattle.sv_journal.specs.Tokens.{whole_below, allows, second_of_two, after, escapes, is_hex, hex_value, sixteen, may_begin, is_first_digit, is_second_digit}
+use Rattle.sv_journal.specs.Tokens.{escapes, is_hex, hex_value, sixteen, may_begin, is_first_digit, is_second_digit}
+use Rattle.sv_letters.specs.Letters.{allows, after}
 use Rattle.sv_journal.specs.Escapes.{is_escape, begins_escape}
 use Rattle.sv_journal.specs.Reading.{◌>>=◌, Stage, closed, token_from, with_first, is_lone, nonempty, token_at}
 use Rattle.sv_journal.specs.Reading.Stage.{Between, Percent, Digit}
 use Rattle.sv_journal.specs.ReadingLines.{token_then}
-use Rattle.sv_journal.specs.declared.token.Letters.{Letters}
-use Rattle.sv_journal.specs.declared.token.Letters.TheVariants.{OfText, OfName, OfBytes}
-use Rattle.sv_journal.specs.declared.token.Awaits.{Awaits}
-use Rattle.sv_journal.specs.declared.token.Awaits.TheVariants.{Character, Continuation}
-use Rattle.sv_journal.proofs.Letters.{accepts, second_128}
+use Rattle.sv_letters.specs.declared.letters.Letters.{Letters}
+use Rattle.sv_letters.specs.declared.letters.Letters.TheVariants.{OfText, OfName, OfBytes, OfXml}
+use Rattle.sv_letters.specs.declared.letters.Awaits.{Awaits}
+use Rattle.sv_letters.specs.declared.letters.Awaits.TheVariants.{Character, Private, Continuation}
+use Rattle.sv_letters.proofs.LetterLaws.{IsOpen, after_open}
+use Rattle.sv_journal.proofs.Letters.{accepts}
 use Rattle.sv_journal.proofs.Results.{never}
 use Rattle.sv_journal.proofs.Sharp.{Failure, Sharp, any, err_value, at_head, at_nothing, behind}
 use Rattle.sv_journal.proofs.TokenLaws.{before, awaited, chosen, Good, good_nonempty, hex_below, hex_again, spelled_itself, spelled_escaped, accepts_one, itself_small, with_first_ok, choose_true, pick, closed_there, may_follow, ends, token_before, token_again, token_follows, token_at_takes}
-
-abbrev pub IsGood : Awaits → Type 0
-IsGood Character = Unit {0}
-IsGood (Continuation low high more) = (128 ≤ low) × (low ≤ high) × (high ≤ 191)
-
-good_choice : (t : Bool) (x y : Awaits) → IsGood x → IsGood y → IsGood (cond t x y)
-good_choice true x y g h = g
-good_choice false x y g h = h
-
-second_191 : (letters : Letters) (b : ℕ) → second_of_two letters b ≤ 191
-second_191 OfText b = omega arith
-second_191 OfBytes b = omega arith
-second_191 OfName b = elim (cases_Bool (eqb b 194)) [ inl e ↦ rw e (omega arith) | inr e ↦ rw e (omega arith) ]
-
--- two bounds that two leads set
-bounds : (b m n low high : ℕ) (more : ℕ) → (m ≡ n → ⊥) → 128 ≤ low → low ≤ 191 → 128 ≤ high → high ≤ 191 → IsGood (Continuation (cond (eqb b m) low 128) (cond (eqb b n) high 191) more)
-bounds b m n low high more apart a b1 c d = elim (cases_eq b m) [
-  | inl e ↦ rw (eq-eqb b m e, ne_eqb b n (λ f. apart (sym e ∙ f))) (omega arith, omega arith, omega arith)
-  | inr e ↦ elim (cases_Bool (eqb b n)) [
-    | inl f ↦ rw (ne_eqb b m e, f) (omega arith, omega arith, omega arith)
-    | inr f ↦ rw (ne_eqb b m e, f) (omega arith, omega arith, omega arith)
-  ]
-]
-
-pub after_good : (letters : Letters) (awaits : Awaits) (b : ℕ) → IsGood (after letters awaits b)
-after_good letters Character b =
-    good_choice (ltb b (whole_below letters)) _ _ tt (good_choice (ltb b 224) _ _ (second_128 letters b, second_191 letters b, omega arith)
-    (good_choice (ltb b 240) _ _ (bounds b 224 237 160 159 1 (λ e. omega arith) (omega arith) (omega arith) (omega arith) (omega arith))
-    (bounds b 240 244 144 143 2 (λ e. omega arith) (omega arith) (omega arith) (omega arith) (omega arith))))
-after_good letters (Continuation low high zero) b = tt
-after_good letters (Continuation low high (suc more)) b = (omega arith, omega arith, omega arith)
 
 pub record Ending (letters : Letters) (awaits : Awaits) : Type 0 where
   pub v : List ℕ
@@ -59,8 +30,9 @@ end_more letters (suc more) low high a b c =
     record { v = low ∷ r.v; good = rw (lt-ltb low 256 (omega arith), le-leb low low (omega arith), le-leb low high b) r.good }
 
 -- how the bytes may end
-pub ending : (letters : Letters) (awaits : Awaits) → IsGood awaits → Ending letters awaits
+pub ending : (letters : Letters) (awaits : Awaits) → IsOpen awaits → Ending letters awaits
 ending letters Character g = record { v = []; good = refl }
+ending letters Private g = record { v = 128 ∷ 128 ∷ []; good = refl }
 ending letters (Continuation low high more) g = end_more letters more low high g.0 g.1 g.2
 
 pub record Escaped (comes : ℕ → Bool) (high : ℕ) : Type 0 where
@@ -94,14 +66,16 @@ percent_letter : (letters : Letters) → escapes letters Character 37 ≡ true
 percent_letter OfText = refl
 percent_letter OfName = refl
 percent_letter OfBytes = refl
+percent_letter OfXml = refl
 
 record AnyEscape (letters : Letters) (awaits : Awaits) : Type 0 where
   b : ℕ
   small : b < 256
   good : escapes letters awaits b ≡ true
 
-any_escape : (letters : Letters) (awaits : Awaits) → IsGood awaits → AnyEscape letters awaits
+any_escape : (letters : Letters) (awaits : Awaits) → IsOpen awaits → AnyEscape letters awaits
 any_escape letters Character g = record { b = 37; small = omega arith; good = percent_letter letters }
+any_escape letters Private g = record { b = 128; small = omega arith; good = refl }
 any_escape letters (Continuation low high more) g =
     let a = g.0 in
     let b = g.1 in
@@ -109,8 +83,8 @@ any_escape letters (Continuation low high more) g =
     record { b = low; small = omega arith; good = rw (le-leb low low (omega arith), le-leb low high b, lt-leb low 126 (omega arith), le-leb 33 low (omega arith)) refl }
 
 abbrev pub IsGoodStage : Letters → Stage → Type 0
-IsGoodStage letters (Between awaits) = IsGood awaits
-IsGoodStage letters (Percent awaits) = IsGood awaits
+IsGoodStage letters (Between awaits) = IsOpen awaits
+IsGoodStage letters (Percent awaits) = IsOpen awaits
 IsGoodStage letters (Digit awaits high) = (high < 16) × (may_begin letters awaits high ≡ true)
 
 -- how a text goes on from this stage
@@ -123,7 +97,7 @@ record Completion (letters : Letters) (stage : Stage) : Type 0 where
 with_escape : (letters : Letters) (awaits : Awaits) (b : ℕ) → b < 256 → escapes letters awaits b ≡ true → Completion letters (Percent awaits)
 with_escape letters awaits b small e =
     let p = and_parts (allows letters awaits b) (not (stands_for_itself b)) e in
-    let r = ending letters (after letters awaits b) (after_good letters awaits b) in
+    let r = ending letters (after letters awaits b) (after_open letters awaits b) in
     record {
       tail = hex_digit (b / 16) ∷ hex_digit (b % 16) ∷ bytes_spelling r.v;
       v = b ∷ r.v;
@@ -137,7 +111,7 @@ completion letters (Percent awaits) g = let b = any_escape letters awaits g in w
 completion letters (Digit awaits high) g =
     let b = escaped (allows letters awaits) high g.0 g.1 in
     let p = and_parts (allows letters awaits b.b) (not (stands_for_itself b.b)) b.good in
-    let r = ending letters (after letters awaits b.b) (after_good letters awaits b.b) in
+    let r = ending letters (after letters awaits b.b) (after_open letters awaits b.b) in
     record {
       tail = hex_digit (b.b % 16) ∷ bytes_spelling r.v;
       v = b.b ∷ r.v;
@@ -148,12 +122,14 @@ completion letters (Digit awaits high) g =
 -- a token is not refused before its first byte
 abbrev pub HasBegun : Stage → List ℕ → Type 0
 HasBegun (Between Character) front = 0 < length front
+HasBegun (Between Private) front = Unit {0}
 HasBegun (Between (Continuation low high more)) front = Unit {0}
 HasBegun (Percent awaits) front = Unit {0}
 HasBegun (Digit awaits high) front = Unit {0}
 
 begun : (awaits : Awaits) (b : ℕ) (front : List ℕ) → HasBegun (Between awaits) (b ∷ front)
 begun Character b front = omega arith
+begun Private b front = tt
 begun (Continuation low high more) b front = tt
 
 pub record Broken (letters : Letters) (stage : Stage) (bs : List ℕ) (left : ℕ) : Type 0 where
@@ -199,6 +175,7 @@ with_first_err x (Err l) left e = ap Err (err_value l left e)
 
 closed_err : (awaits : Awaits) (bs : List ℕ) (left : ℕ) → closed awaits bs ≡ Err left → (left ≡ length bs) × HasBegun (Between awaits) [] × ((other : List ℕ) → closed awaits other ≡ Err (length other))
 closed_err Character bs left e = absurd (never left ([], bs) (sym e))
+closed_err Private bs left e = (sym (err_value (length bs) left e), tt, λ other. refl)
 closed_err (Continuation low high more) bs left e = (sym (err_value (length bs) left e), tt, λ other. refl)
 
 pub choose_false : {X : Type 0} (t : Bool) (x y : X) → t ≡ false → cond t x y ≡ y
@@ -229,7 +206,7 @@ token_breaks letters (Between awaits) (b ∷ bs) left g e = elim (chosen (eqb b 
     | inl q ↦
         let s = and_parts (stands_for_itself b) (allows letters awaits b) q.0 in
         let next = after letters awaits b in
-        let f = token_breaks letters (Between next) bs left (after_good letters awaits b) (with_first_err b (token_from letters (Between next) bs) left q.1) in
+        let f = token_breaks letters (Between next) bs left (after_open letters awaits b) (with_first_err b (token_from letters (Between next) bs) left q.1) in
         let goes : (x : List ℕ) → token_from letters (Between awaits) (b ∷ x) ≡ with_first b (token_from letters (Between next) x) = λ x. pick (eqb b 37) (stands_for_itself b) (allows letters awaits b) _ _ _ p.0 s.0 s.1 in
         record {
           front = b ∷ f.front;
@@ -277,7 +254,7 @@ token_breaks letters (Digit awaits high) (d ∷ bs) left g e = elim (chosen (is_
       let low = hex_below d h.0 in
       let top = g.0 in
       let next = after letters awaits x in
-      let f = token_breaks letters (Between next) bs left (after_good letters awaits x) (with_first_err x (token_from letters (Between next) bs) left p.1) in
+      let f = token_breaks letters (Between next) bs left (after_open letters awaits x) (with_first_err x (token_from letters (Between next) bs) left p.1) in
       let goes : (y : List ℕ) → token_from letters (Digit awaits high) (d ∷ y) ≡ with_first x (token_from letters (Between next) y) = λ y. choose_true (is_second_digit letters awaits high d) _ _ p.0 in
       let first : x / 16 ≡ high = omega arith in
       let second : x % 16 ≡ hex_value d = omega arith in
@@ -305,6 +282,8 @@ lone_head OfText (c ∷ front) b more other = refl
 lone_head OfName front b more other = refl
 lone_head OfBytes [] b more other = refl
 lone_head OfBytes (c ∷ front) b more other = refl
+lone_head OfXml [] b more other = refl
+lone_head OfXml (c ∷ front) b more other = refl
 
 follows_head : (letters : Letters) (v front : List ℕ) (b : ℕ) (more other : List ℕ) → may_follow letters v (front ++ b ∷ more) ≡ true → may_follow letters v (front ++ b ∷ other) ≡ true
 follows_head letters [] front b more other e = sym (lone_head letters front b more other) ∙ e
@@ -353,6 +332,7 @@ tail_of a b xs ys e = ap (λ (l : List ℕ). drop 1 l) e
 sample_good : (letters : Letters) → Good letters (65 ∷ [])
 sample_good OfText = refl
 sample_good OfBytes = refl
+sample_good OfXml = refl
 sample_good OfName = (refl, omega arith)
 
 token_read : {X : Type 0} (letters : Letters) (h : List ℕ → List ℕ → Result X ℕ) (v rest : List ℕ) → Good letters v → may_follow letters v rest ≡ true → token_then letters h (token v ++ rest) ≡ h v rest

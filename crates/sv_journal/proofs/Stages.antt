@@ -2,12 +2,13 @@
 use Rattle.std.proofs.Common.{◌≡◌, ℕ, ◌&&◌, eqb, List, [], ◌∷◌, ◌++◌, Result, Ok, Err, Option, Some, None, inl, inr, refl, sym, ap, ◌∙◌, append_assoc, append-nil}
 use Rattle.std.proofs.lemmas.Bool.{cases_Bool}
 use Rattle.sv_journal.specs.Spelling.{stands_for_itself}
-use Rattle.sv_journal.specs.Tokens.{allows, after, is_first_digit, is_second_digit, hex_value}
+use Rattle.sv_journal.specs.Tokens.{is_first_digit, is_second_digit, hex_value}
+use Rattle.sv_letters.specs.Letters.{allows, after}
 use Rattle.sv_journal.specs.Reading.{◌>>=◌, closed, token_from, with_first, with_front, second_digit_at, escape_at, some_byte, token_end, spelled_byte_at}
 use Rattle.sv_journal.specs.Reading.Stage.{Between, Percent, Digit}
-use Rattle.sv_journal.specs.declared.token.Letters.{Letters}
-use Rattle.sv_journal.specs.declared.token.Awaits.{Awaits}
-use Rattle.sv_journal.specs.declared.token.Awaits.TheVariants.{Character, Continuation}
+use Rattle.sv_letters.specs.declared.letters.Letters.{Letters}
+use Rattle.sv_letters.specs.declared.letters.Awaits.{Awaits}
+use Rattle.sv_letters.specs.declared.letters.Awaits.TheVariants.{Character, Private, Continuation}
 
 -- how the token goes on after one byte of it, or ends
 abbrev go_on : Letters → Awaits → List ℕ → Result (Option (ℕ × List ℕ)) ℕ → Result (List ℕ × List ℕ) ℕ
@@ -31,6 +32,7 @@ first letters awaits (d ∷ bs) all = elim (cases_Bool (is_first_digit letters a
 
 ends : (letters : Letters) (awaits : Awaits) (bs : List ℕ) → closed awaits bs ≡ go_on letters awaits bs (token_end awaits bs)
 ends letters Character bs = refl
+ends letters Private bs = refl
 ends letters (Continuation low high more) bs = refl
 
 step : (letters : Letters) (awaits : Awaits) (bs : List ℕ) → token_from letters (Between awaits) bs ≡ go_on letters awaits bs (spelled_byte_at letters awaits bs)

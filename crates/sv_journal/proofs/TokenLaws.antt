@@ -3,15 +3,17 @@ use Rattle.std.proofs.Common.{◌≡◌, ℕ, zero, suc, ◌+◌, ◌*◌, ◌-�
 use Rattle.std.proofs.lemmas.Bool.{false≢true, cases_Bool, cases_lt, lt-ltb, le-ltb, lt-leb, le-leb, ne_eqb, and_parts, and_from, or_cases, ltb-true, leb-true, eqb-true, not-true, not_from_false}
 use Rattle.std.proofs.lemmas.List.Folds.{list_any_at}
 use Rattle.sv_journal.specs.Spelling.{stands_for_itself, hex_digit, byte_spelling, bytes_spelling, token}
-use Rattle.sv_journal.specs.Tokens.{allows, after, escapes, is_hex, hex_value, sixteen, may_begin, is_first_digit, is_second_digit}
+use Rattle.sv_journal.specs.Tokens.{escapes, is_hex, hex_value, sixteen, may_begin, is_first_digit, is_second_digit}
+use Rattle.sv_letters.specs.Letters.{allows, after, is_whole}
 use Rattle.sv_journal.specs.Escapes.{is_escape, begins_escape, is_first_of}
 use Rattle.sv_journal.specs.Reading.{Stage, closed, token_from, with_first, is_lone, nonempty, token_at}
 use Rattle.sv_journal.specs.Reading.Stage.{Between, Percent, Digit}
-use Rattle.sv_journal.specs.declared.token.Letters.{Letters}
-use Rattle.sv_journal.specs.declared.token.Letters.TheVariants.{OfText, OfName, OfBytes}
-use Rattle.sv_journal.specs.declared.token.Awaits.{Awaits}
-use Rattle.sv_journal.specs.declared.token.Awaits.TheVariants.{Character, Continuation}
-use Rattle.sv_journal.proofs.Letters.{IsText, accepts, at_end, read_accepted, read_utf8}
+use Rattle.sv_letters.specs.declared.letters.Letters.{Letters}
+use Rattle.sv_letters.specs.declared.letters.Letters.TheVariants.{OfText, OfName, OfBytes, OfXml}
+use Rattle.sv_letters.specs.declared.letters.Awaits.{Awaits}
+use Rattle.sv_letters.specs.declared.letters.Awaits.TheVariants.{Character, Private, Continuation}
+use Rattle.sv_letters.proofs.LetterLaws.{IsText, read_utf8}
+use Rattle.sv_journal.proofs.Letters.{accepts, read_accepted}
 use Rattle.sv_journal.proofs.Results.{ok_pair}
 
 abbrev pub before : Stage → List ℕ
@@ -44,8 +46,9 @@ with_first_ok x (Ok r) v rest e =
     record { w = r.0; is = sym p.0; read = ap (λ (q : List ℕ). Ok (r.0, q)) p.1 }
 with_first_ok x (Err left) v rest e = cc e
 
-closed_ok : (awaits : Awaits) (bs v rest : List ℕ) → closed awaits bs ≡ Ok (v, rest) → (at_end awaits ≡ true) × (v ≡ []) × (rest ≡ bs)
+closed_ok : (awaits : Awaits) (bs v rest : List ℕ) → closed awaits bs ≡ Ok (v, rest) → (is_whole awaits ≡ true) × (v ≡ []) × (rest ≡ bs)
 closed_ok Character bs v rest e = let p = ok_pair [] v bs rest e in (refl, sym p.0, sym p.1)
+closed_ok Private bs v rest e = cc e
 closed_ok (Continuation low high more) bs v rest e = cc e
 
 pub hex_below : (d : ℕ) → is_hex d ≡ true → hex_value d < 16
@@ -278,6 +281,7 @@ itself_again letters awaits b rest s a =
 pub bytes_again : (letters : Letters) (awaits : Awaits) (v rest : List ℕ) → accepts letters awaits v ≡ true → closes letters rest ≡ true
     → token_from letters (Between awaits) (bytes_spelling v ++ rest) ≡ Ok (v, rest)
 bytes_again letters Character [] rest e end = stops letters rest end
+bytes_again letters Private [] rest e end = absurd (false≢true e)
 bytes_again letters (Continuation low high more) [] rest e end = absurd (false≢true e)
 bytes_again letters awaits (b ∷ v) rest e end =
     let p = and_parts (ltb b 256 && allows letters awaits b) (accepts letters (after letters awaits b) v) e in
@@ -299,21 +303,25 @@ bytes_again letters awaits (b ∷ v) rest e end =
 abbrev pub Good : Letters → List ℕ → Type 0
 Good OfText v = accepts OfText Character v ≡ true
 Good OfBytes v = accepts OfBytes Character v ≡ true
+Good OfXml v = accepts OfXml Character v ≡ true
 Good OfName v = (accepts OfName Character v ≡ true) × (0 < length v)
 
 good_accepts : (letters : Letters) (v : List ℕ) → Good letters v → accepts letters Character v ≡ true
 good_accepts OfText v g = g
 good_accepts OfBytes v g = g
+good_accepts OfXml v g = g
 good_accepts OfName v g = g.0
 
 pub good_nonempty : (letters : Letters) (b : ℕ) (v : List ℕ) → accepts letters Character (b ∷ v) ≡ true → Good letters (b ∷ v)
 good_nonempty OfText b v e = e
 good_nonempty OfBytes b v e = e
+good_nonempty OfXml b v e = e
 good_nonempty OfName b v e = (e, omega arith)
 
 lone_is_text : (letters : Letters) (bs : List ℕ) → is_lone letters bs ≡ true → Good letters []
 lone_is_text OfText bs e = refl
 lone_is_text OfBytes bs e = refl
+lone_is_text OfXml bs e = refl
 lone_is_text OfName bs e = absurd (false≢true e)
 
 nonempty_ok : (left : ℕ) (r : Result (List ℕ × List ℕ) ℕ) (v rest : List ℕ) → nonempty left r ≡ Ok (v, rest) → (r ≡ Ok (v, rest)) × (0 < length v)
@@ -350,6 +358,7 @@ token_at_takes letters (b ∷ bs) v rest e = elim (chosen (eqb b 37 && is_lone l
 text_letters : (letters : Letters) → (letters ≢ OfBytes) → IsText letters
 text_letters OfText n = refl
 text_letters OfName n = refl
+text_letters OfXml n = refl
 text_letters OfBytes n = absurd (n refl)
 
 -- what is read as a text or a name is UTF-8
@@ -389,6 +398,8 @@ lone_ends OfText [] g e = refl
 lone_ends OfText (d ∷ bs) g e = not_first OfText d bs e
 lone_ends OfBytes [] g e = refl
 lone_ends OfBytes (d ∷ bs) g e = not_first OfBytes d bs e
+lone_ends OfXml [] g e = refl
+lone_ends OfXml (d ∷ bs) g e = not_first OfXml d bs e
 lone_ends OfName bs g e = absurd (omega (arith, g.1))
 
 token_cons : (letters : Letters) (x b : ℕ) (xs v rest : List ℕ) → (eqb x 37 && is_lone letters xs) ≡ false
@@ -398,6 +409,7 @@ token_cons letters x b xs v rest e read = rw e (ap (nonempty (suc (length xs))) 
 not_lone : (letters : Letters) (d : ℕ) (bs : List ℕ) → is_first_digit letters Character d ≡ true → is_lone letters (d ∷ bs) ≡ false
 not_lone OfText d bs e = ap not e
 not_lone OfBytes d bs e = ap not e
+not_lone OfXml d bs e = ap not e
 not_lone OfName d bs e = refl
 
 -- this ends a token of these bytes
@@ -408,6 +420,7 @@ may_follow letters (b ∷ v) rest = closes letters rest
 pub token_before : (letters : Letters) (v rest : List ℕ) → Good letters v → may_follow letters v rest ≡ true → token_at letters (token v ++ rest) ≡ Ok (v, rest)
 token_before OfText [] rest g end = ap (λ (t : Bool). cond t (Ok ([], rest)) (nonempty (suc (length rest)) (token_from OfText (Between Character) (37 ∷ rest)))) end
 token_before OfBytes [] rest g end = ap (λ (t : Bool). cond t (Ok ([], rest)) (nonempty (suc (length rest)) (token_from OfBytes (Between Character) (37 ∷ rest)))) end
+token_before OfXml [] rest g end = ap (λ (t : Bool). cond t (Ok ([], rest)) (nonempty (suc (length rest)) (token_from OfXml (Between Character) (37 ∷ rest)))) end
 token_before OfName [] rest g end = absurd (omega (arith, g.1))
 token_before letters (b ∷ v) rest g end =
     let a = good_accepts letters (b ∷ v) g in
@@ -436,6 +449,7 @@ token_again letters v rest g e = token_before letters v rest g (follows letters 
 
 chosen_closes : (letters : Letters) (awaits : Awaits) (bs v rest : List ℕ) → closed awaits bs ≡ Ok (v, rest) → (awaits ≡ Character) × (rest ≡ bs)
 chosen_closes letters Character bs v rest e = (refl, (closed_ok Character bs v rest e).2)
+chosen_closes letters Private bs v rest e = cc e
 chosen_closes letters (Continuation low high more) bs v rest e = cc e
 
 -- a reader of a token stops where the token may end

@@ -1,7 +1,9 @@
--- One of some bytes, as a token spells it: the byte, or the number of bytes that are left at the first one with which the
--- spelling of none of them goes on.
-use Rattle.std.specs.Prelude.{ℕ, suc, ◌+◌, ◌*◌, List, [], ◌∷◌, length, Bool, ◌&&◌, not, ◌==◌, if◌then◌else◌, Result, Ok, Err}
+-- One of some bytes, as a token spells it: the byte, or the number of bytes that are left at the
+-- first one with which the spelling of none of them goes on.
+use Rattle.std.specs.Prelude.{ℕ, suc, ◌+◌, ◌*◌, List, [], ◌∷◌, length, Bool, ◌&&◌, not, ◌==◌}
+use Rattle.std.specs.Prelude.{if◌then◌else◌, Result, Ok, Err}
 use Rattle.std.specs.List.{list_any}
+use Rattle.sv_base.specs.Ascii.{percent_sign}
 use Rattle.sv_journal.specs.Spelling.{stands_for_itself}
 use Rattle.sv_journal.specs.Tokens.{is_hex, hex_value, sixteen}
 use Rattle.sv_journal.specs.Reading.{◌>>=◌}
@@ -25,7 +27,8 @@ is_second_of comes high d = is_hex d && is_escape comes (16 * high + hex_value d
 -- the first digit of an escape
 abbrev pub first_digit_of : (ℕ → Bool) → List ℕ → Result (ℕ × List ℕ) ℕ
 first_digit_of comes [] = Err 0
-first_digit_of comes (d ∷ bs) = if is_first_of comes d then Ok (hex_value d, bs) else Err (suc (length bs))
+first_digit_of comes (d ∷ bs) =
+    if is_first_of comes d then Ok (hex_value d, bs) else Err (suc (length bs))
 
 -- the byte whose second digit stands here
 abbrev pub second_digit_of : (ℕ → Bool) → ℕ → List ℕ → Result (ℕ × List ℕ) ℕ
@@ -41,6 +44,6 @@ escape_of comes bs = first_digit_of comes bs >>= (λ first. second_digit_of come
 abbrev pub byte_of : (ℕ → Bool) → List ℕ → Result (ℕ × List ℕ) ℕ
 byte_of comes [] = Err 0
 byte_of comes (b ∷ bs) =
-    if b == 37 then escape_of comes bs
+    if b == percent_sign then escape_of comes bs
     else if stands_for_itself b && comes b then Ok (b, bs)
     else Err (suc (length bs))

@@ -1,5 +1,7 @@
--- The one line of each input, order and header, without its line feed, and which of them a journal may hold.
-use Rattle.std.specs.Prelude.{ℕ, ◌<◌, ◌≤◌, ◌≡◌, ◌≢◌, List, [], ◌∷◌, ◌++◌, length, Bool, true, false, codes, IsUtf8, nat_lt, nat_le}
+-- The one line of each input, order and header, without its line feed, and which of them a journal
+-- may hold.
+use Rattle.std.specs.Prelude.{ℕ, ◌<◌, ◌≤◌, ◌≡◌, ◌≢◌, List, [], ◌∷◌, ◌++◌, length, Bool, true, false}
+use Rattle.std.specs.Prelude.{codes, IsUtf8, nat_lt, nat_le}
 use Rattle.std.specs.List.{flat_map, list_all}
 use Rattle.std.specs.Fmt.{decimal}
 use Rattle.sv_base.specs.Limits.{moment_limit, piece_limit}
@@ -74,12 +76,15 @@ counted_words words = codes " " ++ decimal (length words) ++ flat_map then_token
 -- the line of an input
 abbrev pub input_line : Input → List ℕ
 input_line (input_is.Tick at) = decimal at ++ codes " tick"
-input_line (input_is.Exit at run how) = decimal at ++ codes " exit " ++ decimal run.0 ++ codes " " ++ how_words how
+input_line (input_is.Exit at run how) =
+    decimal at ++ codes " exit " ++ decimal run.0 ++ codes " " ++ how_words how
 input_line (input_is.Out at run stream bytes) =
     decimal at ++ stream_word stream ++ decimal run.0 ++ codes " " ++ token bytes
 input_line (input_is.OutEnd at run stream) = decimal at ++ stream_end_word stream ++ decimal run.0
-input_line (input_is.Open at link side) = decimal at ++ codes " open " ++ decimal link.0 ++ codes " " ++ side_word side
-input_line (input_is.Piece at link bytes) = decimal at ++ codes " piece " ++ decimal link.0 ++ codes " " ++ token bytes
+input_line (input_is.Open at link side) =
+    decimal at ++ codes " open " ++ decimal link.0 ++ codes " " ++ side_word side
+input_line (input_is.Piece at link bytes) =
+    decimal at ++ codes " piece " ++ decimal link.0 ++ codes " " ++ token bytes
 input_line (input_is.LinkEnd at link) = decimal at ++ codes " end " ++ decimal link.0
 input_line (input_is.Start at name) = decimal at ++ codes " start " ++ token name
 input_line (input_is.Stop at name) = decimal at ++ codes " stop " ++ token name
@@ -104,10 +109,12 @@ AreTexts (text ∷ texts) = IsUtf8 text × AreTexts texts
 abbrev pub FitsInput : Input → Type 0
 FitsInput (input_is.Tick at) = at ≤ moment_limit
 FitsInput (input_is.Exit at run how) = (at ≤ moment_limit) × (run.0 ≤ run_limit) × FitsHow how
-FitsInput (input_is.Out at run stream bytes) = (at ≤ moment_limit) × (run.0 ≤ run_limit) × IsPiece bytes
+FitsInput (input_is.Out at run stream bytes) =
+    (at ≤ moment_limit) × (run.0 ≤ run_limit) × IsPiece bytes
 FitsInput (input_is.OutEnd at run stream) = (at ≤ moment_limit) × (run.0 ≤ run_limit)
 FitsInput (input_is.Open at link side) = (at ≤ moment_limit) × (link.0 ≤ run_limit)
-FitsInput (input_is.Piece at link bytes) = (at ≤ moment_limit) × (link.0 ≤ run_limit) × IsPiece bytes
+FitsInput (input_is.Piece at link bytes) =
+    (at ≤ moment_limit) × (link.0 ≤ run_limit) × IsPiece bytes
 FitsInput (input_is.LinkEnd at link) = (at ≤ moment_limit) × (link.0 ≤ run_limit)
 FitsInput (input_is.Start at name) = (at ≤ moment_limit) × IsUtf8 name
 FitsInput (input_is.Stop at name) = (at ≤ moment_limit) × IsUtf8 name
@@ -152,9 +159,11 @@ receiver false = codes " child"
 -- the line of an order
 abbrev pub order_line : Order → List ℕ
 order_line (order_is.State group name from to) =
-    codes "state" ++ then_token group ++ then_token name ++ codes " " ++ state_name from ++ codes " " ++ state_name to
+    codes "state" ++ then_token group ++ then_token name ++ codes " " ++ state_name from
+    ++ codes " " ++ state_name to
 order_line (order_is.Dropped pool serial poolserial) =
-    codes "dropped" ++ then_token pool ++ codes " " ++ decimal serial ++ codes " " ++ decimal poolserial
+    codes "dropped" ++ then_token pool ++ codes " " ++ decimal serial ++ codes " "
+    ++ decimal poolserial
 order_line (order_is.Spawn spawn) = spawn_line spawn
 order_line (order_is.Kill run signal group) =
     codes "kill " ++ decimal run.0 ++ codes " " ++ signal_name signal ++ receiver group
@@ -206,7 +215,8 @@ header_line (header_is.Pid pid) = codes "pid " ++ decimal pid
 header_line (header_is.Env name value) = codes "env " ++ token name ++ codes " " ++ token value
 header_line (header_is.Size file size) = codes "size " ++ token file ++ codes " " ++ decimal size
 header_line (header_is.Conf text) = codes "conf " ++ token text
-header_line (header_is.Include name text) = codes "include " ++ token name ++ codes " " ++ token text
+header_line (header_is.Include name text) =
+    codes "include " ++ token name ++ codes " " ++ token text
 header_line (header_is.Go at) = codes "go " ++ decimal at
 
 -- an exit code of one byte

@@ -1,5 +1,7 @@
--- What the readers of order lines give, in the terms of the readers of their parts, and which orders have a line.
-use Rattle.std.specs.Prelude.{ℕ, zero, suc, List, [], ◌∷◌, ◌++◌, Bool, true, false, Result, Ok, Err, codes}
+-- What the readers of order lines give, in the terms of the readers of their parts, and which
+-- orders have a line.
+use Rattle.std.specs.Prelude.{ℕ, zero, suc, List, [], ◌∷◌, ◌++◌, Bool, true, false, Result, Ok, Err}
+use Rattle.std.specs.Prelude.{codes}
 use Rattle.sv_base.specs.Names.{signal_name, state_name}
 use Rattle.sv_base.specs.declared.state.State.{State}
 use Rattle.sv_base.specs.declared.state.State.TheVariants as state_is
@@ -9,7 +11,7 @@ use Rattle.sv_journal.specs.declared.order_words.OrderWord.{OrderWord}
 use Rattle.sv_journal.specs.declared.order_words.OrderWord.TheVariants as word_is
 use Rattle.sv_journal.specs.declared.order_words.Receiver.{Receiver}
 use Rattle.sv_journal.specs.declared.order_words.Receiver.TheVariants as receiver_is
-use Rattle.sv_journal.specs.declared.token.Letters.TheVariants.{OfText, OfBytes}
+use Rattle.sv_letters.specs.declared.letters.Letters.TheVariants.{OfText, OfBytes}
 use Rattle.sv_journal.specs.JournalLine.{receiver}
 use Rattle.sv_journal.specs.Limits.{number_limit, run_limit}
 use Rattle.sv_journal.specs.Reading.{◌>>=◌, word_at, token_at, end_at, last_token_at, with_item}
@@ -90,7 +92,8 @@ abbrev pub text_then : {X : Type 0} → (List ℕ → List ℕ → Result X ℕ)
 text_then next bs = text_at bs >>= (λ r. next r.0 r.1)
 
 -- these items, and then what was read after them
-abbrev pub with_items : {A : Type 0} → List A → Result (List A × List ℕ) ℕ → Result (List A × List ℕ) ℕ
+abbrev pub with_items : {A : Type 0} → List A → Result (List A × List ℕ) ℕ
+    → Result (List A × List ℕ) ℕ
 with_items items (Ok r) = Ok (items ++ r.0, r.1)
 with_items items (Err left) = Err left
 
@@ -99,16 +102,19 @@ abbrev pub pair_at : List ℕ → Result ((List ℕ × List ℕ) × List ℕ) �
 pair_at = text_then (λ name. text_then (λ value rest. Ok ((name, value), rest)))
 
 -- so many items, read one after the other
-abbrev pub items_at : {A : Type 0} → (List ℕ → Result (A × List ℕ) ℕ) → ℕ → List ℕ → Result (List A × List ℕ) ℕ
+abbrev pub items_at : {A : Type 0} → (List ℕ → Result (A × List ℕ) ℕ) → ℕ → List ℕ
+    → Result (List A × List ℕ) ℕ
 items_at item_at zero bs = Ok ([], bs)
 items_at item_at (suc n) bs = item_at bs >>= (λ r. with_item r.0 (items_at item_at n r.1))
 
 -- how many items there are, after a space, and each of them
-abbrev pub counted_at : {A : Type 0} → (List ℕ → Result (A × List ℕ) ℕ) → List ℕ → Result (List A × List ℕ) ℕ
+abbrev pub counted_at : {A : Type 0} → (List ℕ → Result (A × List ℕ) ℕ) → List ℕ
+    → Result (List A × List ℕ) ℕ
 counted_at item_at = word_then (codes " ") (number_then 0 number_limit (items_at item_at))
 
 -- how many items there are, each of them, and then what reads the rest
-abbrev pub counted_then : {A X : Type 0} → (List ℕ → Result (A × List ℕ) ℕ) → (List A → List ℕ → Result X ℕ) → List ℕ → Result X ℕ
+abbrev pub counted_then : {A X : Type 0} → (List ℕ → Result (A × List ℕ) ℕ)
+    → (List A → List ℕ → Result X ℕ) → List ℕ → Result X ℕ
 counted_then item_at next bs = counted_at item_at bs >>= (λ r. next r.0 r.1)
 
 -- a text and two numbers, which end the line
@@ -121,7 +127,9 @@ text_numbers_at =
 -- a run or a link, and bytes after a space, which end the line
 unfoldable pub number_bytes_at : List ℕ → Result (ℕ × List ℕ) ℕ
 number_bytes_at =
-    number_then 0 run_limit (λ number. word_then (codes " ") (λ bs. last_token_at OfBytes bs >>= (λ bytes. Ok (number, bytes))))
+    number_then 0 run_limit
+    (λ number. word_then (codes " ")
+    (λ bs. last_token_at OfBytes bs >>= (λ bytes. Ok (number, bytes))))
 
 -- a text after a space, which ends the line
 unfoldable pub last_text_at : List ℕ → Result (List ℕ) ℕ
@@ -129,7 +137,10 @@ last_text_at = word_then (codes " ") (last_token_at OfText)
 
 -- a text, and bytes after a space, which end the line
 unfoldable pub text_bytes_at : List ℕ → Result (List ℕ × List ℕ) ℕ
-text_bytes_at = text_then (λ text. word_then (codes " ") (λ bs. last_token_at OfBytes bs >>= (λ bytes. Ok (text, bytes))))
+text_bytes_at =
+    text_then
+    (λ text. word_then (codes " ")
+    (λ bs. last_token_at OfBytes bs >>= (λ bytes. Ok (text, bytes))))
 
 -- two texts, which end the line
 unfoldable pub two_texts_at : List ℕ → Result (List ℕ × List ℕ) ℕ
@@ -143,7 +154,8 @@ last_number_at = number_then 0 run_limit end_at
 unfoldable pub edge_at : List ℕ → List ℕ → List ℕ → Result Order ℕ
 edge_at group name =
     word_then (codes " ") (keyword_then state_name states (λ from.
-    word_then (codes " ") (keyword_then state_name states (λ to. end_at (order_is.State group name from to)))))
+    word_then (codes " ")
+    (keyword_then state_name states (λ to. end_at (order_is.State group name from to)))))
 
 -- the report of an edge
 unfoldable pub state_at : List ℕ → Result Order ℕ
@@ -154,7 +166,8 @@ unfoldable pub kill_at : List ℕ → Result Order ℕ
 kill_at =
     number_then 0 run_limit (λ run.
     word_then (codes " ") (keyword_then signal_name signals (λ signal.
-    keyword_then receiver_word receivers (λ receiver. end_at (order_is.Kill (record { 0 = run }) signal (is_group receiver))))))
+    keyword_then receiver_word receivers
+    (λ receiver. end_at (order_is.Kill (record { 0 = run }) signal (is_group receiver))))))
 
 -- the words and the environment of a spawn, which end the line
 unfoldable pub command_at : ℕ → List ℕ → List ℕ → List ℕ → List ℕ → List ℕ → List ℕ → Result Order ℕ
@@ -175,11 +188,15 @@ command_at run group name directory umask user =
 -- a spawn from its directory on
 unfoldable pub place_at : ℕ → List ℕ → List ℕ → List ℕ → Result Order ℕ
 place_at run group name =
-    text_then (λ directory. text_then (λ umask. text_then (λ user. command_at run group name directory umask user)))
+    text_then
+    (λ directory. text_then
+    (λ umask. text_then (λ user. command_at run group name directory umask user)))
 
 -- a spawn
 unfoldable pub spawn_at : List ℕ → Result Order ℕ
-spawn_at = number_then 0 run_limit (λ run. text_then (λ group. text_then (λ name. place_at run group name)))
+spawn_at =
+    number_then 0 run_limit
+    (λ run. text_then (λ group. text_then (λ name. place_at run group name)))
 
 -- what follows the word of an order line
 unfoldable pub order_of : OrderWord → List ℕ → Result Order ℕ
@@ -187,7 +204,8 @@ order_of word_is.State bs = state_at bs
 order_of word_is.Dropped bs = text_numbers_at bs >>= (λ r. Ok (order_is.Dropped r.0 r.1 r.2))
 order_of word_is.Spawn bs = spawn_at bs
 order_of word_is.Kill bs = kill_at bs
-order_of word_is.Stdin bs = number_bytes_at bs >>= (λ r. Ok (order_is.Stdin (record { 0 = r.0 }) r.1))
+order_of word_is.Stdin bs =
+    number_bytes_at bs >>= (λ r. Ok (order_is.Stdin (record { 0 = r.0 }) r.1))
 order_of word_is.Append bs = text_bytes_at bs >>= (λ r. Ok (order_is.Append r.0 r.1))
 order_of word_is.Shift bs = two_texts_at bs >>= (λ r. Ok (order_is.Shift r.0 r.1))
 order_of word_is.Fresh bs = last_text_at bs >>= (λ file. Ok (order_is.Fresh file))
@@ -197,7 +215,8 @@ order_of word_is.Names bs = last_text_at bs >>= (λ pattern. Ok (order_is.Names 
 order_of word_is.Size bs = last_text_at bs >>= (λ file. Ok (order_is.Size file))
 order_of word_is.Send bs = number_bytes_at bs >>= (λ r. Ok (order_is.Send (record { 0 = r.0 }) r.1))
 order_of word_is.More bs = last_number_at bs >>= (λ link. Ok (order_is.More (record { 0 = link })))
-order_of word_is.Close bs = last_number_at bs >>= (λ link. Ok (order_is.Close (record { 0 = link })))
+order_of word_is.Close bs =
+    last_number_at bs >>= (λ link. Ok (order_is.Close (record { 0 = link })))
 order_of word_is.Halt bs = end_at order_is.Halt bs
 
 -- an order line: its word and the rest

@@ -28,14 +28,16 @@ FitsSpawn spawn =
 -- the orders that have a line
 abbrev pub FitsOrder : Order → Type 0
 FitsOrder (order_is.State group name from to) = IsUtf8 group × IsUtf8 name
-FitsOrder (order_is.Dropped pool serial poolserial) = IsUtf8 pool × (serial ≤ number_limit) × (poolserial ≤ number_limit)
+FitsOrder (order_is.Dropped pool serial poolserial) =
+    IsUtf8 pool × (serial ≤ number_limit) × (poolserial ≤ number_limit)
 FitsOrder (order_is.Spawn spawn) = FitsSpawn spawn
 FitsOrder (order_is.Kill run signal group) = run.0 ≤ run_limit
 FitsOrder (order_is.Stdin run bytes) = (run.0 ≤ run_limit) × AreBytes bytes
 FitsOrder (order_is.Append file bytes) = IsUtf8 file × AreBytes bytes
 FitsOrder (order_is.Shift from to) = IsUtf8 from × IsUtf8 to
 FitsOrder (order_is.Fresh file) = IsUtf8 file
-FitsOrder (order_is.ReadFile file start length) = IsUtf8 file × (start ≤ number_limit) × (length ≤ number_limit)
+FitsOrder (order_is.ReadFile file start length) =
+    IsUtf8 file × (start ≤ number_limit) × (length ≤ number_limit)
 FitsOrder (order_is.ClearFile file) = IsUtf8 file
 FitsOrder (order_is.Names pattern) = IsUtf8 pattern
 FitsOrder (order_is.Size file) = IsUtf8 file

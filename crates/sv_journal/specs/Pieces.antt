@@ -1,17 +1,20 @@
--- What the reader of a piece of a pipe or a link gives: the bytes that a token spells, up to the line's end, or the number of
--- bytes that are left at the first bad one. No piece is empty, so a lone percent sign is the prefix of one.
-use Rattle.std.specs.Prelude.{ℕ, zero, suc, List, [], ◌∷◌, ◌++◌, length, ◌==◌, if◌then◌else◌, Result, Ok, Err}
+-- What the reader of a piece of a pipe or a link gives: the bytes that a token spells, up to the
+-- line's end, or the number of bytes that are left at the first bad one. No piece is empty, so a
+-- lone percent sign is the prefix of one.
+use Rattle.std.specs.Prelude.{ℕ, zero, suc, List, [], ◌∷◌, ◌++◌, length, ◌==◌, if◌then◌else◌}
+use Rattle.std.specs.Prelude.{Result, Ok, Err}
+use Rattle.sv_base.specs.Ascii.{percent_sign}
 use Rattle.sv_base.specs.Limits.{piece_limit}
 use Rattle.sv_journal.specs.Spelling.{stands_for_itself}
 use Rattle.sv_journal.specs.Reading.{◌>>=◌, escape_at}
-use Rattle.sv_journal.specs.declared.token.Letters.TheVariants.{OfBytes}
-use Rattle.sv_journal.specs.declared.token.Awaits.TheVariants.{Character}
+use Rattle.sv_letters.specs.declared.letters.Letters.TheVariants.{OfBytes}
+use Rattle.sv_letters.specs.declared.letters.Awaits.TheVariants.{Character}
 
 -- the byte that is spelled here
 abbrev pub byte_at : List ℕ → Result (ℕ × List ℕ) ℕ
 byte_at [] = Err 0
 byte_at (b ∷ bs) =
-    if b == 37 then escape_at OfBytes Character bs
+    if b == percent_sign then escape_at OfBytes Character bs
     else if stands_for_itself b then Ok (b, bs)
     else Err (suc (length bs))
 

@@ -27,11 +27,12 @@ use Rattle.sv_journal.specs.declared.words.Told.{Told}
 use Rattle.sv_journal.specs.declared.words.Told.TheVariants as told_is
 use Rattle.sv_journal.specs.declared.words.Opening.{Opening}
 use Rattle.sv_journal.specs.declared.words.Opening.TheVariants as opening_is
-use Rattle.sv_journal.specs.declared.token.Letters.{Letters}
-use Rattle.sv_journal.specs.declared.token.Letters.TheVariants.{OfText, OfName, OfBytes}
+use Rattle.sv_letters.specs.declared.letters.Letters.{Letters}
+use Rattle.sv_letters.specs.declared.letters.Letters.TheVariants.{OfText, OfName, OfBytes}
 use Rattle.sv_journal.specs.JournalLine.{autorestart_word, side_word}
 use Rattle.sv_journal.specs.Limits.{number_limit, run_limit, program_limit}
-use Rattle.sv_journal.specs.Reading.{◌>>=◌, word_at, keyword_at, number_at, token_at, end_at, last_token_at, codes_from}
+use Rattle.sv_journal.specs.Reading.{◌>>=◌, word_at, keyword_at, number_at, token_at, end_at}
+use Rattle.sv_journal.specs.Reading.{last_token_at, codes_from}
 use Rattle.sv_journal.specs.Names.{names_at}
 use Rattle.sv_journal.specs.Pieces.{piece_at}
 
@@ -86,7 +87,8 @@ told_word told = signal_name (told_signal told)
 
 -- all of them, of which none begins another
 abbrev pub told_signals : List Told
-told_signals = told_is.Term ∷ told_is.Int ∷ told_is.Quit ∷ told_is.Kill ∷ told_is.Usr1 ∷ told_is.Usr2 ∷ []
+told_signals =
+    told_is.Term ∷ told_is.Int ∷ told_is.Quit ∷ told_is.Kill ∷ told_is.Usr1 ∷ told_is.Usr2 ∷ []
 
 -- an exit code or a signal
 abbrev pub ending_word : Ending → List ℕ
@@ -157,7 +159,9 @@ openings =
 
 -- the signals that may ask a program to stop
 abbrev pub signals : List Signal
-signals = signal_is.Term ∷ signal_is.Hup ∷ signal_is.Int ∷ signal_is.Quit ∷ signal_is.Kill ∷ signal_is.Usr1 ∷ signal_is.Usr2 ∷ []
+signals =
+    signal_is.Term ∷ signal_is.Hup ∷ signal_is.Int ∷ signal_is.Quit ∷ signal_is.Kill
+    ∷ signal_is.Usr1 ∷ signal_is.Usr2 ∷ []
 
 -- the ways to be started again
 abbrev pub autorestarts : List Autorestart
@@ -168,7 +172,8 @@ abbrev pub word_then : {X : Type 0} → List ℕ → (List ℕ → Result X ℕ)
 word_then word next bs = word_at word bs >>= next
 
 -- one of these words, and then what reads the rest
-abbrev pub keyword_then : {K X : Type 0} → (K → List ℕ) → List K → (K → List ℕ → Result X ℕ) → List ℕ → Result X ℕ
+abbrev pub keyword_then : {K X : Type 0} → (K → List ℕ) → List K → (K → List ℕ → Result X ℕ)
+    → List ℕ → Result X ℕ
 keyword_then spelling ks next bs = keyword_at spelling ks bs >>= (λ r. next r.0 r.1)
 
 -- a number, and then what reads the rest
@@ -176,7 +181,8 @@ abbrev pub number_then : {X : Type 0} → ℕ → ℕ → (ℕ → List ℕ → 
 number_then least limit next bs = number_at least limit bs >>= (λ r. next r.0 r.1)
 
 -- a token, and then what reads the rest
-abbrev pub token_then : {X : Type 0} → Letters → (List ℕ → List ℕ → Result X ℕ) → List ℕ → Result X ℕ
+abbrev pub token_then : {X : Type 0} → Letters → (List ℕ → List ℕ → Result X ℕ) → List ℕ
+    → Result X ℕ
 token_then letters next bs = token_at letters bs >>= (λ r. next r.0 r.1)
 
 -- a token that ends the line
@@ -193,18 +199,24 @@ codes_then next bs = codes_from None bs >>= (λ r. next r.0 r.1)
 
 -- inputs
 unfoldable pub how_at : ℕ → Run → Ending → List ℕ → Result Input ℕ
-how_at at run ending_is.Code = number_then 0 255 (λ code. end_at (input_is.Exit at run (how_is.Code code)))
-how_at at run ending_is.Signal = number_then 1 64 (λ signal. end_at (input_is.Exit at run (how_is.Signal signal)))
+how_at at run ending_is.Code =
+    number_then 0 255 (λ code. end_at (input_is.Exit at run (how_is.Code code)))
+how_at at run ending_is.Signal =
+    number_then 1 64 (λ signal. end_at (input_is.Exit at run (how_is.Signal signal)))
 
 -- how a child ended
 unfoldable pub exit_at : ℕ → List ℕ → Result Input ℕ
-exit_at at = number_then 0 run_limit (λ run. word_then (codes " ") (keyword_then ending_word endings (how_at at (record { 0 = run }))))
+exit_at at =
+    number_then 0 run_limit
+    (λ run. word_then (codes " ")
+    (keyword_then ending_word endings (how_at at (record { 0 = run }))))
 
 -- what a child wrote to this stream
 unfoldable pub out_at : ℕ → Stream → List ℕ → Result Input ℕ
 out_at at stream =
     number_then 0 run_limit (λ run.
-    word_then (codes " ") (last_piece_then (λ bytes. input_is.Out at (record { 0 = run }) stream bytes)))
+    word_then (codes " ")
+    (last_piece_then (λ bytes. input_is.Out at (record { 0 = run }) stream bytes)))
 
 -- whose stream ended
 unfoldable pub out_end_at : ℕ → Stream → List ℕ → Result Input ℕ
@@ -222,11 +234,13 @@ open_at at =
 unfoldable pub link_piece_at : ℕ → List ℕ → Result Input ℕ
 link_piece_at at =
     number_then 0 run_limit (λ link.
-    word_then (codes " ") (last_piece_then (λ bytes. input_is.Piece at (record { 0 = link }) bytes)))
+    word_then (codes " ")
+    (last_piece_then (λ bytes. input_is.Piece at (record { 0 = link }) bytes)))
 
 -- which link ended
 unfoldable pub link_end_at : ℕ → List ℕ → Result Input ℕ
-link_end_at at = number_then 0 run_limit (λ link. end_at (input_is.LinkEnd at (record { 0 = link })))
+link_end_at at =
+    number_then 0 run_limit (λ link. end_at (input_is.LinkEnd at (record { 0 = link })))
 
 -- what follows the word of an event
 unfoldable pub event_of : ℕ → Verb → List ℕ → Result Input ℕ
@@ -241,15 +255,20 @@ event_of at verb_is.Piece = link_piece_at at
 event_of at verb_is.End = link_end_at at
 event_of at verb_is.Start = last_token_then OfText (λ name. input_is.Start at name)
 event_of at verb_is.Stop = last_token_then OfText (λ name. input_is.Stop at name)
-event_of at verb_is.Signal = keyword_then told_word told_signals (λ told. end_at (input_is.Signal at (told_signal told)))
+event_of at verb_is.Signal =
+    keyword_then told_word told_signals (λ told. end_at (input_is.Signal at (told_signal told)))
 
 -- an event: its moment, its word and the rest
 unfoldable pub event_at : List ℕ → Result Input ℕ
-event_at = number_then 0 moment_limit (λ at. word_then (codes " ") (keyword_then verb_word verbs (event_of at)))
+event_at =
+    number_then 0 moment_limit
+    (λ at. word_then (codes " ") (keyword_then verb_word verbs (event_of at)))
 
 -- how many names there are, and each of them, which end the line
 unfoldable pub names_line_at : List ℕ → Result Input ℕ
-names_line_at = number_then 0 number_limit (λ n bs. names_at None n bs >>= (λ r. end_at (input_is.Names r.0) r.1))
+names_line_at =
+    number_then 0 number_limit
+    (λ n bs. names_at None n bs >>= (λ r. end_at (input_is.Names r.0) r.1))
 
 -- what follows the word of an answer
 unfoldable pub answer_of : Answer → List ℕ → Result Input ℕ
@@ -296,12 +315,16 @@ codes_at name startsecs startretries autorestart =
 -- the keys of a program from autorestart on
 unfoldable pub restart_at : List ℕ → ℕ → ℕ → List ℕ → Result Header ℕ
 restart_at name startsecs startretries =
-    keyword_then autorestart_word autorestarts (λ autorestart. word_then (codes " ") (codes_at name startsecs startretries autorestart))
+    keyword_then autorestart_word autorestarts
+    (λ autorestart. word_then (codes " ") (codes_at name startsecs startretries autorestart))
 
 -- the keys of a program from startsecs on
 unfoldable pub start_at : List ℕ → List ℕ → Result Header ℕ
 start_at name =
-    number_then 0 program_limit (λ startsecs. word_then (codes " ") (number_then 0 program_limit (λ startretries. word_then (codes " ") (restart_at name startsecs startretries))))
+    number_then 0 program_limit
+    (λ startsecs. word_then (codes " ")
+    (number_then 0 program_limit
+    (λ startretries. word_then (codes " ") (restart_at name startsecs startretries))))
 
 -- a program
 unfoldable pub program_at : List ℕ → Result Header ℕ
@@ -309,15 +332,23 @@ program_at = token_then OfName (λ name. word_then (codes " ") (start_at name))
 
 -- a name in the environment and its value
 unfoldable pub env_at : List ℕ → Result Header ℕ
-env_at = token_then OfText (λ name. word_then (codes " ") (last_token_then OfText (λ value. header_is.Env name value)))
+env_at =
+    token_then OfText
+    (λ name. word_then (codes " ") (last_token_then OfText (λ value. header_is.Env name value)))
 
 -- a log file and its size
 unfoldable pub size_at : List ℕ → Result Header ℕ
-size_at = token_then OfText (λ file. word_then (codes " ") (number_then 0 number_limit (λ size. end_at (header_is.Size file size))))
+size_at =
+    token_then OfText
+    (λ file. word_then (codes " ")
+    (number_then 0 number_limit (λ size. end_at (header_is.Size file size))))
 
 -- an included file and its text
 unfoldable pub include_at : List ℕ → Result Header ℕ
-include_at = token_then OfText (λ name. word_then (codes " ") (last_token_then OfBytes (λ text. header_is.Include name text)))
+include_at =
+    token_then OfText
+    (λ name. word_then (codes " ")
+    (last_token_then OfBytes (λ text. header_is.Include name text)))
 
 -- what follows the word of a header line
 unfoldable pub header_of : Opening → List ℕ → Result Header ℕ

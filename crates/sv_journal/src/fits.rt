@@ -3,7 +3,8 @@ ghost use Rattle.std.specs.Prelude.{◌≡◌, ◌≤◌, true, IsUtf8, length};
 ghost use Rattle.std.specs.List.{list_all};
 ghost use Rattle.sv_base.specs.Limits.{moment_limit};
 ghost use Rattle.sv_out.specs.Files.{AreRising};
-ghost use Rattle.sv_journal.specs.JournalLine.{is_byte, AreBytes, AreTexts, IsPiece, FitsHow, FitsInput, is_exit_code, FitsProgram, FitsHeader};
+ghost use Rattle.sv_journal.specs.JournalLine.{is_byte, AreBytes, AreTexts, IsPiece, FitsHow};
+ghost use Rattle.sv_journal.specs.JournalLine.{FitsInput, is_exit_code, FitsProgram, FitsHeader};
 ghost use Rattle.sv_journal.specs.Limits.{number_limit, run_limit};
 ghost use Rattle.sv_journal.specs.Orders.{ArePairs, FitsSpawn, FitsOrder};
 

@@ -1,8 +1,9 @@
 //! Reading a header line, part by part.
 ghost use Rattle.std.specs.Prelude.{◌≡◌, ◌≤◌};
 ghost use Rattle.sv_journal.specs.Reading.{Gives, token_at};
-ghost use Rattle.sv_journal.specs.declared.token.Letters.{Letters};
-ghost use Rattle.sv_journal.specs.ReadingLines.{codes_at, restart_at, start_at, program_at, env_at, size_at, include_at, header_of, header_at};
+ghost use Rattle.sv_letters.specs.declared.letters.Letters.{Letters};
+ghost use Rattle.sv_journal.specs.ReadingLines.{codes_at, restart_at, start_at, program_at, env_at};
+ghost use Rattle.sv_journal.specs.ReadingLines.{size_at, include_at, header_of, header_at};
 
 use crate::exit_codes::exit_codes;
 use crate::header::{Header, Program, Version};
@@ -10,13 +11,14 @@ use crate::input_line::moment;
 use crate::number::number;
 use crate::program_name::ProgramName;
 use crate::stop::Stop;
-use crate::token::{Letters, bytes_of_line, rest_of_line, token};
+use crate::token::{bytes_of_line, rest_of_line, token};
 use crate::word::{end, keyword, word};
 use crate::words::{AUTORESTARTS, OPENINGS, Opening, SIGNALS};
 use std::alloc::Global;
 use sv_base::moment::MOMENT_LIMIT;
 use sv_base::number::{Retries, Seconds};
 use sv_base::state::Autorestart;
+use sv_letters::Letters;
 
 /// The most seconds or retries of a program.
 const PROGRAM_LIMIT: u64 = 1_000_000;

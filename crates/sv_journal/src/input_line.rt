@@ -2,12 +2,14 @@
 ghost use Rattle.std.specs.Prelude.{◌≡◌, ◌≤◌};
 ghost use Rattle.sv_base.specs.Limits.{moment_limit};
 ghost use Rattle.sv_journal.specs.Reading.{Gives, GivesAlways};
-ghost use Rattle.sv_journal.specs.ReadingLines.{how_at, exit_at, out_at, out_end_at, open_at, link_piece_at, link_end_at, event_of, event_at, answer_of, answer_at, input_at};
+ghost use Rattle.sv_journal.specs.ReadingLines.{how_at, exit_at, out_at, out_end_at, open_at};
+ghost use Rattle.sv_journal.specs.ReadingLines.{link_piece_at, link_end_at, event_of, event_at};
+ghost use Rattle.sv_journal.specs.ReadingLines.{answer_of, answer_at, input_at};
 
 use crate::names_line::names;
 use crate::number::number;
 use crate::piece::piece_of_line;
-use crate::stop::{BadByte, Stop};
+use crate::stop::Stop;
 use crate::token::{bytes_of_line, rest_of_line};
 use crate::word::{end, keyword, word};
 use crate::words::{ANSWERS, Answer, ENDINGS, Ending, SIDES, TOLD_SIGNALS, VERBS, Verb};
@@ -16,6 +18,7 @@ use sv_base::ids::{LinkId, Run};
 use sv_base::moment::{MOMENT_LIMIT, Moment};
 use sv_base::number::{ExitSignal, Pid};
 use sv_base::state::{How, Stream};
+use sv_letters::BadByte;
 use sv_out::input::Input;
 
 /// Reads an input line as the grammar has it, however long it is.

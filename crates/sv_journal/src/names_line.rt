@@ -3,15 +3,16 @@ ghost use Rattle.std.specs.Prelude.{◌≡◌, ◌-◌, None, length, slice_get}
 ghost use Rattle.sv_journal.specs.Reading.{Gives};
 ghost use Rattle.sv_journal.specs.ReadingLines.{names_line_at};
 ghost use Rattle.sv_journal.specs.Names.{above_from, spaced_name_at, names_at};
-ghost use Rattle.sv_journal.specs.declared.token.Awaits.{Awaits};
+ghost use Rattle.sv_letters.specs.declared.letters.Awaits.{Awaits};
 
 use crate::number::number;
 use crate::stop::Stop;
 use crate::text_byte::TextByte;
-use crate::token::{Awaits, Letters, spelled_behind, text_of, token};
+use crate::token::{spelled_behind, text_of, token};
 use crate::word::{end, word};
 use std::alloc::Global;
 use sv_base::text::Text;
+use sv_letters::{Awaits, Letters};
 use sv_out::input::Input;
 use sv_out::rising::RisingNames;
 

@@ -2,7 +2,7 @@
 ghost use Rattle.std.specs.Prelude.{◌<◌, ◌≤◌, ◌^◌, IfOk, length};
 ghost use Rattle.sv_journal.specs.Reading.{GivesAlways, number_at};
 
-use crate::stop::BadByte;
+use sv_letters::BadByte;
 
 /// Reads a number of at least `least`, which is 0 or 1, and at most `limit`, in decimal without leading zeros.
 pub fn number(least: u64, limit: u64, bytes: &[u8]) -> Result<(u64, &[u8]), BadByte>

@@ -1,12 +1,16 @@
 //! Reading an order line, part by part.
 ghost use Rattle.std.specs.Prelude.{◌≡◌, ◌≤◌};
 ghost use Rattle.sv_journal.specs.Reading.{Gives, GivesAlways};
-ghost use Rattle.sv_journal.specs.OrderReading.{text_at, pair_at, items_at, counted_at, text_numbers_at, number_bytes_at, last_text_at, text_bytes_at, two_texts_at, last_number_at, edge_at, state_at, kill_at, command_at, place_at, spawn_at, order_of, order_at};
+ghost use Rattle.sv_journal.specs.OrderReading.{text_at, pair_at, items_at, counted_at};
+ghost use Rattle.sv_journal.specs.OrderReading.{text_numbers_at, number_bytes_at, last_text_at};
+ghost use Rattle.sv_journal.specs.OrderReading.{text_bytes_at, two_texts_at, last_number_at};
+ghost use Rattle.sv_journal.specs.OrderReading.{edge_at, state_at, kill_at, command_at, place_at};
+ghost use Rattle.sv_journal.specs.OrderReading.{spawn_at, order_of, order_at};
 
 use crate::number::number;
 use crate::order_words::{ORDER_WORDS, OrderWord, RECEIVERS, STATES};
-use crate::stop::{BadByte, Stop};
-use crate::token::{Letters, bytes_of_line, rest_of_line, token};
+use crate::stop::Stop;
+use crate::token::{bytes_of_line, rest_of_line, token};
 use crate::word::{end, keyword, word};
 use crate::words::SIGNALS;
 use std::alloc::Global;
@@ -14,6 +18,7 @@ use sv_base::bytes::Bytes;
 use sv_base::ids::{LinkId, Run};
 use sv_base::items::Items;
 use sv_base::text::Text;
+use sv_letters::{BadByte, Letters};
 use sv_out::order::{Order, SpawnOrder};
 
 /// The words of a spawn's line before its command.

@@ -4,10 +4,11 @@ ghost use Rattle.sv_base.specs.Limits.{piece_limit};
 ghost use Rattle.sv_journal.specs.Reading.{Gives, GivesAlways};
 ghost use Rattle.sv_journal.specs.Pieces.{byte_at, bytes_at, piece_at};
 
-use crate::stop::{BadByte, Stop};
-use crate::token::{Awaits, Letters, escape, stands_for_itself};
+use crate::stop::Stop;
+use crate::token::{escape, stands_for_itself};
 use std::alloc::Global;
 use sv_base::bytes::{PIECE_LIMIT, Piece};
+use sv_letters::{Awaits, BadByte, Letters};
 
 /// Reads one byte of a piece.
 fn byte(bytes: &[u8]) -> Result<(u8, &[u8]), BadByte>

@@ -2,7 +2,7 @@
 ghost use Rattle.std.specs.Prelude.{◌≡◌, ◌↔◌, ◌<◌, true, length, chars, IsSome, IfSome, IsTrue};
 ghost use Rattle.std.specs.List.{list_all};
 ghost use Rattle.sv_journal.specs.ProgramNames.{IsName};
-ghost use Rattle.sv_journal.specs.Tokens.{is_name_letter};
+ghost use Rattle.sv_letters.specs.Letters.{is_name_letter};
 
 use std::marker::Model;
 use sv_base::text::Text;

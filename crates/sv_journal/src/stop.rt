@@ -1,14 +1,10 @@
 //! Why reading stopped.
 ghost use Rattle.std.specs.Prelude.{◌≡◌};
 ghost use Rattle.sv_journal.specs.declared.stop.Stop.{Stop};
-ghost use Rattle.sv_journal.specs.declared.stop.BadByte.{BadByte};
+ghost use Rattle.sv_letters.specs.declared.bad_byte.BadByte.{BadByte};
 
 use std::alloc::{AllocError, AllocFailed};
-
-/// Why reading without memory stopped within a line: at the first byte that no line of a journal has there, with so many
-/// bytes from it to the line's end.
-#[derive(Clone, Copy, Debug, PartialEq, Eq)]
-pub struct BadByte(pub usize);
+use sv_letters::BadByte;
 
 /// Why reading stopped within a line.
 #[derive(Clone, Copy, Debug, PartialEq, Eq)]

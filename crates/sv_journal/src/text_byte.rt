@@ -1,11 +1,12 @@
 //! Reading one byte of a text that has to be high enough.
 ghost use Rattle.std.specs.Prelude.{◌≡◌, ◌<◌, IfOk};
-ghost use Rattle.sv_journal.specs.Escapes.{is_escape, begins_escape, first_digit_of, second_digit_of, escape_of, byte_of};
+ghost use Rattle.sv_journal.specs.Escapes.{is_escape, begins_escape, first_digit_of};
+ghost use Rattle.sv_journal.specs.Escapes.{second_digit_of, escape_of, byte_of};
 ghost use Rattle.sv_journal.specs.Names.{text_byte};
 ghost use Rattle.sv_journal.specs.Reading.{GivesAlways};
 
-use crate::stop::BadByte;
-use crate::token::{Awaits, Letters, hex_value, stands_for_itself};
+use crate::token::{hex_value, stands_for_itself};
+use sv_letters::{Awaits, BadByte, Letters};
 
 /// Which byte of a text may come: one that fits at this place and isn't below `least`.
 #[derive(Clone, Copy, Debug)]

@@ -1,33 +1,22 @@
 //! Texts and bytes with their escapes.
-ghost use Rattle.std.specs.Prelude.{◌≡◌, ◌≢◌, ◌+◌, ◌*◌, ◌<◌, ◌≤◌, nat_lt, IfOk, IsTrue, IsUtf8, IfSome, length};
+ghost use Rattle.std.specs.Prelude.{◌≡◌, ◌≢◌, ◌+◌, ◌*◌, ◌<◌, ◌≤◌, IfOk, IsTrue, IsUtf8};
+ghost use Rattle.std.specs.Prelude.{IfSome, length};
 ghost use Rattle.std.specs.Option.{SomeIff, option_map};
-ghost use Rattle.sv_journal.specs.declared.token.Letters.{Letters};
-ghost use Rattle.sv_journal.specs.declared.token.Awaits.{Awaits};
+ghost use Rattle.sv_letters.specs.declared.letters.Letters.{Letters};
+ghost use Rattle.sv_letters.specs.declared.letters.Awaits.{Awaits};
 ghost use Rattle.sv_journal.specs.Spelling.{stands_for_itself};
-ghost use Rattle.sv_journal.specs.Tokens.{is_name_letter, whole_below, allows, after, after_lead, escapes, is_hex, hex_value, may_begin, is_first_digit, is_second_digit};
-ghost use Rattle.sv_journal.specs.Reading.{Gives, GivesAlways, Stage, first_digit_at, second_digit_at, escape_at, spelled_byte_at, token_from, with_front, is_lone, token_at, last_token_at};
+ghost use Rattle.sv_journal.specs.Tokens.{escapes, is_hex, hex_value, may_begin, is_first_digit};
+ghost use Rattle.sv_journal.specs.Tokens.{is_second_digit};
+ghost use Rattle.sv_journal.specs.Reading.{Gives, GivesAlways, Stage, first_digit_at};
+ghost use Rattle.sv_journal.specs.Reading.{second_digit_at, escape_at, spelled_byte_at, token_from};
+ghost use Rattle.sv_journal.specs.Reading.{with_front, is_lone, token_at, last_token_at};
 
-use crate::stop::{BadByte, Stop};
+use crate::stop::Stop;
 use crate::word::end;
 use std::alloc::Global;
 use sv_base::bytes::Bytes;
 use sv_base::text::Text;
-
-/// What a token may spell: any text, only a name of a program, or any bytes.
-#[derive(Clone, Copy, Debug, PartialEq, Eq)]
-pub enum Letters {
-    OfText,
-    OfName,
-    OfBytes,
-}
-
-/// What a token goes on with: a character, or a byte within a character, from `low` to `high`, and so many more bytes
-/// after it.
-#[derive(Clone, Copy, Debug, PartialEq, Eq)]
-pub enum Awaits {
-    Character,
-    Continuation { low: u8, high: u8, more: u8 },
-}
+use sv_letters::{Awaits, BadByte, Letters};
 
 /// Whether a token has this byte as it is: `!` to `~`, but for the percent sign.
 pub fn stands_for_itself(byte: u8) -> bool
@@ -36,89 +25,11 @@ pub fn stands_for_itself(byte: u8) -> bool
     b'!' <= byte && byte <= b'~' && byte != b'%'
 }
 
-/// Whether a name may have this character of ASCII.
-fn is_name_letter(byte: u8) -> bool
-    requires { byte < 128 }
-    ensures { result ≡ is_name_letter byte }
+/// Whether this byte may come and is written as an escape.
+fn escapes(letters: Letters, awaits: Awaits, byte: u8) -> bool
+    ensures { result ≡ escapes letters awaits byte }
 {
-    b' ' < byte && byte != 127 && byte != b':' && byte != b'/' && byte != b'*'
-}
-
-impl Letters {
-    /// Whether this byte is a character by itself: in UTF-8 one of ASCII, among any bytes each of them.
-    fn is_whole(self, byte: u8) -> bool
-        ensures { result ≡ nat_lt byte (whole_below self) }
-    {
-        match self {
-            Letters::OfText | Letters::OfName => byte < 128,
-            Letters::OfBytes => true,
-        }
-    }
-}
-
-impl Awaits {
-    /// Whether this byte may come.
-    pub fn allows(self, letters: Letters, byte: u8) -> bool
-        ensures { result ≡ allows letters self byte }
-    {
-        match self {
-            Awaits::Character if letters.is_whole(byte) => match letters {
-                Letters::OfText | Letters::OfBytes => true,
-                Letters::OfName => is_name_letter(byte),
-            },
-            Awaits::Character => 194 <= byte && byte <= 244,
-            Awaits::Continuation { low, high, .. } => low <= byte && byte <= high,
-        }
-    }
-
-    /// What the token goes on with after this byte.
-    pub fn after(self, letters: Letters, byte: u8) -> Awaits
-        ensures { result ≡ after letters self byte }
-    {
-        match self {
-            Awaits::Character => after_lead(letters, byte),
-            Awaits::Continuation { more: 0, .. } => Awaits::Character,
-            Awaits::Continuation { more, .. } => Awaits::Continuation {
-                low: 128,
-                high: 191,
-                more: more - 1,
-            },
-        }
-    }
-
-    /// Whether this byte may come and is written as an escape.
-    fn escapes(self, letters: Letters, byte: u8) -> bool
-        ensures { result ≡ escapes letters self byte }
-    {
-        self.allows(letters, byte) && !stands_for_itself(byte)
-    }
-}
-
-fn after_lead(letters: Letters, lead: u8) -> Awaits
-    ensures { result ≡ after_lead letters lead }
-{
-    match lead {
-        _ if letters.is_whole(lead) => Awaits::Character,
-        0..=223 => Awaits::Continuation {
-            low: if letters == Letters::OfName && lead == 194 {
-                160
-            } else {
-                128
-            },
-            high: 191,
-            more: 0,
-        },
-        224..=239 => Awaits::Continuation {
-            low: if lead == 224 { 160 } else { 128 },
-            high: if lead == 237 { 159 } else { 191 },
-            more: 1,
-        },
-        _ => Awaits::Continuation {
-            low: if lead == 240 { 144 } else { 128 },
-            high: if lead == 244 { 143 } else { 191 },
-            more: 2,
-        },
-    }
+    awaits.allows(letters, byte) && !stands_for_itself(byte)
 }
 
 /// The value of a hexadecimal digit in upper case.
@@ -140,7 +51,7 @@ fn may_begin(letters: Letters, awaits: Awaits, high: u8) -> bool
 {
     const LOW: [u8; 16] = [0, 1, 2, 3, 4, 5, 6, 7, 8, 9, 10, 11, 12, 13, 14, 15];
     LOW.iter()
-        .any(|low| awaits.escapes(letters, 16 * high + *low))
+        .any(|low| escapes(letters, awaits, 16 * high + *low))
 }
 
 /// Whether a byte that may come has an escape that begins with this digit.
@@ -155,7 +66,8 @@ fn is_first_digit(letters: Letters, awaits: Awaits, digit: u8) -> bool
 
 /// Reads the first digit of an escape.
 fn first_digit(letters: Letters, awaits: Awaits, bytes: &[u8]) -> Result<(u8, &[u8]), BadByte>
-    ensures value { GivesAlways (λ x. (x.0, x.1.now)) result (first_digit_at letters awaits bytes.now) }
+    ensures value { GivesAlways (λ digit. (digit.0, digit.1.now)) result
+        (first_digit_at letters awaits bytes.now) }
     ensures shorter { IfOk result (λ x. length x.1.now < length bytes.now) }
     ensures bound { IfOk result (λ x. x.0 < 16) }
 {
@@ -184,7 +96,7 @@ fn second_digit(
         return Err(BadByte(0));
     };
     match hex_value(*digit) {
-        Some(low) if awaits.escapes(letters, 16 * high + low) => Ok((16 * high + low, rest)),
+        Some(low) if escapes(letters, awaits, 16 * high + low) => Ok((16 * high + low, rest)),
         _ => Err(BadByte(bytes.len())),
     }
 }
@@ -215,7 +127,7 @@ fn spelled_byte(
         ))),
         _ => match awaits {
             Awaits::Character => Ok(None),
-            Awaits::Continuation { .. } => Err(BadByte(bytes.len())),
+            Awaits::Private | Awaits::Continuation { .. } => Err(BadByte(bytes.len())),
         },
     }
 }

@@ -2,7 +2,7 @@
 ghost use Rattle.std.specs.Prelude.{◌≡◌, List, ℕ};
 ghost use Rattle.sv_journal.specs.Reading.{GivesAlways, word_at, keyword_at, end_at};
 
-use crate::stop::BadByte;
+use sv_letters::BadByte;
 
 /// Reads this word, and gives what follows it.
 pub fn word<'a>(wanted: &[u8], bytes: &'a [u8]) -> Result<&'a [u8], BadByte>
@@ -42,7 +42,8 @@ pub trait Spelled: Copy {
 
 /// Reads one of these words. Where none stands here, the bad byte is the first that goes on with none of them.
 pub fn keyword<'a, W: Spelled>(words: &[W], bytes: &'a [u8]) -> Result<(W, &'a [u8]), BadByte>
-    ensures { GivesAlways (λ x. (x.0, x.1.now)) result (keyword_at W.spelling_of words.now bytes.now) }
+    ensures value { GivesAlways (λ x. (x.0, x.1.now)) result
+        (keyword_at W.spelling_of words.now bytes.now) }
 {
     let mut least = bytes.len();
     let mut left = words;

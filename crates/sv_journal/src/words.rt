@@ -2,7 +2,8 @@
 ghost use Rattle.std.specs.Prelude.{◌≡◌};
 ghost use Rattle.sv_base.specs.Names.{signal_name};
 ghost use Rattle.sv_journal.specs.JournalLine.{autorestart_word, side_word};
-ghost use Rattle.sv_journal.specs.ReadingLines.{verb_word, told_signal, told_word, ending_word, answer_word, opening_word};
+ghost use Rattle.sv_journal.specs.ReadingLines.{verb_word, told_signal, told_word, ending_word};
+ghost use Rattle.sv_journal.specs.ReadingLines.{answer_word, opening_word};
 
 use crate::word::Spelled;
 use sv_base::signal::{DaemonSignal, Signal};

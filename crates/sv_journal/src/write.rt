@@ -5,7 +5,10 @@ ghost use Rattle.std.specs.Fmt.{decimal};
 ghost use Rattle.sv_base.specs.Names.{signal_name};
 ghost use Rattle.sv_journal.specs.Spelling.{hex_digit, byte_spelling, bytes_spelling, token};
 ghost use Rattle.sv_journal.specs.Orders.{FitsOrder};
-ghost use Rattle.sv_journal.specs.JournalLine.{FitsInput, how_words, stream_word, stream_end_word, side_word, input_line, then_token, then_pair, spawn_line, order_line, receiver, counted_words, counted_pairs};
+ghost use Rattle.sv_journal.specs.JournalLine.{FitsInput, how_words, stream_word, stream_end_word};
+ghost use Rattle.sv_journal.specs.JournalLine.{side_word, input_line, then_token, then_pair};
+ghost use Rattle.sv_journal.specs.JournalLine.{spawn_line, order_line, receiver, counted_words};
+ghost use Rattle.sv_journal.specs.JournalLine.{counted_pairs};
 
 use crate::fits::{input_fits, order_fits};
 use crate::token::stands_for_itself;

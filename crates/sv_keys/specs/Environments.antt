@@ -1,5 +1,6 @@
 -- The environment of a process (the manual's chapter on subprocesses).
-use Rattle.std.specs.Prelude.{ℕ, List, [], ◌∷◌, ◌++◌, ◌||◌, Option, Some, None, codes, if◌then◌else◌}
+use Rattle.std.specs.Prelude.{ℕ, List, [], ◌∷◌, ◌++◌, ◌||◌, Option, Some, None, codes}
+use Rattle.std.specs.Prelude.{if◌then◌else◌}
 use Rattle.std.specs.List.{fold}
 use Rattle.std.specs.Ordering.{nat_cmp}
 use Rattle.std.specs.Cmp.Lexicographic.{slice_cmp}
@@ -19,7 +20,8 @@ with_variables = fold with_variable
 -- the program's own address, where it is set and isn't AUTO, or else that of the daemon's server
 abbrev pub server_url : List ℕ → Option (List ℕ) → Option (List ℕ)
 server_url own server =
-    if is_empty own || bytes_eq (str_to_ascii_lowercase own) (codes "auto") then server else Some own
+    if is_empty own || bytes_eq (str_to_ascii_lowercase own) (codes "auto") then server
+    else Some own
 
 -- the address of the server, where there is one
 abbrev pub url_variable : Option (List ℕ) → List (List ℕ × List ℕ)
@@ -35,6 +37,7 @@ own_variables group name url =
     ∷ url_variable url
 
 -- sorted by name: what each process gets, then the daemon's pairs, then the program's
-unfoldable pub environment_of : List ℕ → List ℕ → Option (List ℕ) → List (List ℕ × List ℕ) → List (List ℕ × List ℕ) → List (List ℕ × List ℕ)
+unfoldable pub environment_of : List ℕ → List ℕ → Option (List ℕ) → List (List ℕ × List ℕ)
+    → List (List ℕ × List ℕ) → List (List ℕ × List ℕ)
 environment_of group name url daemon own =
     with_variables [] (own_variables group name url ++ daemon ++ own)

@@ -20,11 +20,6 @@ abbrev pub or_bad : {T : Type 0} → Key → Option T → Result T KeyFault
 or_bad key (Some value) = Ok value
 or_bad key None = Err (bad_value key)
 
--- the second step, where the first has no fault
-abbrev pub and_then : {A B E : Type 0} → Result A E → (A → Result B E) → Result B E
-and_then (Ok x) f = f x
-and_then (Err fault) f = Err fault
-
 -- of two faults that of the earlier key, and of one key the first
 abbrev pub earlier : KeyFault → KeyFault → KeyFault
 earlier one other = if nat_lt (key_place other.key) (key_place one.key) then other else one

@@ -1,8 +1,22 @@
--- The keys of the sections (the manual's chapter on the configuration file): how each is written, and at which place it is
--- looked at.
+-- The keys of the sections (the manual's chapter on the configuration file): how each is written,
+-- and at which place it is looked at.
 use Rattle.std.specs.Prelude.{ℕ, List, codes}
 use Rattle.sv_keys.specs.declared.key.Key.{Key}
-use Rattle.sv_keys.specs.declared.key.Key.TheVariants.{Command, ProcessName, Numprocs, NumprocsStart, Priority, Autostart, Startsecs, Startretries, Stopwaitsecs, Autorestart, Exitcodes, Stopsignal, Stopasgroup, Killasgroup, RedirectStderr, StdoutLogfile, StderrLogfile, StdoutLogfileMaxbytes, StderrLogfileMaxbytes, StdoutLogfileBackups, StderrLogfileBackups, StdoutCaptureMaxbytes, StderrCaptureMaxbytes, StdoutEventsEnabled, StderrEventsEnabled, Environment, Directory, Umask, User, Serverurl, Events, BufferSize, Programs, Logfile, LogfileMaxbytes, LogfileBackups, Loglevel, Identifier, Childlogdir, File, Port, Username, Password, Files}
+use Rattle.sv_keys.specs.declared.key.Key.TheVariants.{Command, ProcessName, Numprocs}
+use Rattle.sv_keys.specs.declared.key.Key.TheVariants.{NumprocsStart, Priority, Autostart}
+use Rattle.sv_keys.specs.declared.key.Key.TheVariants.{Startsecs, Startretries, Stopwaitsecs}
+use Rattle.sv_keys.specs.declared.key.Key.TheVariants.{Autorestart, Exitcodes, Stopsignal}
+use Rattle.sv_keys.specs.declared.key.Key.TheVariants.{Stopasgroup, Killasgroup, RedirectStderr}
+use Rattle.sv_keys.specs.declared.key.Key.TheVariants.{StdoutLogfile, StderrLogfile}
+use Rattle.sv_keys.specs.declared.key.Key.TheVariants.{StdoutLogfileMaxbytes, StderrLogfileMaxbytes}
+use Rattle.sv_keys.specs.declared.key.Key.TheVariants.{StdoutLogfileBackups, StderrLogfileBackups}
+use Rattle.sv_keys.specs.declared.key.Key.TheVariants.{StdoutCaptureMaxbytes, StderrCaptureMaxbytes}
+use Rattle.sv_keys.specs.declared.key.Key.TheVariants.{StdoutEventsEnabled, StderrEventsEnabled}
+use Rattle.sv_keys.specs.declared.key.Key.TheVariants.{Environment, Directory, Umask, User}
+use Rattle.sv_keys.specs.declared.key.Key.TheVariants.{Serverurl, Events, BufferSize, Programs}
+use Rattle.sv_keys.specs.declared.key.Key.TheVariants.{Logfile, LogfileMaxbytes, LogfileBackups}
+use Rattle.sv_keys.specs.declared.key.Key.TheVariants.{Loglevel, Identifier, Childlogdir, File}
+use Rattle.sv_keys.specs.declared.key.Key.TheVariants.{Port, Username, Password, Files}
 
 -- the key as a configuration writes it
 unfoldable pub key_name : Key → List ℕ

@@ -1,13 +1,16 @@
--- The table of a program's keys (the manual's chapter on the configuration file), in its order: for each key the way to
--- read its value, and its default. A listener's differ in three rows.
-use Rattle.std.specs.Prelude.{ℕ, ℤ, pos, negsuc, List, [], ◌∷◌, Bool, true, false, Option, Some, None, Result, Ok, Err, if◌then◌else◌}
+-- The table of a program's keys (the manual's chapter on the configuration file), in its order: for
+-- each key the way to read its value, and its default. A listener's differ in three rows.
+use Rattle.std.specs.Prelude.{ℕ, ℤ, pos, negsuc, List, [], ◌∷◌, Bool, true, false, Option, Some}
+use Rattle.std.specs.Prelude.{None, Result, Ok, Err, if◌then◌else◌}
 use Rattle.sv_base.specs.declared.signal.Signal.TheVariants.{Term}
 use Rattle.sv_base.specs.declared.spec.PoolSpec.{PoolSpec}
 use Rattle.sv_base.specs.declared.state.Autorestart.TheVariants.{Unexpected}
-use Rattle.sv_keys.specs.Judged.{and_then}
+use Rattle.sv_expand.specs.Results.{and_then}
 use Rattle.sv_keys.specs.ProgramNames.{name_of}
 use Rattle.sv_keys.specs.Rows.{row, needed}
-use Rattle.sv_keys.specs.Values.{text_of, number_in, size_in, signed_of, truth_of, false_of, autorestart_of, signal_of, codes_of, kinds_of, log_file_of, umask_of, environment_of}
+use Rattle.sv_keys.specs.Values.{text_of, number_in, size_in, signed_of, truth_of, false_of}
+use Rattle.sv_keys.specs.Values.{autorestart_of, signal_of, codes_of, kinds_of, log_file_of}
+use Rattle.sv_keys.specs.Values.{umask_of, environment_of}
 use Rattle.sv_keys.specs.declared.judged.KeyFault.{KeyFault}
 use Rattle.sv_keys.specs.declared.key.Key.TheVariants as key
 use Rattle.sv_keys.specs.declared.table.Around.{Around}
@@ -80,15 +83,22 @@ stopping_of listener keys names =
     and_then (row key.Stopasgroup truth_of false keys names) (λ stopasgroup.
     and_then (row key.Killasgroup truth_of stopasgroup keys names) (λ killasgroup.
     and_then (redirect listener keys names) (λ redirect_stderr.
-    Ok (record { stopasgroup = stopasgroup; killasgroup = killasgroup; redirect_stderr = redirect_stderr }))))
+    Ok
+    (record {
+      stopasgroup = stopasgroup;
+      killasgroup = killasgroup;
+      redirect_stderr = redirect_stderr;
+    }))))
 
 -- the keys of both logs, which stand in turn
 unfoldable pub logs_of : Keys → Names → Result (Log × Log) KeyFault
 logs_of keys names =
     and_then (row key.StdoutLogfile log_file_of Auto keys names) (λ stdout_file.
     and_then (row key.StderrLogfile log_file_of Auto keys names) (λ stderr_file.
-    and_then (row key.StdoutLogfileMaxbytes (size_in 18446744073709551615) 52428800 keys names) (λ stdout_maxbytes.
-    and_then (row key.StderrLogfileMaxbytes (size_in 18446744073709551615) 52428800 keys names) (λ stderr_maxbytes.
+    and_then (row key.StdoutLogfileMaxbytes (size_in 18446744073709551615) 52428800 keys names)
+    (λ stdout_maxbytes.
+    and_then (row key.StderrLogfileMaxbytes (size_in 18446744073709551615) 52428800 keys names)
+    (λ stderr_maxbytes.
     and_then (row key.StdoutLogfileBackups (number_in 0 1000) 10 keys names) (λ stdout_backups.
     and_then (row key.StderrLogfileBackups (number_in 0 1000) 10 keys names) (λ stderr_backups.
     and_then (row key.StdoutCaptureMaxbytes (size_in 16777216) 0 keys names) (λ stdout_capture.

@@ -21,7 +21,8 @@ abbrev pub program_pairs : Host → List ℕ → List ℕ → List (List ℕ × 
 program_pairs host program group =
     (codes "program_name", program) ∷ (codes "group_name", group) ∷ host_pairs host
 
--- in a program of a group: alone, beside the number of processes, and beside that of the process too
+-- in a program of a group: alone, beside the number of processes, and beside that of the process
+-- too
 abbrev pub without_numbers : List (List ℕ × List ℕ) → Names
 without_numbers pairs = record { pairs = pairs; numbers = [] }
 
@@ -32,4 +33,5 @@ with_count pairs count = record { pairs = pairs; numbers = (codes "numprocs", co
 -- beside the number of the process and that of all
 abbrev pub with_process : List (List ℕ × List ℕ) → ℕ → ℕ → Names
 with_process pairs count process =
-    record { pairs = pairs; numbers = (codes "process_num", process) ∷ (codes "numprocs", count) ∷ [] }
+    record
+    { pairs = pairs; numbers = (codes "process_num", process) ∷ (codes "numprocs", count) ∷ [] }

@@ -1,13 +1,10 @@
 -- What may be the name of a program, a group or a process, and the titles of their sections.
-use Rattle.std.specs.Prelude.{◌==◌, ℕ, List, Bool, ◌&&◌, not, nat_lt, nat_le, Option, Some, None, if◌then◌else◌}
+use Rattle.std.specs.Prelude.{ℕ, List, Bool, ◌&&◌, not, Option, Some, None}
+use Rattle.std.specs.Prelude.{if◌then◌else◌}
 use Rattle.std.specs.List.{list_all}
 use Rattle.std.specs.Str.{bytes_eq, chars}
 use Rattle.sv_keys.specs.Cuts.{cut_at, is_colon, is_empty}
-
--- no space, control character, colon, slash or asterisk
-abbrev pub is_name_letter : ℕ → Bool
-is_name_letter c =
-    nat_lt 32 c && not (nat_le 127 c && nat_le c 159) && not (c == 58) && not (c == 47) && not (c == 42)
+use Rattle.sv_letters.specs.Letters.{is_name_letter}
 
 -- what may be a name: one such character or more
 abbrev pub is_name : List ℕ → Bool

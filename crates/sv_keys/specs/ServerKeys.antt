@@ -1,4 +1,5 @@
--- The keys of the sections of the servers, the daemon and the client (the manual's chapter on the configuration file).
+-- The keys of the sections of the servers, the daemon and the client (the manual's chapter on the
+-- configuration file).
 use Rattle.std.specs.Prelude.{ℕ, List, [], Bool, false, Option, Some, Result, Ok, codes}
 use Rattle.std.specs.Option.{is_some}
 use Rattle.sv_base.specs.declared.config.ClientSpec.{ClientSpec}
@@ -10,11 +11,12 @@ use Rattle.sv_base.specs.declared.spec.LogSpec.{LogSpec}
 use Rattle.sv_base.specs.declared.state.Level.TheVariants.{Info}
 use Rattle.sv_expand.specs.Values.{value_of}
 use Rattle.sv_expand.specs.declared.names.Names.{Names}
-use Rattle.sv_keys.specs.Judged.{and_then}
+use Rattle.sv_expand.specs.Results.{and_then}
 use Rattle.sv_keys.specs.KeyNames.{key_name}
 use Rattle.sv_keys.specs.KeyTable.{Keys, variables}
 use Rattle.sv_keys.specs.Rows.{row, needed}
-use Rattle.sv_keys.specs.Values.{text_of, number_in, size_in, path_of, main_file_of, level_of, inet_of, password_of}
+use Rattle.sv_keys.specs.Values.{text_of, number_in, size_in, path_of, main_file_of, level_of}
+use Rattle.sv_keys.specs.Values.{inet_of, password_of}
 use Rattle.sv_keys.specs.declared.judged.KeyFault.{KeyFault}
 use Rattle.sv_keys.specs.declared.key.Key.{Key}
 use Rattle.sv_keys.specs.declared.key.Key.TheVariants as key
@@ -35,7 +37,8 @@ usual_url = codes "http://localhost:9001"
 -- what the daemon's section tells where no such section stands
 abbrev pub first_daemon : Daemon
 first_daemon = record {
-  main = record { file = usual_file; maxbytes = 52428800; backups = 10; capture = 0; events = false };
+  main =
+      record { file = usual_file; maxbytes = 52428800; backups = 10; capture = 0; events = false };
   level = Info;
   identifier = usual_identifier;
   environment = [];
@@ -59,19 +62,24 @@ guarded place keys names =
 
 -- a server at a file
 unfoldable pub unix_server : Keys → Names → Result ServerSpec KeyFault
-unix_server keys names = and_then (needed key.File path_of keys names) (λ file. guarded (Unix file) keys names)
+unix_server keys names =
+    and_then (needed key.File path_of keys names) (λ file. guarded (Unix file) keys names)
 
 -- a server at a port
 unfoldable pub inet_server : Keys → Names → Result ServerSpec KeyFault
-inet_server keys names = and_then (needed key.Port inet_of keys names) (λ place. guarded place keys names)
+inet_server keys names =
+    and_then (needed key.Port inet_of keys names) (λ place. guarded place keys names)
 
 -- the daemon's own log
 unfoldable pub main_log : Keys → Names → Result LogSpec KeyFault
 main_log keys names =
     and_then (row key.Logfile main_file_of usual_file keys names) (λ file.
-    and_then (row key.LogfileMaxbytes (size_in 18446744073709551615) 52428800 keys names) (λ maxbytes.
+    and_then (row key.LogfileMaxbytes (size_in 18446744073709551615) 52428800 keys names)
+    (λ maxbytes.
     and_then (row key.LogfileBackups (number_in 0 1000) 10 keys names) (λ backups.
-    Ok (record { file = file; maxbytes = maxbytes; backups = backups; capture = 0; events = false }))))
+    Ok
+    (record
+    { file = file; maxbytes = maxbytes; backups = backups; capture = 0; events = false }))))
 
 -- the daemon's section
 unfoldable pub daemon_of : Keys → Names → Result Daemon KeyFault

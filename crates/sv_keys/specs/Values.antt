@@ -1,11 +1,14 @@
 -- What the texts of values mean, one definition for each type of key.
-use Rattle.std.specs.Prelude.{◌==◌, ◌-◌, ◌+◌, ◌*◌, ◌∷◌, ◌++◌, ℕ, ℤ, pos, negsuc, List, [], Bool, true, false, ◌&&◌, Option, Some, None, Result, Ok, Err, nat_le, take, drop, codes, if◌then◌else◌}
+use Rattle.std.specs.Prelude.{◌==◌, ◌-◌, ◌+◌, ◌*◌, ◌∷◌, ◌++◌, ℕ, ℤ, pos, negsuc, List, [], Bool}
+use Rattle.std.specs.Prelude.{true, false, ◌&&◌, Option, Some, None, Result, Ok, Err, nat_le, take}
+use Rattle.std.specs.Prelude.{drop, codes, if◌then◌else◌}
 use Rattle.std.specs.List.{list_all, find}
 use Rattle.std.specs.Char.{is_ascii_digit}
 use Rattle.std.specs.Option.{option_map}
 use Rattle.std.specs.Str.{bytes_eq, str_to_ascii_lowercase}
 use Rattle.hex.specs.Hex.{decode_sized}
 use Rattle.hex.specs.declared.error.FromHexError.{FromHexError}
+use Rattle.sv_base.specs.Ascii.{hyphen, plus_sign}
 use Rattle.sv_base.specs.KindNames.{kind_name, all_kinds}
 use Rattle.sv_base.specs.SignalWords.{is_signal_word, all_signals}
 use Rattle.sv_base.specs.SizeText.{size_of}
@@ -20,7 +23,8 @@ use Rattle.sv_base.specs.declared.signal.Signal.{Signal}
 use Rattle.sv_base.specs.declared.state.Autorestart.{Autorestart}
 use Rattle.sv_base.specs.declared.state.Autorestart.TheVariants.{Never, Unexpected, Always}
 use Rattle.sv_base.specs.declared.state.Level.{Level}
-use Rattle.sv_base.specs.declared.state.Level.TheVariants.{Blather, Trace, Debug, Info, Warn, Error, Critical}
+use Rattle.sv_base.specs.declared.state.Level.TheVariants.{Blather, Trace, Debug, Info, Warn, Error}
+use Rattle.sv_base.specs.declared.state.Level.TheVariants.{Critical}
 use Rattle.sv_keys.specs.Cuts.{is_empty, parts_of, before_last_colon, behind_last_colon}
 use Rattle.sv_keys.specs.declared.values.LogFile.{LogFile}
 use Rattle.sv_keys.specs.declared.values.LogFile.TheVariants.{Auto, Nowhere, Named}
@@ -70,8 +74,8 @@ negated number = if number == 0 then pos 0 else negsuc (number - 1)
 abbrev pub signed_of : List ℕ → Option ℤ
 signed_of [] = None
 signed_of (b ∷ bs) =
-    if b == 45 then option_map negated (number_of 2147483648 bs)
-    else if b == 43 then option_map pos (number_of 2147483647 bs)
+    if b == hyphen then option_map negated (number_of 2147483648 bs)
+    else if b == plus_sign then option_map pos (number_of 2147483647 bs)
     else option_map pos (number_of 2147483647 (b ∷ bs))
 
 -- yes or no
@@ -96,7 +100,8 @@ restart_by (Some false) = Some Never
 -- yes, no, or `unexpected` in any case of letters
 abbrev pub autorestart_of : List ℕ → Option Autorestart
 autorestart_of text =
-    if bytes_eq (str_to_ascii_lowercase text) (codes "unexpected") then Some Unexpected else restart_by (truth_of text)
+    if bytes_eq (str_to_ascii_lowercase text) (codes "unexpected") then Some Unexpected
+    else restart_by (truth_of text)
 
 -- the signal that has this word
 abbrev pub signal_of : List ℕ → Option Signal
@@ -114,7 +119,8 @@ if_some (Some x) f = f x
 -- each of these texts read in turn, after the values that were read before
 abbrev pub each_from : {T : Type 0} → (List ℕ → Option T) → List T → List (List ℕ) → Option (List T)
 each_from read done [] = Some done
-each_from read done (text ∷ texts) = if_some (read text) (λ value. each_from read (done ++ value ∷ []) texts)
+each_from read done (text ∷ texts) =
+    if_some (read text) (λ value. each_from read (done ++ value ∷ []) texts)
 
 -- exit codes with commas; the empty text has none
 abbrev pub codes_of : List ℕ → Option (List ℕ)
@@ -143,7 +149,8 @@ log_file_of text =
 -- the main log: NONE as it stands, or a path
 abbrev pub main_file_of : List ℕ → Option (Option (List ℕ))
 main_file_of text =
-    if is_empty text then None else if bytes_eq text (codes "NONE") then Some None else Some (Some text)
+    if is_empty text then None else if bytes_eq text (codes "NONE") then Some None
+    else Some (Some text)
 
 -- a digit below 8
 abbrev pub is_octal : ℕ → Bool
@@ -192,5 +199,6 @@ stored_digest (Err fault) = None
 abbrev pub password_of : List ℕ → Option Password
 password_of text =
     if is_empty text then Some password.None
-    else if bytes_eq (take 5 text) (codes "{SHA}") then stored_digest (decode_sized (drop 5 text) 20)
+    else if bytes_eq (take 5 text) (codes "{SHA}")
+    then stored_digest (decode_sized (drop 5 text) 20)
     else Some (Plain text)

@@ -1,10 +1,13 @@
 //! How values are cut into parts.
 
-ghost use Rattle.std.specs.Prelude.{◌≡◌, ◌++◌, ◌<◌, ◌≤◌, ◌+◌, ◌-◌, IfOk, IfSome, OnOk, List, [], ◌∷◌, ℕ, length, map, filter};
+ghost use Rattle.std.specs.Prelude.{◌≡◌, ◌++◌, ◌<◌, ◌≤◌, ◌+◌, ◌-◌, IfOk, IfSome, OnOk, List, []};
+ghost use Rattle.std.specs.Prelude.{◌∷◌, ℕ, length, map, filter};
 ghost use Rattle.std.specs.List.{prefix_len, suffix_len, slice_split, flat_map};
 ghost use Rattle.std.specs.Option.{option_map};
 ghost use Rattle.std.specs.Str.{IsUtf8};
-ghost use Rattle.sv_keys.specs.Cuts.{is_white, is_comma, is_space, is_feed, is_no_colon, is_some_text, trimmed, without_indent, cut_at, parts_of, lines_in, gaps_in, before_last_colon, behind_last_colon};
+ghost use Rattle.sv_keys.specs.Cuts.{is_white, is_comma, is_space, is_feed, is_no_colon};
+ghost use Rattle.sv_keys.specs.Cuts.{is_some_text, trimmed, without_indent, cut_at, parts_of};
+ghost use Rattle.sv_keys.specs.Cuts.{lines_in, gaps_in, before_last_colon, behind_last_colon};
 
 use std::alloc::{AllocError, Global};
 use sv_base::items::Items;

@@ -1,7 +1,8 @@
 //! The environment of a process.
 
 ghost use Rattle.std.specs.Prelude.{◌≡◌, [], IfOk, OnOk};
-ghost use Rattle.sv_keys.specs.Environments.{with_variables, server_url, own_variables, environment_of};
+ghost use Rattle.sv_keys.specs.Environments.{with_variables, server_url, own_variables};
+ghost use Rattle.sv_keys.specs.Environments.{environment_of};
 
 use std::alloc::{AllocError, Global};
 use std::collections::BTreeMap;

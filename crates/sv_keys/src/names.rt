@@ -1,7 +1,8 @@
 //! The names that stand in values.
 
 ghost use Rattle.std.specs.Prelude.{◌≡◌, ◌++◌, ◌∷◌, [], IfOk, OnOk, map, codes};
-ghost use Rattle.sv_keys.specs.KnownNames.{env_name, host_pairs, host_names, program_pairs, without_numbers, with_count, with_process};
+ghost use Rattle.sv_keys.specs.KnownNames.{env_name, host_pairs, host_names, program_pairs};
+ghost use Rattle.sv_keys.specs.KnownNames.{without_numbers, with_count, with_process};
 
 use std::alloc::{AllocError, Global};
 use sv_base::config::Host;

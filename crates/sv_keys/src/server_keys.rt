@@ -2,7 +2,9 @@
 
 ghost use Rattle.std.specs.Prelude.{◌≡◌, Ok, IfOk, IfErr};
 ghost use Rattle.sv_keys.specs.Judged.{IsFault};
-ghost use Rattle.sv_keys.specs.ServerKeys.{usual_file, usual_identifier, usual_url, first_daemon, first_client, is_set, guarded, unix_server, inet_server, main_log, daemon_of, client_of};
+ghost use Rattle.sv_keys.specs.ServerKeys.{usual_file, usual_identifier, usual_url, first_daemon};
+ghost use Rattle.sv_keys.specs.ServerKeys.{first_client, is_set, guarded, unix_server, inet_server};
+ghost use Rattle.sv_keys.specs.ServerKeys.{main_log, daemon_of, client_of};
 
 use crate::judged::Judged;
 use crate::key::Key;

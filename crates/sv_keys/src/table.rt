@@ -2,7 +2,9 @@
 
 ghost use Rattle.std.specs.Prelude.{◌≡◌, ◌∷◌, [], Ok, IfOk, IfErr};
 ghost use Rattle.sv_keys.specs.Judged.{IsFault};
-ghost use Rattle.sv_keys.specs.KeyTable.{numprocs, numprocs_start, priority, first_priority, running_of, redirect, stopping_of, logs_of, variables, around_of, draft_of, pool_of, settings_of};
+ghost use Rattle.sv_keys.specs.KeyTable.{numprocs, numprocs_start, priority, first_priority};
+ghost use Rattle.sv_keys.specs.KeyTable.{running_of, redirect, stopping_of, logs_of, variables};
+ghost use Rattle.sv_keys.specs.KeyTable.{around_of, draft_of, pool_of, settings_of};
 
 use crate::judged::{Judged, or_bad};
 use crate::key::Key;

@@ -5,7 +5,8 @@ ghost use Rattle.std.specs.List.{list_all};
 ghost use Rattle.std.specs.Option.{option_map};
 ghost use Rattle.std.specs.Str.{chars};
 ghost use Rattle.sv_keys.specs.Cuts.{cut_at, is_colon};
-ghost use Rattle.sv_keys.specs.ProgramNames.{is_name_letter, is_name, titled};
+ghost use Rattle.sv_keys.specs.ProgramNames.{is_name, titled};
+ghost use Rattle.sv_letters.specs.Letters.{is_name_letter};
 
 fn is_name_letter(c: char) -> bool
     ensures { result ≡ is_name_letter c }

@@ -4,7 +4,8 @@ use mathlib.Core.Option.{some}
 use lib.ListN.{get_elem?}
 use Rattle.sv_lane.specs.Order.{IsInOrder, items_of, posted_by}
 use Rattle.sv_lane.specs.declared.role.Role.{Role}
-use Rattle.sv_lane.specs.declared.role.Role.TheVariants.{Opening, Seating, Posting, Taking, Finishing, Spent}
+use Rattle.sv_lane.specs.declared.role.Role.TheVariants.{Opening, Seating, Posting, Taking}
+use Rattle.sv_lane.specs.declared.role.Role.TheVariants.{Finishing, Spent}
 
 -- a lane at one moment
 pub record Account (T : Type 0) : Type 0 where

@@ -11,7 +11,8 @@ module _ {T : Type 0} where
   abbrev pub items_of : List (ℕ × T) → List T
   items_of seated = map (λ (x : ℕ × T). x.1) seated
 
-  -- for each seat, the items taken of it, then those of it that are left, are the list that it posted
+  -- for each seat, the items taken of it, then those of it that are left, are the list that it
+  -- posted
   abbrev pub IsInOrder : List (ℕ × T) → List (ℕ × T) → (ℕ → List T) → Type 0
   IsInOrder taken left posted = (seat : ℕ) → of_seat seat (taken ++ left) ≡ posted seat
 
@@ -19,8 +20,8 @@ module _ {T : Type 0} where
   abbrev pub posted_by : List (List T) → ℕ → List T
   posted_by lists seat = slice_index_or lists seat []
 
-  -- of each item that is left there is a seat, so that seat by seat what was taken, then what is left,
-  -- is what was posted
+  -- of each item that is left there is a seat, so that seat by seat what was taken, then what is
+  -- left, is what was posted
   abbrev pub Settles : List (ℕ × T) → List (List T) → List T → Type 0
   Settles taken lists left =
       (seated : List (ℕ × T)) × (items_of seated ≡ left) × IsInOrder taken seated (posted_by lists)

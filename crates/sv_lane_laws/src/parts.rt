@@ -1,7 +1,8 @@
 //! What one thread does: it posts a list, or takes a number of items.
 
 ghost use Rattle.std.specs.Prelude.{◌≡◌, ◌≤◌, [], ◌++◌, IfOk, map, vec_capacity};
-ghost use Rattle.sv_lane.specs.Ends.{AreAllPosters, IsLaneOf, IsSameSeat, IsSameTaker, posted, taken};
+ghost use Rattle.sv_lane.specs.Ends.{AreAllPosters, IsLaneOf, IsSameSeat, IsSameTaker, posted};
+ghost use Rattle.sv_lane.specs.Ends.{taken};
 ghost use Rattle.sv_lane.specs.Order.{items_of};
 ghost use Rattle.sv_lane_laws.specs.Interleaving.{Interleaves};
 

@@ -9,13 +9,16 @@ use Rattle.sv_lines.specs.declared.line.Line.{Line}
 
 -- the spawn of a process was answered by its number
 abbrev pub spawned_line : List ℕ → ℕ → Line
-spawned_line name pid = record { level = Info; text = codes "spawned: '" ++ name ++ codes "' with pid " ++ decimal pid }
+spawned_line name pid =
+    record { level = Info; text = codes "spawned: '" ++ name ++ codes "' with pid " ++ decimal pid }
 
 -- to RUNNING
 abbrev pub success_line : Spec → Line
 success_line spec = record {
   level = Info;
-  text = codes "success: " ++ spec.name ++ codes " entered RUNNING state, process has stayed up for > than "
+  text =
+      codes "success: " ++ spec.name
+      ++ codes " entered RUNNING state, process has stayed up for > than "
       ++ decimal spec.startsecs ++ codes " seconds (startsecs)";
 }
 
@@ -29,7 +32,9 @@ exited_line name how expected = record {
 
 -- STOPPING to STOPPED
 abbrev pub stopped_line : List ℕ → How → Line
-stopped_line name how = record { level = Info; text = codes "stopped: " ++ name ++ codes " (" ++ how_text how ++ codes ")" }
+stopped_line name how =
+    record
+    { level = Info; text = codes "stopped: " ++ name ++ codes " (" ++ how_text how ++ codes ")" }
 
 -- the spawn failed
 abbrev pub refused_line : List ℕ → Line
@@ -46,12 +51,15 @@ killing_line name pid = record {
 abbrev pub gave_up_line : List ℕ → Line
 gave_up_line name = record {
   level = Info;
-  text = codes "gave up: " ++ name ++ codes " entered FATAL state, too many start retries too quickly";
+  text =
+      codes "gave up: " ++ name ++ codes " entered FATAL state, too many start retries too quickly";
 }
 
 -- the full buffer of a pool lost the event of this serial
 abbrev pub overflow_line : List ℕ → ℕ → Line
 overflow_line pool serial = record {
   level = Error;
-  text = codes "pool " ++ pool ++ codes " event buffer overflowed, discarding event " ++ decimal serial;
+  text =
+      codes "pool " ++ pool ++ codes " event buffer overflowed, discarding event "
+      ++ decimal serial;
 }

@@ -1,7 +1,8 @@
 -- Which lines of the main log are written (the manual's chapter on configuration, `loglevel`).
 use Rattle.std.specs.Prelude.{ℕ, List, Option, Some, None, Bool, nat_le, if◌then◌else◌}
 use Rattle.sv_base.specs.declared.state.Level.{Level}
-use Rattle.sv_base.specs.declared.state.Level.TheVariants.{Blather, Trace, Debug, Info, Warn, Error, Critical}
+use Rattle.sv_base.specs.declared.state.Level.TheVariants.{Blather, Trace, Debug, Info, Warn, Error}
+use Rattle.sv_base.specs.declared.state.Level.TheVariants.{Critical}
 use Rattle.sv_lines.specs.declared.line.Line.{Line}
 use Rattle.sv_logs.specs.MainLine.{main_text}
 

@@ -2,7 +2,8 @@
 ghost use Rattle.std.specs.Prelude.{◌≡◌, ◌++◌, IfOk, OnOk, codes, string_bytes};
 ghost use Rattle.sv_lines.specs.EdgeLines.{entry_line, how_of, line_at};
 ghost use Rattle.sv_lines.specs.Ends.{how_text, signal_text};
-ghost use Rattle.sv_lines.specs.Rows.{exited_line, gave_up_line, refused_line, stopped_line, success_line};
+ghost use Rattle.sv_lines.specs.Rows.{exited_line, gave_up_line, refused_line, stopped_line};
+ghost use Rattle.sv_lines.specs.Rows.{success_line};
 
 use crate::line::{Line, push_number};
 use std::alloc::{AllocError, Global};

@@ -1,5 +1,6 @@
 -- The links of the loop: where each stands, and what is posted to its job.
-use Rattle.std.specs.Prelude.{◌≡◌, ◌==◌, ◌+◌, ◌-◌, ◌^◌, ◌++◌, ◌∷◌, ℕ, Bool, true, List, [], Option, Some, min, nat_le, position, slice_get, slice_set}
+use Rattle.std.specs.Prelude.{◌≡◌, ◌==◌, ◌+◌, ◌-◌, ◌^◌, ◌++◌, ◌∷◌, ℕ, Bool, true, List, [], Option}
+use Rattle.std.specs.Prelude.{Some, min, nat_le, position, slice_get, slice_set}
 use Rattle.std.specs.List.{list_any}
 use Rattle.sv_base.specs.declared.ids.LinkId.{LinkId}
 use Rattle.sv_jobs.specs.declared.notes.LinkWord.{LinkWord}
@@ -55,7 +56,8 @@ pub record Fails (old new : LinkLife) : Type 0 where
   pub failed : new.failed ≡ true
 
 -- the link at one place changed so, and no other
-pub record ChangesAt (place : ℕ) (change : LinkLife → LinkLife → Type 0) (old new : List LinkLife) : Type 0 where
+pub record ChangesAt (place : ℕ) (change : LinkLife → LinkLife → Type 0) (old new : List LinkLife)
+    : Type 0 where
   pub before : LinkLife
   pub after : LinkLife
   pub here : slice_get old place ≡ Some before

@@ -1,6 +1,9 @@
 -- Links: accepted connections, each with all its bytes, and what becomes of the requests in them
--- (RFC 9112, section 9.3: the requests of a connection are answered in the order in which they came).
-use Rattle.std.specs.Prelude.{◌+◌, ◌++◌, ◌∷◌, ◌&&◌, ◌||◌, ◌==◌, ℕ, zero, suc, List, [], Bool, true, false, not, drop, length, nat_le, nat_lt, slice_get, Option, None, Some, is_some, if◌then◌else◌}
+-- (RFC 9112, section 9.3: the requests of a connection are answered in the order in which they
+-- came).
+use Rattle.std.specs.Prelude.{◌+◌, ◌++◌, ◌∷◌, ◌&&◌, ◌||◌, ◌==◌, ℕ, zero, suc, List, [], Bool, true}
+use Rattle.std.specs.Prelude.{false, not, drop, length, nat_le, nat_lt, slice_get, Option, None}
+use Rattle.std.specs.Prelude.{Some, is_some, if◌then◌else◌}
 use Rattle.std.specs.List.{filter}
 use Rattle.sv_base.specs.declared.ids.LinkId.{LinkId}
 use Rattle.sv_http.specs.AsksOf.{asks_of}

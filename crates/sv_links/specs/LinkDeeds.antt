@@ -1,9 +1,11 @@
 -- What is done with links, one thing after the other, and the replies that are sent.
-use Rattle.std.specs.Prelude.{◌≡◌, ◌-◌, ◌++◌, ◌∷◌, ◌==◌, ℕ, List, [], Bool, false, length, map, take, slice_get, Option, None, Some, if◌then◌else◌}
+use Rattle.std.specs.Prelude.{◌≡◌, ◌-◌, ◌++◌, ◌∷◌, ◌==◌, ℕ, List, [], Bool, false, length, map}
+use Rattle.std.specs.Prelude.{take, slice_get, Option, None, Some, if◌then◌else◌}
 use Rattle.sv_base.specs.declared.ids.LinkId.{LinkId}
 use Rattle.sv_http.specs.declared.ask.Ask.{Ask}
 use Rattle.sv_http.specs.declared.guard.Guard.{Guard}
-use Rattle.sv_links.specs.LinkBook.{Ending, LinkRecord, answered, asks, ended, fed, link_at, more_given, opened, sends, taken}
+use Rattle.sv_links.specs.LinkBook.{Ending, LinkRecord, answered, asks, ended, fed, link_at}
+use Rattle.sv_links.specs.LinkBook.{more_given, opened, sends, taken}
 
 -- what may be done
 pub data Deed : Type 0 where

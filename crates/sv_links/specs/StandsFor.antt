@@ -1,9 +1,10 @@
 -- What is kept of links: of each that is open or has a request in hand, and of no other.
-use Rattle.std.specs.Prelude.{◌≡◌, ◌≤◌, ◌+◌, ◌&&◌, ◌==◌, ℕ, List, Option, Some, None, Bool, true, false, length, drop, nat_le, if◌then◌else◌}
+use Rattle.std.specs.Prelude.{◌≡◌, ◌≤◌, ◌+◌, ◌&&◌, ◌==◌, ℕ, List, Option, Some, None, Bool, true}
+use Rattle.std.specs.Prelude.{false, length, drop, nat_le, if◌then◌else◌}
 use Rattle.std.specs.BTreeMap.{get}
 use Rattle.std.specs.Ordering.{nat_cmp}
 use Rattle.sv_base.specs.declared.ids.LinkId.{LinkId}
-use Rattle.sv_http.specs.ReaderPlaces.{StandsFor as HttpStandsFor}
+use Rattle.sv_http.specs.ReaderPlaces.{StandsFor as HttpStandsFor, guard_of}
 use Rattle.sv_links.specs.LinkBook.{LinkRecord, asks, is_busy, is_open, link_at, open_count}
 use Rattle.sv_links.specs.declared.kept_link.KeptLink.{KeptLink}
 use Rattle.sv_links.specs.declared.links.Links.{Links}
@@ -14,7 +15,7 @@ pub record Reads (x : OpenLink) (r : LinkRecord) : Type 0 where
   pub unended : is_open r ≡ true
   pub fed : x.is_fed ≡ r.is_fed
   pub more : x.has_more ≡ r.has_more
-  pub guard : x.reader.guard ≡ r.guard
+  pub guard : guard_of x.reader ≡ r.guard
   pub reader : HttpStandsFor x.reader r.stream (asks r)
   pub waiting : x.waiting.items ≡ drop r.begun (asks r)
   pub begun : r.begun ≤ length (asks r)

@@ -1,6 +1,8 @@
 //! What is kept of a link that is open, or has a request in hand.
 ghost use Rattle.std.specs.Prelude.{◌≡◌, OnOk, is_some, length};
-ghost use Rattle.sv_links.specs.LinkBook.{Ending, LinkRecord, answers, ends, gets_more, hears, is_busy, is_due, is_open, may_feed, new_link, next_ask, sends, takes, waiting};
+ghost use Rattle.sv_links.specs.LinkBook.{Ending, LinkRecord, answers, ends, gets_more, hears};
+ghost use Rattle.sv_links.specs.LinkBook.{is_busy, is_due, is_open, may_feed, new_link, next_ask};
+ghost use Rattle.sv_links.specs.LinkBook.{sends, takes, waiting};
 
 use crate::open_link::OpenLink;
 use std::alloc::{AllocError, Global};

@@ -2,7 +2,8 @@
 
 ghost use Rattle.std.specs.Prelude.{◌≡◌, ◌+◌, ℕ, List, Some, length, true};
 ghost use Rattle.sv_links.specs.LinkBook.{LinkRecord, is_open, link_at};
-ghost use Rattle.sv_links.specs.LinkDeeds.{AreInOrder, Deed, OnlyLastCloses, in_hand_of, links_after, replies_on};
+ghost use Rattle.sv_links.specs.LinkDeeds.{AreInOrder, Deed, OnlyLastCloses, in_hand_of};
+ghost use Rattle.sv_links.specs.LinkDeeds.{links_after, replies_on};
 
 /// A law: whatever is done, and in whatever pieces its bytes come, the replies that are sent on a link are those to its first
 /// requests, in order, each once. While it is open these are all that were begun, but the one in hand. None is sent after one

@@ -1,8 +1,12 @@
 //! The links of the daemon.
-ghost use Rattle.std.specs.Prelude.{◌≡◌, ◌&&◌, ◌-◌, List, [], IfOk, OnOk, IsTrue, None, false, if◌then◌else◌};
+ghost use Rattle.std.specs.Prelude.{◌≡◌, ◌&&◌, ◌-◌, List, [], IfOk, OnOk, IsTrue, None, false};
+ghost use Rattle.std.specs.Prelude.{if◌then◌else◌};
 ghost use Rattle.std.specs.BTreeMap.{Updates};
 ghost use Rattle.std.specs.Ordering.{nat_cmp};
-ghost use Rattle.sv_links.specs.LinkBook.{Ending, LinkRecord, answered, ask_at, busy_links, ended, fed, has_room, is_issued, is_next, is_sent, left_at, more_given, more_is_due, open_links, opened, taken, takes_piece};
+ghost use Rattle.sv_links.specs.LinkBook.{Ending, LinkRecord, answered, ask_at, busy_links, ended};
+ghost use Rattle.sv_links.specs.LinkBook.{fed, has_room, is_issued, is_next, is_sent, left_at};
+ghost use Rattle.sv_links.specs.LinkBook.{more_given, more_is_due, open_links, opened, taken};
+ghost use Rattle.sv_links.specs.LinkBook.{takes_piece};
 ghost use Rattle.sv_links.specs.LinkBook.Ending.{Closed, Ended, Failed};
 
 use crate::kept_link::KeptLink;

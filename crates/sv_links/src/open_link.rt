@@ -1,6 +1,8 @@
 //! What is kept of a link that is open.
-ghost use Rattle.std.specs.Prelude.{◌≡◌, ◌&&◌, ◌∷◌, [], Bool, List, IfSome, IfNone, IsTrue, OnOk, drop, is_some, length, not, slice_get};
-ghost use Rattle.sv_links.specs.LinkBook.{LinkRecord, asks, begins, gets_more, is_due, longer, new_link};
+ghost use Rattle.std.specs.Prelude.{◌≡◌, ◌&&◌, ◌∷◌, [], Bool, List, IfSome, IfNone, IsTrue, OnOk};
+ghost use Rattle.std.specs.Prelude.{drop, is_some, length, not, slice_get};
+ghost use Rattle.sv_links.specs.LinkBook.{LinkRecord, asks, begins, gets_more, is_due, longer};
+ghost use Rattle.sv_links.specs.LinkBook.{new_link};
 
 use std::alloc::{AllocError, Global};
 use std::collections::VecDeque;

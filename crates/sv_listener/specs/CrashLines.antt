@@ -1,5 +1,6 @@
 -- What a crash reporter writes: a line for each process that exited and was not expected to.
-use Rattle.std.specs.Prelude.{◌≡◌, ◌++◌, ℕ, List, [], ◌∷◌, Option, None, Some, codes, length, if◌then◌else◌}
+use Rattle.std.specs.Prelude.{◌≡◌, ◌++◌, ℕ, List, [], ◌∷◌, Option, None, Some, codes, length}
+use Rattle.std.specs.Prelude.{if◌then◌else◌}
 use Rattle.std.specs.Fmt.{decimal}
 use Rattle.std.specs.Io.KnownBytes.{Appends}
 use Rattle.std.specs.List.{flat_map}
@@ -18,7 +19,8 @@ unexpected (Some exit) = if exit.expected then None else Some exit
 -- the exit that an event tells of, where it is one and wasn't expected
 abbrev pub crash_in : Heard → Option Exit
 crash_in event =
-    if bytes_eq event.eventname (codes "PROCESS_STATE_EXITED") then unexpected (exit_of event.body) else None
+    if bytes_eq event.eventname (codes "PROCESS_STATE_EXITED") then unexpected (exit_of event.body)
+    else None
 
 -- its line
 unfoldable pub crash_line : List ℕ → List ℕ → ℕ → List ℕ

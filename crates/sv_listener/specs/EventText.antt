@@ -1,7 +1,8 @@
--- An event as a daemon writes it (the manual's chapter on events, "Event Listener Notification Protocol"): a header line, a
--- line feed and the body; and how a listener hears it.
+-- An event as a daemon writes it (the manual's chapter on events, "Event Listener Notification
+-- Protocol"): a header line, a line feed and the body; and how a listener hears it.
 use Rattle.std.specs.Prelude.{◌≡◌, ◌≤◌, ◌<◌, ◌^◌, ◌+◌, ◌++◌, ◌∷◌, ℕ, List, None, codes, length}
 use Rattle.std.specs.Fmt.{decimal}
+use Rattle.sv_base.specs.Ascii.{line_feed}
 use Rattle.sv_base.specs.KindNames.{kind_name}
 use Rattle.sv_base.specs.declared.kind.Kind.{Kind}
 use Rattle.sv_listener.specs.HeaderLine.{IsWord}
@@ -29,7 +30,7 @@ head_of event =
 
 -- the whole event
 abbrev pub text_of : Event → List ℕ
-text_of event = head_of event ++ 10 ∷ event.body
+text_of event = head_of event ++ line_feed ∷ event.body
 
 -- as a listener hears it
 abbrev pub heard_of : Event → Heard

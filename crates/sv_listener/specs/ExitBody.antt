@@ -1,12 +1,15 @@
--- The body of an event of the type PROCESS_STATE_EXITED (the manual's chapter on events): how it is written, and how it
--- is read.
-use Rattle.std.specs.Prelude.{◌≡◌, ◌<◌, ◌^◌, ◌++◌, ◌==◌, ℕ, List, [], ◌∷◌, Bool, true, false, Option, None, Some, codes, nat_lt, option_map, if◌then◌else◌}
+-- The body of an event of the type PROCESS_STATE_EXITED (the manual's chapter on events): how it is
+-- written, and how it is read.
+use Rattle.std.specs.Prelude.{◌≡◌, ◌<◌, ◌^◌, ◌++◌, ◌==◌, ℕ, List, [], ◌∷◌, Bool, true, false}
+use Rattle.std.specs.Prelude.{Option, None, Some, codes, nat_lt, option_map, if◌then◌else◌}
 use Rattle.std.specs.Fmt.{decimal}
 use Rattle.std.specs.List.{find, list_any}
 use Rattle.std.specs.Str.{bytes_eq, is_utf8}
+use Rattle.sv_base.specs.Ascii.{line_feed}
 use Rattle.sv_base.specs.Names.{state_name}
 use Rattle.sv_base.specs.declared.state.State.{State}
-use Rattle.sv_base.specs.declared.state.State.TheVariants.{Stopped, Starting, Running, Backoff, Stopping, Exited, Fatal, Unknown}
+use Rattle.sv_base.specs.declared.state.State.TheVariants.{Stopped, Starting, Running, Backoff}
+use Rattle.sv_base.specs.declared.state.State.TheVariants.{Stopping, Exited, Fatal, Unknown}
 use Rattle.sv_listener.specs.HeaderLine.{IsWord}
 use Rattle.sv_listener.specs.Reading.{◌>>=◌, provided, small_number, text_at}
 use Rattle.sv_pipes.specs.StreamCut.{rest_after}
@@ -35,7 +38,7 @@ exit_body exit =
 
 -- whether a text has a line feed
 abbrev pub has_feed : List ℕ → Bool
-has_feed text = list_any (λ byte. byte == 10) text
+has_feed text = list_any (λ byte. byte == line_feed) text
 
 -- a body is the body that says this
 pub record IsExitBody (body : List ℕ) (exit : Exit) : Type 0 where

@@ -1,5 +1,5 @@
--- The header line of an event (the manual's chapter on events, "Event Listener Notification Protocol"): how it is
--- written, and how it is read.
+-- The header line of an event (the manual's chapter on events, "Event Listener Notification
+-- Protocol"): how it is written, and how it is read.
 use Rattle.std.specs.Prelude.{◌≡◌, ◌<◌, ◌^◌, ℕ, List, ◌++◌, Option, None, Some, codes, true}
 use Rattle.std.specs.Fmt.{decimal}
 use Rattle.std.specs.Str.{is_utf8}
@@ -7,7 +7,8 @@ use Rattle.std.specs.Str.Parse.{digits_value}
 use Rattle.sv_base.specs.KindNames.{kind_name}
 use Rattle.sv_base.specs.declared.kind.Kind.{Kind}
 use Rattle.sv_pipes.specs.StreamCut.{rest_after}
-use Rattle.sv_listener.specs.Reading.{◌>>=◌, cut_at, is_number, text_at, number_at, kind_at, size_of, size_at}
+use Rattle.sv_listener.specs.Reading.{◌>>=◌, cut_at, is_number, text_at, number_at, kind_at}
+use Rattle.sv_listener.specs.Reading.{size_of, size_at}
 use Rattle.sv_listener.specs.declared.header.Size.{Size}
 
 -- what a header line says of an event

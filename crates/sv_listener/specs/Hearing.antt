@@ -1,6 +1,7 @@
--- What a listener hears: the cut of the stream of its standard input into header lines and bodies, up to a rest or up
--- to the first fault.
-use Rattle.std.specs.Prelude.{◌+◌, ℕ, zero, suc, List, [], ◌∷◌, Bool, true, false, Option, None, Some, length, take, drop, nat_le, nat_lt, if◌then◌else◌}
+-- What a listener hears: the cut of the stream of its standard input into header lines and bodies,
+-- up to a rest or up to the first fault.
+use Rattle.std.specs.Prelude.{◌+◌, ℕ, zero, suc, List, [], ◌∷◌, Bool, true, false, Option, None}
+use Rattle.std.specs.Prelude.{Some, length, take, drop, nat_le, nat_lt, if◌then◌else◌}
 use Rattle.sv_base.specs.KindNames.{kind_name}
 use Rattle.sv_listener.specs.Limits.{header_limit, body_limit}
 use Rattle.sv_listener.specs.Reading.{cut_at}

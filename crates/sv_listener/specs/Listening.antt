@@ -86,14 +86,18 @@ abbrev pub Says : (List Verdict → List ℕ) → ListenEnd → Option (List ℕ
     → Option (List ℕ) → Option (List ℕ) → (List Heard → List Verdict → Type 0) → Type 0
 Says says ends.Ended left left_after old new Told =
     Whole says left left_after old new Told (EndsBetween left_after)
-Says says ends.SourceFailed left left_after old new Told = Whole says left left_after old new Told EndsOpen
+Says says ends.SourceFailed left left_after old new Told =
+    Whole says left left_after old new Told EndsOpen
 Says says ends.Broken left left_after old new Told =
     Whole says left left_after old new Told (EndsBroken left_after)
-Says says ends.TooMuch left left_after old new Told = Whole says left left_after old new Told EndsFull
-Says says end left left_after old new Told = Half says left left_after old new Told (HasVerdicts end)
+Says says ends.TooMuch left left_after old new Told =
+    Whole says left left_after old new Told EndsFull
+Says says end left left_after old new Told =
+    Half says left left_after old new Told (HasVerdicts end)
 
 -- the table of ends: `READY` first, and after each event the verdict's result and `READY`
-abbrev pub Listens : ListenEnd → Option (List ℕ) → Option (List ℕ) → Option (List ℕ) → Option (List ℕ)
+abbrev pub Listens : ListenEnd → Option (List ℕ) → Option (List ℕ) → Option (List ℕ)
+    → Option (List ℕ)
     → (List Heard → List Verdict → Type 0) → Type 0
 Listens end left left_after old new Told = Says talk_over end left left_after old new Told
 
@@ -142,4 +146,5 @@ abbrev pub StopsIn : ListenEnd → ListenerSide → List ℕ → Option (List �
     → (List Heard → List Verdict → Type 0) → Type 0
 StopsIn end side piece old new Told =
     (stream : List ℕ) (events : List Heard) → StandsFor side stream events
-    → (heard : List Heard) × ((hearing_of (stream ++ piece)).events ≡ events ++ heard) × Stops end old new Told heard
+    → (heard : List Heard) × ((hearing_of (stream ++ piece)).events ≡ events ++ heard)
+    × Stops end old new Told heard

@@ -1,5 +1,6 @@
 -- How the parts of a header line are read from the front of its bytes.
-use Rattle.std.specs.Prelude.{◌^◌, ◌==◌, ◌&&◌, ◌||◌, ℕ, List, [], ◌∷◌, Bool, not, Option, None, Some, length, option_map, slice_index, nat_lt, if◌then◌else◌}
+use Rattle.std.specs.Prelude.{◌^◌, ◌==◌, ◌&&◌, ◌||◌, ℕ, List, [], ◌∷◌, Bool, not, Option, None}
+use Rattle.std.specs.Prelude.{Some, length, option_map, slice_index, nat_lt, if◌then◌else◌}
 use Rattle.std.specs.Char.{is_ascii_digit}
 use Rattle.std.specs.List.{find, list_all}
 use Rattle.std.specs.Str.{bytes_eq, is_utf8}

@@ -4,7 +4,8 @@ ghost use Rattle.std.specs.Prelude.{◌≡◌, None, Some, MatchOption};
 ghost use Rattle.std.specs.Str.{bytes_eq};
 ghost use Rattle.sv_base.specs.Names.{state_name};
 ghost use Rattle.sv_listener.specs.CrashLines.{crash_in, unexpected};
-ghost use Rattle.sv_listener.specs.ExitBody.{ended, exit_in, exit_of, left_from, pid_in, pid_of, state_at, state_in, truth_at, truth_in};
+ghost use Rattle.sv_listener.specs.ExitBody.{ended, exit_in, exit_of, left_from, pid_in, pid_of};
+ghost use Rattle.sv_listener.specs.ExitBody.{state_at, state_in, truth_at, truth_in};
 ghost use Rattle.sv_listener.specs.ExitCalls.{Reads, said_of};
 
 use crate::events::Heard;

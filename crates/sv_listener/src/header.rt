@@ -1,10 +1,12 @@
 //! Reading the header line of an event.
 
-ghost use Rattle.std.specs.Prelude.{◌≡◌, ◌<◌, ◌+◌, ◌^◌, None, Some, IfSome, SomeIff, MatchOption, length, true};
+ghost use Rattle.std.specs.Prelude.{◌≡◌, ◌<◌, ◌+◌, ◌^◌, None, Some, IfSome, SomeIff, MatchOption};
+ghost use Rattle.std.specs.Prelude.{length, true};
 ghost use Rattle.std.specs.Char.{is_ascii_digit};
 ghost use Rattle.std.specs.List.{list_all};
 ghost use Rattle.std.specs.Str.Parse.{digits_value};
-ghost use Rattle.sv_listener.specs.Reading.{cut_at, is_number, text_at, number_at, kind_at, kind_in, size_at, small_number};
+ghost use Rattle.sv_listener.specs.Reading.{cut_at, is_number, text_at, number_at, kind_at};
+ghost use Rattle.sv_listener.specs.Reading.{kind_in, size_at, small_number};
 ghost use Rattle.sv_listener.specs.HeaderLine.{header_of, named, pooled};
 ghost use Rattle.sv_listener.specs.HeaderCalls.{Reads};
 ghost use Rattle.sv_pipes.specs.StreamCut.{rest_after};

@@ -1,9 +1,11 @@
 //! A listener's loop: it says that it is ready, handles each event of its stream, and answers it.
 
-ghost use Rattle.std.specs.Prelude.{◌≡◌, ◌≤◌, ◌<◌, ◌^◌, ◌∷◌, ◌++◌, [], IfOk, IfErr, OnErr, OnOk, Err, Some, length, take};
+ghost use Rattle.std.specs.Prelude.{◌≡◌, ◌≤◌, ◌<◌, ◌^◌, ◌∷◌, ◌++◌, [], IfOk, IfErr, OnErr, OnOk};
+ghost use Rattle.std.specs.Prelude.{Err, Some, length, take};
 ghost use Rattle.std.specs.Io.KnownBytes.{Appends, Consumes, IsAtEnd, Keeps};
 ghost use Rattle.sv_listener.specs.Answers.{answer_of, answers};
-ghost use Rattle.sv_listener.specs.Listening.{Answers, Goes, IsStop, IsUnhandled, Listens, Says, Stops, StopsIn, end_number};
+ghost use Rattle.sv_listener.specs.Listening.{Answers, Goes, IsStop, IsUnhandled, Listens, Says};
+ghost use Rattle.sv_listener.specs.Listening.{Stops, StopsIn, end_number};
 ghost use Rattle.sv_out.specs.Faults.{HasCause, Rose};
 ghost use Rattle.sv_out.specs.Written.{AppendsFront};
 

@@ -22,7 +22,8 @@ pub struct ListenerSide {
 
 impl ListenerSide {
     ghost use Rattle.sv_listener.specs.Hearing.{fault_of, is_between};
-    ghost use Rattle.sv_listener.specs.SidePlaces.{StandsFor, StandsForNone, IsBroken, Feeds, Tells, EndsAs};
+    ghost use Rattle.sv_listener.specs.SidePlaces.{StandsFor, StandsForNone, IsBroken, Feeds};
+    ghost use Rattle.sv_listener.specs.SidePlaces.{Tells, EndsAs};
 
     /// A reader of a stream that has no bytes yet. It takes no memory.
     pub fn new(alloc: Global) -> ListenerSide

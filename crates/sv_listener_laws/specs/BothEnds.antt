@@ -1,6 +1,8 @@
--- Both ends of the talk between a daemon and one listener of a pool (the manual's chapter on events, "Event Listener
--- Notification Protocol"): the pool, the talk, the bytes on their way, and what the listener heard and judged.
-use Rattle.std.specs.Prelude.{◌≡◌, ◌≤◌, ◌<◌, ◌^◌, ◌+◌, ◌-◌, ◌++◌, ◌∷◌, ℕ, List, [], Option, None, Some, codes, drop, length, replicate, slice_get, take, if◌then◌else◌}
+-- Both ends of the talk between a daemon and one listener of a pool (the manual's chapter on
+-- events, "Event Listener Notification Protocol"): the pool, the talk, the bytes on their way, and
+-- what the listener heard and judged.
+use Rattle.std.specs.Prelude.{◌≡◌, ◌≤◌, ◌<◌, ◌^◌, ◌+◌, ◌-◌, ◌++◌, ◌∷◌, ℕ, List, [], Option, None}
+use Rattle.std.specs.Prelude.{Some, codes, drop, length, replicate, slice_get, take, if◌then◌else◌}
 use Rattle.std.specs.Option.{option_to_list}
 use Rattle.std.specs.Str.{bytes_eq}
 use Rattle.sv_events.specs.EventText.{envelope_of}
@@ -78,7 +80,8 @@ sends names state None = state
 sends names state (Some taken) = record state {
   pool = took 0 state.pool;
   talk = state.talk ++ Sent ∷ [];
-  to_listener = state.to_listener ++ envelope_of names.server names.pool taken.poolserial taken.event;
+  to_listener =
+      state.to_listener ++ envelope_of names.server names.pool taken.poolserial taken.event;
   handed = state.handed ++ taken ∷ [];
 }
 
@@ -89,7 +92,8 @@ hands_out names state other = state
 
 -- how many events further bytes complete
 abbrev pub completed : List ℕ → List ℕ → ℕ
-completed stream piece = length (hearing_of (stream ++ piece)).events - length (hearing_of stream).events
+completed stream piece =
+    length (hearing_of (stream ++ piece)).events - length (hearing_of stream).events
 
 -- the listener reads these bytes, of which those after them are still on their way
 abbrev pub hears : State → List ℕ → List ℕ → Verdict → State
@@ -114,7 +118,8 @@ gives_back state = record state {
 -- what the tokens of the talk do
 abbrev pub settles : State → Token → State
 settles state token.Ready = state
-settles state (token.Result body) = if bytes_eq body (codes "OK") then done_with state else gives_back state
+settles state (token.Result body) =
+    if bytes_eq body (codes "OK") then done_with state else gives_back state
 settles state token.Wrong = gives_back state
 
 -- token by token
@@ -134,7 +139,8 @@ after names state (Accept event) = record state { pool = accepted event state.po
 after names state Hand_out = hands_out names state (talk_state state.talk)
 after names state (Hear count verdict) =
     hears state (take count state.to_listener) (drop count state.to_listener) verdict
-after names state (Answer count) = reads state (take count state.to_daemon) (drop count state.to_daemon)
+after names state (Answer count) =
+    reads state (take count state.to_daemon) (drop count state.to_daemon)
 
 -- step by step
 abbrev pub after_all : Names → State → List Step → State

@@ -55,12 +55,14 @@ pub record AreInStep (names : Names) (state : State) : Type 0 where
   pub later : List Heard
   pub heard : map (heard_as names) state.handed ≡ (hearing_of state.stream).events ++ later
   pub few : length later ≤ 1
-  -- there is a verdict on each event that was heard, and the results that arrived are those of the first verdicts
+  -- there is a verdict on each event that was heard, and the results that arrived are those of the
+  -- first verdicts
   pub each : length state.verdicts ≡ length (hearing_of state.stream).events
   pub settled : List Verdict
   pub unsettled : List Verdict
   pub verdicts : state.verdicts ≡ settled ++ unsettled
   pub results : results_in (talk_tokens state.talk) ≡ map result_body settled
-  -- each event whose result arrived was acknowledged once where the verdict was OK, and else given back once
+  -- each event whose result arrived was acknowledged once where the verdict was OK, and else given
+  -- back once
   pub acknowledged : state.pool.acknowledged ≡ with_ok state.handed settled
   pub returned : state.returned ≡ with_fail state.handed settled

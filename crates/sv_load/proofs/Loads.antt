@@ -2,7 +2,7 @@
 use Rattle.std.proofs.Common.{◌≡◌, ℕ, List, Option, Some, Result, Ok, Err, IfErr, inr, subst}
 use Rattle.std.specs.Option.{ForSome}
 use Rattle.sv_base.specs.declared.config.Host.{Host}
-use Rattle.sv_conf.specs.Includes.{includes_of}
+use Rattle.sv_sections.specs.Includes.{includes_of}
 use Rattle.sv_out.specs.Files.{Files}
 use Rattle.sv_load.specs.Listing.{AreListed, each_once}
 use Rattle.sv_load.specs.Loading.{CantInclude, FailsAtOneOf}

@@ -17,7 +17,8 @@ AreListed files (pattern ∷ patterns) names =
 
 -- a name after others, unless it is one of them
 abbrev pub with_name : List (List ℕ) → List ℕ → List (List ℕ)
-with_name names name = if list_any (λ other. bytes_eq other name) names then names else names ++ name ∷ []
+with_name names name =
+    if list_any (λ other. bytes_eq other name) names then names else names ++ name ∷ []
 
 -- further names after others, each once
 abbrev pub with_names : List (List ℕ) → List (List ℕ) → List (List ℕ)

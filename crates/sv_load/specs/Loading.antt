@@ -1,14 +1,16 @@
--- How a configuration is read from a shelf: the main file, the names of all its patterns, the files of these names.
+-- How a configuration is read from a shelf: the main file, the names of all its patterns, the files
+-- of these names.
 use Rattle.std.specs.Prelude.{◌≡◌, ◌⊎◌, ℕ, List, Option, None, Some, Result, Ok, Err}
 use Rattle.sv_base.specs.declared.config.Host.{Host}
 use Rattle.sv_conf.specs.Configuration.{configuration_of}
-use Rattle.sv_conf.specs.Includes.{includes_of}
-use Rattle.sv_conf.specs.declared.fault.ConfFault.{ConfFault}
-use Rattle.sv_conf.specs.declared.fault.ConfFault.TheVariants as conf
+use Rattle.sv_sections.specs.Includes.{includes_of}
+use Rattle.sv_sections.specs.declared.fault.ConfFault.{ConfFault}
+use Rattle.sv_sections.specs.declared.fault.ConfFault.TheVariants as conf
 use Rattle.sv_out.specs.Files.{Files}
 use Rattle.sv_load.specs.Listing.{AreListed, each_once, texts_of, IsOneOf}
 use Rattle.sv_load.specs.declared.fault.LoadFault.{LoadFault}
-use Rattle.sv_load.specs.declared.fault.LoadFault.TheVariants.{Missing, Refused, Failed, OutOfMemory}
+use Rattle.sv_load.specs.declared.fault.LoadFault.TheVariants.{Missing, Refused, Failed}
+use Rattle.sv_load.specs.declared.fault.LoadFault.TheVariants.{OutOfMemory}
 use Rattle.sv_load.specs.declared.loading.Loaded.{Loaded}
 
 -- a fault of the configuration; out of memory is one of its own
@@ -17,7 +19,8 @@ refused conf.OutOfMemory = OutOfMemory
 refused fault = Refused fault
 
 -- what a main text includes: the files that its patterns list, each once, as far as they are there
-pub record AreIncluded (files : Files) (host : Host) (main : List ℕ) (included : List (List ℕ × List ℕ)) : Type 0 where
+pub record AreIncluded (files : Files) (host : Host) (main : List ℕ)
+    (included : List (List ℕ × List ℕ)) : Type 0 where
   pub patterns : List (List ℕ)
   pub names : List (List ℕ)
   pub given : includes_of main host ≡ Ok patterns
@@ -47,7 +50,8 @@ pub record IsFaulty (files : Files) (host : Host) (main : List ℕ) (fault : Con
 -- why the configuration of a main text isn't given
 abbrev pub CantLoad : Files → Host → LoadFault → List ℕ → Type 0
 CantLoad files host Missing main = ⊥
-CantLoad files host (Refused fault) main = (includes_of main host ≡ Err fault) ⊎ IsFaulty files host main fault
+CantLoad files host (Refused fault) main =
+    (includes_of main host ≡ Err fault) ⊎ IsFaulty files host main fault
 CantLoad files host (Failed name) main = IsAskedFor files host main name
 CantLoad files host OutOfMemory main = Unit {0}
 
@@ -62,8 +66,10 @@ Loads files file host (Ok loaded) =
     (files file ≡ Some loaded.main) × AreIncluded files host loaded.main loaded.included
     × (configuration_of loaded.main loaded.included host ≡ Ok loaded.config)
 Loads files file host (Err Missing) = files file ≡ None
-Loads files file host (Err (Refused fault)) = HoldsOf (CantLoad files host (Refused fault)) (files file)
-Loads files file host (Err (Failed name)) = (name ≡ file) ⊎ HoldsOf (CantLoad files host (Failed name)) (files file)
+Loads files file host (Err (Refused fault)) =
+    HoldsOf (CantLoad files host (Refused fault)) (files file)
+Loads files file host (Err (Failed name)) =
+    (name ≡ file) ⊎ HoldsOf (CantLoad files host (Failed name)) (files file)
 Loads files file host (Err OutOfMemory) = Unit {0}
 
 -- the shelf failed

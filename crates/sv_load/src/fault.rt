@@ -3,7 +3,7 @@ ghost use Rattle.std.specs.Prelude.{◌≡◌};
 
 use std::alloc::AllocError;
 use sv_base::Text;
-use sv_conf::ConfFault;
+use sv_sections::ConfFault;
 use thiserror::Error;
 
 /// Why a configuration isn't given.

@@ -11,8 +11,8 @@ use crate::texts::{text_of, texts_of};
 use std::alloc::Global;
 use sv_base::{Bytes, Config, Host, Items, Text};
 use sv_conf::config::config;
-use sv_conf::includes::includes;
 use sv_out::Shelf;
+use sv_sections::includes::includes;
 
 /// A configuration with the texts that it was read from.
 #[derive(Debug, Drop)]

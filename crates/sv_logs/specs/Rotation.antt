@@ -1,9 +1,13 @@
--- The files of a log and its rotation (the manual's chapter on logging, `logfile_maxbytes` and `logfile_backups`).
-use Rattle.std.specs.Prelude.{◌≡◌, ◌≢◌, ◌<◌, ◌≤◌, ◌+◌, ◌-◌, ◌^◌, ◌++◌, ◌∷◌, ℕ, zero, suc, List, [], Bool, ◌&&◌, nat_lt, nat_le, Option, Some, None, length, min, if◌then◌else◌}
+-- The files of a log and its rotation (the manual's chapter on logging, `logfile_maxbytes` and
+-- `logfile_backups`).
+use Rattle.std.specs.Prelude.{◌≡◌, ◌≢◌, ◌<◌, ◌≤◌, ◌+◌, ◌-◌, ◌^◌, ◌++◌, ◌∷◌, ℕ, zero, suc, List, []}
+use Rattle.std.specs.Prelude.{Bool, ◌&&◌, nat_lt, nat_le, Option, Some, None, length, min}
+use Rattle.std.specs.Prelude.{if◌then◌else◌}
 use Rattle.std.specs.Bool.{MatchBool}
 use Rattle.std.specs.Option.{unwrap_or, option_or}
 use Rattle.std.specs.Str.{bytes_eq}
 use Rattle.std.specs.Fmt.{decimal}
+use Rattle.sv_base.specs.Ascii.{full_stop}
 use Rattle.sv_base.specs.declared.config.FileOrder.{FileOrder}
 use Rattle.sv_base.specs.declared.config.FileOrder.TheVariants.{Append, Shift, Fresh}
 use Rattle.sv_logs.specs.declared.plan.LogPlan.{LogPlan}
@@ -39,22 +43,27 @@ all_carried (order ∷ orders) files = all_carried orders (carried order files)
 -- a log's file, and after it its backups: the file's name, a point and 1, 2, 3
 abbrev pub kept : List ℕ → ℕ → List ℕ
 kept file zero = file
-kept file (suc number) = file ++ 46 ∷ decimal (suc number)
+kept file (suc number) = file ++ full_stop ∷ decimal (suc number)
 
 -- a log is rotated from its greatest size on; 0 is never
 abbrev pub is_over : ℕ → ℕ → Bool
 is_over maxbytes size = nat_lt 0 maxbytes && nat_le maxbytes size
 
--- a rotation with so many backups: the file is empty, the first backup holds what the file held, each further
--- one what the one before it held, and only the last one, where the one before it was missing, what it held itself
+-- a rotation with so many backups: the file is empty, the first backup holds what the file held,
+-- each further one what the one before it held, and only the last one, where the one before it was
+-- missing, what it held itself
 pub record IsRotated (file : List ℕ) (backups : ℕ) (before after : Files) : Type 0 where
   pub fresh : after file ≡ Some []
-  pub up : (number : ℕ) → suc number < backups → after (kept file (suc number)) ≡ before (kept file number)
+  pub up : (number : ℕ) → suc number < backups
+      → after (kept file (suc number)) ≡ before (kept file number)
   pub last : (number : ℕ) → suc number ≡ backups
-      → after (kept file (suc number)) ≡ option_or (before (kept file number)) (before (kept file (suc number)))
-  pub others : (name : List ℕ) → ((number : ℕ) → number ≤ backups → name ≢ kept file number) → after name ≡ before name
+      → after (kept file (suc number)) ≡ option_or (before (kept file number))
+      (before (kept file (suc number)))
+  pub others : (name : List ℕ) → ((number : ℕ) → number ≤ backups → name ≢ kept file number)
+      → after name ≡ before name
 
--- the files after an append to a log: its file has grown by the piece, and where it is over by that, it is rotated
+-- the files after an append to a log: its file has grown by the piece, and where it is over by
+-- that, it is rotated
 abbrev pub IsAppended : LogPlan → List ℕ → Files → Files → Type 0
 IsAppended plan piece before after =
     let held = bytes_of before plan.file ++ piece in

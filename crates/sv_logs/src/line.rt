@@ -1,7 +1,9 @@
 //! A line of the main log.
 ghost use Rattle.std.specs.Prelude.{◌≡◌, ◌<◌, ◌+◌, ◌++◌, ◌∷◌, [], IfOk, OnOk, length};
 ghost use Rattle.sv_dates.specs.Dates.{IsOfCalendar};
-ghost use Rattle.sv_logs.specs.MainLine.{level_word, two_digits, three_digits, four_digits, date_text, time_text, main_text};
+ghost use Rattle.sv_logs.specs.MainLine.{level_word, three_digits, four_digits};
+ghost use Rattle.sv_dates.specs.Dates.{two_digits};
+ghost use Rattle.sv_logs.specs.MainLine.{date_text, time_text, main_text};
 
 use std::alloc::{AllocError, Global};
 use sv_base::bytes::Bytes;

@@ -1,6 +1,7 @@
 //! A log that grows and is rotated.
 ghost use Rattle.std.specs.Prelude.{◌≡◌, ◌≤◌, ◌++◌, ◌∷◌, [], IfOk, OnOk, OnErr};
-ghost use Rattle.sv_logs.specs.Rotation.{Files, all_carried, kept, moves, is_over, grown_size, orders_of, after_append, IsAppended, IsKnown};
+ghost use Rattle.sv_logs.specs.Rotation.{Files, all_carried, kept, moves, is_over, grown_size};
+ghost use Rattle.sv_logs.specs.Rotation.{orders_of, after_append, IsAppended, IsKnown};
 
 use std::alloc::{AllocError, Global};
 use sv_base::bytes::Bytes;

@@ -1,6 +1,7 @@
 //! Which bytes of a log a reader asks for.
 ghost use Rattle.std.specs.Prelude.{◌≡◌, ◌↔◌, ◌≤◌, ◌+◌, ◌⊎◌, ℤ, pos, ◌<ℤ◌, ◌≢◌, IsErr, IfOk, Some};
-ghost use Rattle.sv_logs.specs.Spans.{span_limit, first_of, last_of, read_part, from_zero, has_missed, tail_part};
+ghost use Rattle.sv_logs.specs.Spans.{span_limit, first_of, last_of, read_part, from_zero};
+ghost use Rattle.sv_logs.specs.Spans.{has_missed, tail_part};
 
 /// The most bytes of one read of a log.
 pub const SPAN_LIMIT: u64 = 1_048_576;

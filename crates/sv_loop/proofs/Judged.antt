@@ -19,8 +19,8 @@ use Rattle.sv_loop.specs.JournalPlaces.Verdict.{Stands as As_stands, BadLine as 
 use Rattle.sv_loop.specs.Judging.{IsPlace, JudgedAs, JudgedHead}
 use Rattle.sv_loop.specs.Replaying.{IsBeforeGo}
 use Rattle.sv_loop.specs.Telling.{IsRunning}
-use Rattle.sv_loop.specs.declared.judge.Place.{Place}
-use Rattle.sv_loop.specs.declared.judge.Place.TheVariants as place_is
+use Rattle.sv_loop.specs.declared.judge.JournalProgress.{JournalProgress}
+use Rattle.sv_loop.specs.declared.judge.JournalProgress.TheVariants as place_is
 use Rattle.sv_loop.specs.declared.judge.Judged.{Judged}
 use Rattle.sv_loop.specs.declared.judge.Judged.TheVariants.{Stands, BadLine, NotAccepted, NotConfigured, NoMemory}
 use Rattle.sv_out.specs.declared.input.Input.{Input}
@@ -55,7 +55,7 @@ judged_by_head (NotConfigured fault) at header text quiet unmarked only fits spe
 judged_by_head NoMemory at header text quiet unmarked only fits spelled short found = tt
 
 -- a place before `go` whose machine doesn't run
-pub before_go : (place : Place) (at : Stage) → IsPlace place at → (IsRunning place → ⊥) → IsBeforeGo at
+pub before_go : (place : JournalProgress) (at : Stage) → IsPlace place at → (IsRunning place → ⊥) → IsBeforeGo at
 before_go place Fresh is not_running = tt
 before_go place (Named groups) is not_running = tt
 before_go place (Long long) is not_running = tt

@@ -7,7 +7,7 @@ use Rattle.std.proofs.lemmas.Str.Ascii.{IsAscii-nil, IsAscii-cons}
 use Rattle.std.specs.List.{list_all}
 use Rattle.sv_generated.specs.Generated.{program_name}
 use Rattle.sv_journal.specs.ProgramNames.{IsName}
-use Rattle.sv_journal.specs.Tokens.{is_name_letter}
+use Rattle.sv_letters.specs.Letters.{is_name_letter}
 
 -- a digit may stand in a name
 digit : (d : ℕ) → d < 10 → is_name_letter (48 + d) ≡ true

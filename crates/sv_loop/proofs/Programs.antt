@@ -1,27 +1,26 @@
 -- The programs of a generated run make a whole roster, in the order of their numbers.
 use Rattle.std.proofs.Common.{arith, ◌≡◌, ◌≤◌, ◌<◌, ◌+◌, ◌-◌, ◌/◌, ◌%◌, ◌^◌, ℕ, zero, suc, List, [], ◌∷◌, ◌++◌, Bool, true, false, not, ◌&&◌, length, refl, sym, ap, subst, ◌∙◌, inl, inr, Result, Ok}
-use Rattle.std.specs.Prelude.{cond, drop, nat_le, nat_lt, take, unwrap_or, position, insert}
 use Rattle.std.specs.Cmp.{nat_cmp_is}
 use Rattle.std.specs.Cmp.Lexicographic.{slice_cmp}
-use Rattle.std.specs.List.{list_all, list_any, position_or_len}
-use Rattle.std.specs.Ordering.{nat_cmp, ordering_then}
+use Rattle.std.specs.List.{list_all, list_any}
+use Rattle.std.specs.Ordering.{is_lt, nat_cmp}
 use Rattle.std.specs.Str.{bytes_eq}
 use Rattle.std.specs.Str.Parse.{ParsesUnsigned}
-use Rattle.std.specs.declared.cmp.Ordering.{Ordering}
 use Rattle.std.specs.declared.cmp.Ordering.TheVariants.{Less, Equal, Greater}
 use Rattle.std.proofs.lemmas.Bool.{cases_lt, le-leb}
 use Rattle.std.proofs.lemmas.Fmt.{parse-decimal}
-use Rattle.std.proofs.lemmas.List.{drop_all, take_all}
 use Rattle.std.proofs.lemmas.Map.Text.{is_eq-slice_cmp}
-use Rattle.sv_base.specs.Order.{are_distinct, is_before, is_rising}
+use Rattle.sv_base.specs.Order.{are_distinct, is_rising, start_order}
 use Rattle.sv_base.specs.Roster.{are_memberships, fit_within, is_roster}
 use Rattle.sv_base.specs.declared.spec.GroupSpec.{GroupSpec}
 use Rattle.sv_generated.specs.Generated.{program_name}
+use Rattle.sv_groups.specs.Changes.{with_group}
 use Rattle.sv_groups.specs.StartOrder.{processes}
 use Rattle.sv_journal.specs.declared.header.Program.{Program}
 use Rattle.sv_loop.specs.Generating.{IsNumber, program_of, programs, programs_to}
-use Rattle.sv_loop.specs.ShortHeader.{group_of, placed, starts_before}
+use Rattle.sv_loop.specs.ShortHeader.{group_of}
 use Rattle.sv_loop.specs.WholeJournal.{groups_of}
+use Rattle.sv_ranks.proofs.Placing.{placed_last}
 
 -- ---- the names rise
 
@@ -94,42 +93,27 @@ one_behind first (suc count) =
     ap (λ (groups : List GroupSpec). group first ∷ groups) (one_behind (first + 1) count
     ∙ ap (λ (n : ℕ). groups_from (first + 1) count ++ group n ∷ []) next)
 
--- a group with a later number starts before none of them
-none_before : (first count n : ℕ) → first + count ≤ n → n < 1000
-    → position_or_len (starts_before (group n)) (groups_from first count) ≡ count
-none_before first zero n behind few = refl
-none_before first (suc count) n behind few =
-    let rest = none_before (first + 1) count n (omega arith) few in
-    let one_more : 1 + count ≡ suc count = omega arith in
-    rw (names_fall first n (omega arith) few) (ap (λ (n : ℕ). 1 + n) rest ∙ one_more)
-
-placed_last : (groups : List GroupSpec) (new : GroupSpec)
-    → position_or_len (starts_before new) groups ≡ length groups → placed new groups ≡ groups ++ new ∷ []
-placed_last groups new last =
-    rw (
-      last,
-      never (length groups),
-      take_all (length groups) groups (omega arith),
-      drop_all (length groups) groups (omega arith),
-    ) refl where
-      never : (n : ℕ) → nat_lt n n ≡ false
-      never n = grind arith
+-- they all start before a group with a later number
+all_before : (first count n : ℕ) → first + count ≤ n → n < 1000
+    → list_all (λ (g : GroupSpec). is_lt (start_order (λ (h : GroupSpec). h.priority) (λ (h : GroupSpec). h.name) g (group n))) (groups_from first count) ≡ true
+all_before first zero n behind few = refl
+all_before first (suc count) n behind few =
+    rw (names_rise first n (omega arith) few) (all_before (first + 1) count n (omega arith) few)
 
 groups_more : (groups : List GroupSpec) (before : List Program) (program : Program)
-    → groups_of groups (before ++ program ∷ []) ≡ placed (group_of program) (groups_of groups before)
+    → groups_of groups (before ++ program ∷ []) ≡ with_group (group_of program) (groups_of groups before)
 groups_more groups [] program = refl
-groups_more groups (first ∷ before) program = groups_more (placed (group_of first) groups) before program
+groups_more groups (first ∷ before) program = groups_more (with_group (group_of first) groups) before program
 
 groups_are : (count : ℕ) → count < 1000 → groups_of [] (programs_to count) ≡ groups_from 0 count
 groups_are zero few = refl
 groups_are (suc count) few =
     let rest = groups_are count (omega arith) in
-    let last : position_or_len (starts_before (group count)) (groups_from 0 count) ≡ length (groups_from 0 count) =
-    none_before 0 count count (omega arith) (omega arith) ∙ sym (count_is 0 count) in
     let next : 0 + count ≡ count = omega arith in
     groups_more [] (programs_to count) (program_of count)
-    ∙ ap (λ (groups : List GroupSpec). placed (group count) groups) rest
-    ∙ placed_last (groups_from 0 count) (group count) last
+    ∙ ap (λ (groups : List GroupSpec). with_group (group count) groups) rest
+    ∙ placed_last (λ (g : GroupSpec). g.priority) (λ (g : GroupSpec). g.name) (groups_from 0 count) (group count)
+    (all_before 0 count count (omega arith) (omega arith))
     ∙ ap (λ (n : ℕ). groups_from 0 count ++ group n ∷ []) (sym next)
     ∙ sym (one_behind 0 count)
 
@@ -213,7 +197,7 @@ are_few = few_of programs 200 programs_are (omega arith)
 
 pub next_group : (count : ℕ)
     → groups_of [] (programs_to (count + 1))
-    ≡ placed (group_of (program_of count)) (groups_of [] (programs_to count))
+    ≡ with_group (group_of (program_of count)) (groups_of [] (programs_to count))
 next_group count =
     let e : count + 1 ≡ suc count = omega arith in
     rw e (groups_more [] (programs_to count) (program_of count))

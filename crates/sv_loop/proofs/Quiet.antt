@@ -5,8 +5,9 @@ use Rattle.sv_base.specs.declared.config.Config.{Config}
 use Rattle.sv_base.specs.declared.config.Host.{Host}
 use Rattle.sv_base.specs.declared.spec.GroupSpec.{GroupSpec}
 use Rattle.sv_conf.specs.Configuration.{configuration_of}
-use Rattle.sv_conf.specs.declared.fault.ConfFault.{ConfFault}
+use Rattle.sv_sections.specs.declared.fault.ConfFault.{ConfFault}
 use Rattle.sv_core.specs.MachineState.{Model, accepts, next, orders}
+use Rattle.sv_groups.specs.Changes.{with_group}
 use Rattle.sv_journal.specs.declared.header.Header.{Header}
 use Rattle.sv_journal.specs.declared.header.Header.TheVariants as header_is
 use Rattle.sv_loop.proofs.OneReading.{no_head, no_header_behind_go, why_misplaced}
@@ -17,7 +18,7 @@ use Rattle.sv_loop.specs.JournalPlaces.Verdict.{Stands, BadLine, NotAccepted, No
 use Rattle.sv_loop.specs.JournalPlaces.Walked.{Reaches, Stops}
 use Rattle.sv_loop.specs.Replaying.{IsBeforeGo, TellsWhy}
 use Rattle.sv_loop.specs.LongHeader.{starting_at}
-use Rattle.sv_loop.specs.ShortHeader.{group_of, placed}
+use Rattle.sv_loop.specs.ShortHeader.{group_of}
 use Rattle.sv_loop.specs.declared.long.LongPlace.{LongPlace}
 use Rattle.sv_loop.specs.declared.long.LongPlace.TheVariants.{Titled, Hosted, Located, Described, Configured}
 use Rattle.sv_out.specs.declared.input.Input.{Input}
@@ -75,7 +76,7 @@ head_quiet Fresh (header_is.Include name more) to given e = cc
 head_quiet Fresh (header_is.Go start) to given e = cc
 head_quiet (Named groups) (header_is.Journal version) to given e = cc
 head_quiet (Named groups) (header_is.Program program) to given e =
-    if_quiet (is_roster (placed (group_of program) groups)) (Named (placed (group_of program) groups)) BadLine to given (λ same. cc) e
+    if_quiet (is_roster (with_group (group_of program) groups)) (Named (with_group (group_of program) groups)) BadLine to given (λ same. cc) e
 head_quiet (Named groups) (header_is.Host name) to given e = cc
 head_quiet (Named groups) (header_is.Here here) to given e = cc
 head_quiet (Named groups) (header_is.Pid pid) to given e = cc

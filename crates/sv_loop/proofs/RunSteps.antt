@@ -10,7 +10,7 @@ use Rattle.sv_loop.specs.JournalPlaces.Verdict.{NotConfigured as As_not_configur
 use Rattle.sv_loop.specs.Judging.{LeadsTo}
 use Rattle.std.proofs.lemmas.List.Folds.{list_any-append}
 use Rattle.sv_loop.specs.Reading.{Holds, has_feed, IsCut, IsRead, IsAt, GoesOn, AtFault, IsWhole, OutsideGrammar, UnacceptedLine, UnconfiguredLine, Anything, HalfWritten, StopsAt, Unwrote}
-use Rattle.sv_loop.specs.declared.judge.Place.{Place}
+use Rattle.sv_loop.specs.declared.judge.JournalProgress.{JournalProgress}
 use Rattle.sv_loop.specs.declared.run.End.{End}
 use Rattle.sv_loop.specs.declared.run.End.TheVariants.{BadLine, NotAccepted, NotConfigured, NoMemory, SinkFailed}
 use Rattle.sv_loop.specs.declared.run.Run.{Run}
@@ -53,7 +53,7 @@ holds_line run lines at given bytes text is empty unbroken short = record {
   count_is = is.count;
 }
 
-pub stood : (count : ℕ) (later : Run) (lines : List Line) (at : Stage) (given : List Order) (bytes text : List ℕ) (place : Place) (orders : List Order)
+pub stood : (count : ℕ) (later : Run) (lines : List Line) (at : Stage) (given : List Order) (bytes text : List ℕ) (place : JournalProgress) (orders : List Order)
     (old new : Option (List ℕ)) → Holds count lines at given bytes text → LeadsTo at text place orders
     → later.place ≡ place → later.lines ≡ count + 1 → later.line.items ≡ [] → Appends old new (order_text orders)
     → GoesOn later (bytes ++ 10 ∷ []) given old new
@@ -99,7 +99,7 @@ at_fault count later Cause lines at given bytes text rest old new is counted cau
   wrote = wrote;
 }
 
-unwritten : (count : ℕ) (lines : List Line) (at : Stage) (given : List Order) (bytes text : List ℕ) (place : Place) (orders : List Order)
+unwritten : (count : ℕ) (lines : List Line) (at : Stage) (given : List Order) (bytes text : List ℕ) (place : JournalProgress) (orders : List Order)
     (old new : Option (List ℕ)) → Holds count lines at given bytes text → LeadsTo at text place orders → AppendsFront old new (order_text orders)
     → HalfWritten (bytes ++ 10 ∷ []) given old new
 unwritten count lines at given bytes text place orders old new is leads wrote =
@@ -119,7 +119,7 @@ unwritten count lines at given bytes text place orders old new is leads wrote =
     }
 
 pub stopped_at_write : (end : End) (count : ℕ) (later : Run) (lines : List Line) (at : Stage) (given : List Order) (bytes text : List ℕ)
-    (place : Place) (orders : List Order) (old new : Option (List ℕ)) → Holds count lines at given bytes text → LeadsTo at text place orders
+    (place : JournalProgress) (orders : List Order) (old new : Option (List ℕ)) → Holds count lines at given bytes text → LeadsTo at text place orders
     → later.lines ≡ count → Unwrote end (order_text orders) old new → StopsAt end later (bytes ++ 10 ∷ []) given old new
 stopped_at_write BadLine count later lines at given bytes text place orders old new is leads counted wrote = absurd wrote
 stopped_at_write NotAccepted count later lines at given bytes text place orders old new is leads counted wrote = absurd wrote

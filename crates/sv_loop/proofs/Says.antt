@@ -5,6 +5,7 @@ use Rattle.sv_base.specs.Roster.{is_roster}
 use Rattle.sv_base.specs.declared.spec.GroupSpec.{GroupSpec}
 use Rattle.sv_core.specs.Deeds.{after, deeds}
 use Rattle.sv_core.specs.MachineState.{Model, opening}
+use Rattle.sv_groups.specs.Changes.{with_group}
 use Rattle.sv_journal.specs.declared.header.Header.TheVariants as header_is
 use Rattle.sv_journal.specs.declared.header.Program.{Program as Programs_line}
 use Rattle.sv_loop.proofs.Quiet.{quiet_until}
@@ -16,7 +17,7 @@ use Rattle.sv_loop.specs.JournalPlaces.Stage.{Fresh, Named, Long, Running}
 use Rattle.sv_loop.specs.JournalPlaces.Verdict.{Stands, BadLine}
 use Rattle.sv_loop.specs.JournalPlaces.Walked.{Reaches}
 use Rattle.sv_loop.specs.Replaying.{Done}
-use Rattle.sv_loop.specs.ShortHeader.{config_of, group_of, host_at, placed}
+use Rattle.sv_loop.specs.ShortHeader.{config_of, group_of, host_at}
 use Rattle.sv_loop.specs.WholeJournal.Beginning.{Short as Of_programs, Long as Of_configuration}
 use Rattle.sv_loop.specs.declared.long.LongPlace.TheVariants.{Titled}
 use Rattle.sv_loop.specs.WholeJournal.{Entry, program_lines, entry_lines, inputs_in, groups_of, AllAccepted, SaysJournal, TellsDeeds, WritesDeeds}
@@ -50,11 +51,11 @@ says_go (group ∷ groups) start lines m given e =
     }
 
 by_roster : (groups : List GroupSpec) (program : Programs_line) (lines : List Line) (m : Model) (given : List Order) (whole : Bool)
-    → ((g : List Order) → walked (Named (placed (group_of program) groups)) lines ≡ Reaches (Running m) g → SaysPrograms (placed (group_of program) groups) lines m g)
-    → walks_on (if whole then Stands (Named (placed (group_of program) groups)) [] else BadLine) (λ n. walked n lines) ≡ Reaches (Running m) given
+    → ((g : List Order) → walked (Named (with_group (group_of program) groups)) lines ≡ Reaches (Running m) g → SaysPrograms (with_group (group_of program) groups) lines m g)
+    → walks_on (if whole then Stands (Named (with_group (group_of program) groups)) [] else BadLine) (λ n. walked n lines) ≡ Reaches (Running m) given
     → SaysPrograms groups (Head (header_is.Program program) ∷ lines) m given
 by_roster groups program lines m given true later e =
-    let rest = later given (quiet (walked (Named (placed (group_of program) groups)) lines) (Running m) given e) in
+    let rest = later given (quiet (walked (Named (with_group (group_of program) groups)) lines) (Running m) given e) in
     record {
       programs = program ∷ rest.programs;
       start = rest.start;
@@ -81,8 +82,8 @@ says_programs groups (Head (header_is.Conf text) ∷ lines) m given e = cc
 says_programs groups (Head (header_is.Include name more) ∷ lines) m given e = cc
 says_programs groups (Head (header_is.Go start) ∷ lines) m given e = says_go groups start lines m given e
 says_programs groups (Head (header_is.Program program) ∷ lines) m given e =
-    by_roster groups program lines m given (is_roster (placed (group_of program) groups))
-    (λ g reaches. says_programs (placed (group_of program) groups) lines m g reaches) e
+    by_roster groups program lines m given (is_roster (with_group (group_of program) groups))
+    (λ g reaches. says_programs (with_group (group_of program) groups) lines m g reaches) e
 
 says_short : (lines : List Line) (m : Model) (given : List Order) → walked (Named []) lines ≡ Reaches (Running m) given
     → SaysJournal (Head (header_is.Journal 0) ∷ lines) m given

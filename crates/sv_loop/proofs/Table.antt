@@ -12,8 +12,8 @@ use Rattle.sv_loop.specs.Judging.{IsPlace}
 use Rattle.sv_loop.specs.Reading.{IsRead, GoesOn, OutsideGrammar, UnacceptedLine, UnconfiguredLine, StopsAt}
 use Rattle.sv_loop.specs.Replaying.{bad_line, not_accepted, configuration_fault, TellsWhy, Unconfigured, source_failed, too_long, IsBeforeGo, EndsInLine, EndsTooEarly, Taken, Closed, Overfull, BreaksOff, line_behind, Replays, ReadOn, Ended}
 use Rattle.sv_loop.specs.Telling.{IsRunning, Tells, TellsLine, TellsOf, TellsOfLine, TellsOfWhole}
-use Rattle.sv_loop.specs.declared.judge.Place.{Place}
-use Rattle.sv_loop.specs.declared.judge.Place.TheVariants as place_is
+use Rattle.sv_loop.specs.declared.judge.JournalProgress.{JournalProgress}
+use Rattle.sv_loop.specs.declared.judge.JournalProgress.TheVariants as place_is
 use Rattle.sv_loop.specs.declared.replaying.Ending.{Ending}
 use Rattle.sv_loop.specs.declared.replaying.Ending.TheVariants.{Whole, Broken, Full, Stopped}
 use Rattle.sv_loop.specs.declared.replaying.Status.{Status}
@@ -91,7 +91,7 @@ told_line one two old mid new bytes given lines at text rest shown want got clos
     rw none.0 (closed one two (Appends old new) bytes given lines at text rest (λ l. []) (λ a t r. Unit {0}) taken read tt
     (Appends-trans old mid new (order_text given) [] wrote none.1))
 
-running_stage : (place : Place) (at : Stage) → IsPlace place at → IsRunning place → (m : Model) × (at ≡ Running m)
+running_stage : (place : JournalProgress) (at : Stage) → IsPlace place at → IsRunning place → (m : Model) × (at ≡ Running m)
 running_stage place_is.Fresh at is running = absurd running
 running_stage (place_is.Named groups) at is running = absurd running
 running_stage (place_is.Long long) at is running = absurd running
@@ -100,7 +100,7 @@ running_stage (place_is.Running machine) (Named groups) is running = absurd is
 running_stage (place_is.Running machine) (Long place) is running = absurd is
 running_stage (place_is.Running machine) (Running m) is running = (m, refl)
 
-too_early : (text : List ℕ) (place : Place) (at : Stage) → IsPlace place at → ((text ≡ []) × IsRunning place → ⊥) → (0 < length text) ⊎ IsBeforeGo at
+too_early : (text : List ℕ) (place : JournalProgress) (at : Stage) → IsPlace place at → ((text ≡ []) × IsRunning place → ⊥) → (0 < length text) ⊎ IsBeforeGo at
 too_early [] place at is not_whole = inr (before_go place at is (λ running. not_whole (refl, running)))
 too_early (b ∷ bs) place at is not_whole = inl (omega arith)
 

@@ -51,11 +51,13 @@ run_begins = record { config = config_of (groups_of [] programs); sizes = []; ho
 
 -- the line of the run of so many inputs
 unfoldable pub generated_line : ℕ → List ℕ
-generated_line number = run_line number (deeds (first_of run_begins) (generated (first_of run_begins) number))
+generated_line number =
+    run_line number (deeds (first_of run_begins) (generated (first_of run_begins) number))
 
--- of a run of so many inputs nothing was read, and the line was written; or no memory was left for it, or the sink
--- failed
-abbrev pub Generates : ℕ → ℕ → Option (List ℕ) → Option (List ℕ) → Option (List ℕ) → Option (List ℕ) → Type 0
+-- of a run of so many inputs nothing was read, and the line was written; or no memory was left for
+-- it, or the sink failed
+abbrev pub Generates : ℕ → ℕ → Option (List ℕ) → Option (List ℕ) → Option (List ℕ) → Option (List ℕ)
+    → Type 0
 Generates number got left left_after old new =
     Keeps left left_after
     × (((got ≡ 0) × Appends old new (generated_line number))

@@ -1,23 +1,27 @@
--- The places of a journal: its title, its short or long header, `go`, then the inputs; what a line is at its place, and
--- what a list of lines leads to.
-use Rattle.std.specs.Prelude.{◌≡◌, ℕ, zero, suc, List, [], ◌∷◌, ◌++◌, if◌then◌else◌, ◌≤◌, length, Bool, true, false, Option, Some, None, Result, Ok, Err, codes}
+-- The places of a journal: its title, its short or long header, `go`, then the inputs; what a line
+-- is at its place, and what a list of lines leads to.
+use Rattle.std.specs.Prelude.{◌≡◌, ℕ, zero, suc, List, [], ◌∷◌, ◌++◌, if◌then◌else◌, ◌≤◌, length}
+use Rattle.std.specs.Prelude.{Bool, true, false, Option, Some, None, Result, Ok, Err, codes}
 use Rattle.std.specs.List.{flat_map}
+use Rattle.sv_base.specs.Ascii.{line_feed}
 use Rattle.sv_base.specs.Roster.{is_roster}
 use Rattle.sv_base.specs.declared.config.Config.{Config}
 use Rattle.sv_base.specs.declared.config.Host.{Host}
 use Rattle.sv_base.specs.declared.spec.GroupSpec.{GroupSpec}
 use Rattle.sv_conf.specs.Configuration.{configuration_of}
-use Rattle.sv_conf.specs.declared.fault.ConfFault.{ConfFault}
+use Rattle.sv_sections.specs.declared.fault.ConfFault.{ConfFault}
 use Rattle.sv_core.specs.MachineState.{Model, opening, accepts, next, orders}
+use Rattle.sv_groups.specs.Changes.{with_group}
 use Rattle.sv_journal.specs.JournalLine.{header_line, input_line, order_line, FitsHeader, FitsInput}
 use Rattle.sv_journal.specs.Limits.{line_limit}
 use Rattle.sv_journal.specs.Orders.{FitsOrder}
 use Rattle.sv_journal.specs.declared.header.Header.{Header}
 use Rattle.sv_journal.specs.declared.header.Header.TheVariants as header_is
 use Rattle.sv_loop.specs.LongHeader.{is_behind, host_of, with_variable, starting_at}
-use Rattle.sv_loop.specs.ShortHeader.{group_of, placed, config_of, host_at}
+use Rattle.sv_loop.specs.ShortHeader.{group_of, config_of, host_at}
 use Rattle.sv_loop.specs.declared.long.LongPlace.{LongPlace}
-use Rattle.sv_loop.specs.declared.long.LongPlace.TheVariants.{Titled, Hosted, Located, Described, Configured}
+use Rattle.sv_loop.specs.declared.long.LongPlace.TheVariants.{Titled, Hosted, Located, Described}
+use Rattle.sv_loop.specs.declared.long.LongPlace.TheVariants.{Configured}
 use Rattle.sv_out.specs.declared.input.Input.{Input}
 use Rattle.sv_out.specs.declared.order.Order.{Order}
 
@@ -39,16 +43,16 @@ FitsLine (Head header) = FitsHeader header
 FitsLine (Said input) = FitsInput input
 FitsLine (Noted order) = FitsOrder order
 
--- where in the journal a line stands: at its beginning, after the title and some programs, in a long header, or
--- after `go`
+-- where in the journal a line stands: at its beginning, after the title and some programs, in a
+-- long header, or after `go`
 pub data Stage : Type 0 where
   Fresh : Stage
   Named : List GroupSpec → Stage
   Long : LongPlace → Stage
   Running : Model → Stage
 
--- a line stands at its place, leads to the next one and gives orders; or it is out of place; or its input isn't
--- accepted; or the configuration has a fault
+-- a line stands at its place, leads to the next one and gives orders; or it is out of place; or its
+-- input isn't accepted; or the configuration has a fault
 pub data Verdict : Type 0 where
   Stands : Stage → List Order → Verdict
   BadLine : Verdict
@@ -65,8 +69,8 @@ titles zero = Stands (Named []) []
 titles (suc zero) = Stands (Long Titled) []
 titles (suc (suc version)) = BadLine
 
--- the lines of a long header before `go`, in their one order: `host`, `here`, `pid`, any `env`, any `size`, `conf`, any
--- `include`
+-- the lines of a long header before `go`, in their one order: `host`, `here`, `pid`, any `env`, any
+-- `size`, `conf`, any `include`
 abbrev pub described : Bool → Host → List (List ℕ × ℕ) → Option LongPlace
 described true host sizes = Some (Described host sizes)
 described false host sizes = None
@@ -104,7 +108,7 @@ long_heads place header = moved (goes_on place header)
 -- what is to be said of a line of a header
 abbrev pub heads : Stage → Header → Verdict
 heads Fresh (header_is.Journal version) = titles version
-heads (Named groups) (header_is.Program program) = adds (placed (group_of program) groups)
+heads (Named groups) (header_is.Program program) = adds (with_group (group_of program) groups)
 heads (Named (group ∷ groups)) (header_is.Go start) =
     Stands (Running (opening (config_of (group ∷ groups)) [] (host_at start))) []
 heads (Long place) header = long_heads place header
@@ -112,7 +116,8 @@ heads stage header = BadLine
 
 -- what is to be said of an input: it is taken where the machine accepts it
 abbrev pub says : Stage → Input → Verdict
-says (Running m) input = if accepts m input then Stands (Running (next m input)) (orders m input) else NotAccepted
+says (Running m) input =
+    if accepts m input then Stands (Running (next m input)) (orders m input) else NotAccepted
 says stage input = BadLine
 
 -- what is to be said of an order's line: after `go` it is passed over
@@ -128,7 +133,9 @@ judged stage (Noted order) = passes_over stage
 
 -- no line that stands at this place has the text
 abbrev pub IsBadLine : Stage → List ℕ → Type 0
-IsBadLine stage text = (line : Line) → FitsLine line → line_text line ≡ text → length text ≤ line_limit → judged stage line ≡ BadLine
+IsBadLine stage text =
+    (line : Line) → FitsLine line → line_text line ≡ text → length text ≤ line_limit
+    → judged stage line ≡ BadLine
 
 -- the text is an input that isn't accepted
 pub record IsNotAccepted (stage : Stage) (text : List ℕ) : Type 0 where
@@ -156,7 +163,7 @@ pub record Leads (stage : Stage) (text : List ℕ) (to : Stage) (given : List Or
 
 -- the orders, a line for each
 abbrev pub order_text : List Order → List ℕ
-order_text given = flat_map (λ o. order_line o ++ 10 ∷ []) given
+order_text given = flat_map (λ o. order_line o ++ line_feed ∷ []) given
 
 -- what a list of lines leads to
 pub data Walked : Type 0 where
@@ -180,7 +187,7 @@ walked at (line ∷ lines) = walks_on (judged at line) (λ next. walked next lin
 
 -- the text of lines, each with its line feed
 abbrev pub journal_text : List Line → List ℕ
-journal_text lines = flat_map (λ line. line_text line ++ 10 ∷ []) lines
+journal_text lines = flat_map (λ line. line_text line ++ line_feed ∷ []) lines
 
 -- each line can stand in a journal
 abbrev pub AllFit : List Line → Type 0

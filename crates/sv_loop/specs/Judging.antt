@@ -1,17 +1,22 @@
--- What the reader of a journal knows of the place that it has come to, and what it answers of a line there.
+-- What the reader of a journal knows of the place that it has come to, and what it answers of a
+-- line there.
 use Rattle.std.specs.Prelude.{◌≡◌, ℕ, List}
 use Rattle.sv_core.specs.StandsFor.{StandsFor}
-use Rattle.sv_loop.specs.JournalPlaces.{Stage, Verdict, Leads, IsBadLine, IsNotAccepted, IsNotConfigured}
-use Rattle.sv_loop.specs.JournalPlaces.Verdict.{Stands as As_stands, BadLine as As_bad_line, NotConfigured as As_not_configured}
-use Rattle.sv_loop.specs.JournalPlaces.Stage.{Fresh as At_title, Named as At_programs, Long as At_long, Running as At_inputs}
+use Rattle.sv_loop.specs.JournalPlaces.{Stage, Verdict, Leads, IsBadLine, IsNotAccepted}
+use Rattle.sv_loop.specs.JournalPlaces.{IsNotConfigured}
+use Rattle.sv_loop.specs.JournalPlaces.Verdict.{Stands as As_stands, BadLine as As_bad_line}
+use Rattle.sv_loop.specs.JournalPlaces.Verdict.{NotConfigured as As_not_configured}
+use Rattle.sv_loop.specs.JournalPlaces.Stage.{Fresh as At_title, Named as At_programs}
+use Rattle.sv_loop.specs.JournalPlaces.Stage.{Long as At_long, Running as At_inputs}
 use Rattle.sv_out.specs.declared.order.Order.{Order}
 use Rattle.sv_loop.specs.declared.judge.Judged.{Judged}
-use Rattle.sv_loop.specs.declared.judge.Judged.TheVariants.{Stands, BadLine, NotAccepted, NotConfigured, NoMemory}
-use Rattle.sv_loop.specs.declared.judge.Place.{Place}
-use Rattle.sv_loop.specs.declared.judge.Place.TheVariants.{Fresh, Named, Long, Running}
+use Rattle.sv_loop.specs.declared.judge.Judged.TheVariants.{Stands, BadLine, NotAccepted}
+use Rattle.sv_loop.specs.declared.judge.Judged.TheVariants.{NotConfigured, NoMemory}
+use Rattle.sv_loop.specs.declared.judge.JournalProgress.{JournalProgress}
+use Rattle.sv_loop.specs.declared.judge.JournalProgress.TheVariants.{Fresh, Named, Long, Running}
 
 -- the place is this one
-abbrev pub IsPlace : Place → Stage → Type 0
+abbrev pub IsPlace : JournalProgress → Stage → Type 0
 IsPlace Fresh At_title = Unit {0}
 IsPlace (Named groups) (At_programs kept) = groups ≡ kept
 IsPlace (Long place) (At_long kept) = place ≡ kept
@@ -19,14 +24,16 @@ IsPlace (Running machine) (At_inputs m) = StandsFor machine.value m
 IsPlace place at = ⊥
 
 -- the line leads to the place and the orders that are answered
-pub record LeadsTo (at : Stage) (text : List ℕ) (place : Place) (orders : List Order) : Type 0 where
+pub record LeadsTo (at : Stage) (text : List ℕ) (place : JournalProgress) (orders : List Order)
+    : Type 0 where
   pub to : Stage
   pub leads : Leads at text to orders
   pub is_place : IsPlace place to
 
 -- what the answer says of a header at a place where only headers stand
 abbrev pub JudgedHead : Judged → Verdict → Type 0
-JudgedHead (Stands place orders) verdict = (to : Stage) × (verdict ≡ As_stands to orders.items) × IsPlace place to
+JudgedHead (Stands place orders) verdict =
+    (to : Stage) × (verdict ≡ As_stands to orders.items) × IsPlace place to
 JudgedHead BadLine verdict = verdict ≡ As_bad_line
 JudgedHead NotAccepted verdict = ⊥
 JudgedHead (NotConfigured fault) verdict = verdict ≡ As_not_configured fault

@@ -1,5 +1,5 @@
--- The long header of a journal: the host, its environment by rising names, the known sizes of log files by rising names,
--- the text of the configuration with those that it includes, and the start.
+-- The long header of a journal: the host, its environment by rising names, the known sizes of log
+-- files by rising names, the text of the configuration with those that it includes, and the start.
 use Rattle.std.specs.Prelude.{ℕ, List, [], ◌∷◌, ◌++◌, Bool, true}
 use Rattle.std.specs.Cmp.Lexicographic.{slice_cmp}
 use Rattle.std.specs.Ordering.{nat_cmp, is_lt}

@@ -1,8 +1,7 @@
--- What the short header of a journal stands for: a configuration without logs, servers and rpcinterface, in which each
--- program line is a program whose command is its name and whose other keys have their defaults.
-use Rattle.std.specs.Prelude.{ℕ, pos, List, [], ◌∷◌, None, Bool, true, false, codes, insert, length, unwrap_or, position}
-use Rattle.std.specs.Ordering.{is_lt}
-use Rattle.sv_base.specs.Order.{start_order}
+-- What the short header of a journal stands for: a configuration without logs, servers and
+-- rpcinterface, in which each program line is a program whose command is its name and whose other
+-- keys have their defaults.
+use Rattle.std.specs.Prelude.{ℕ, pos, List, [], ◌∷◌, None, true, false, codes}
 use Rattle.sv_base.specs.declared.config.Config.{Config}
 use Rattle.sv_base.specs.declared.config.Host.{Host}
 use Rattle.sv_base.specs.declared.spec.GroupSpec.{GroupSpec}
@@ -46,15 +45,8 @@ spec_of program = record {
 
 -- a program is a group of its own
 abbrev pub group_of : Program → GroupSpec
-group_of program = record { name = program.name; priority = pos 999; members = spec_of program ∷ []; pool = None }
-
--- this group starts before that one
-abbrev pub starts_before : GroupSpec → GroupSpec → Bool
-starts_before group other = is_lt (start_order (λ (g : GroupSpec). g.priority) (λ (g : GroupSpec). g.name) group other)
-
--- the groups with one more, before the first that starts after it
-abbrev pub placed : GroupSpec → List GroupSpec → List GroupSpec
-placed group groups = insert groups (unwrap_or (position (starts_before group) groups) (length groups)) group
+group_of program =
+    record { name = program.name; priority = pos 999; members = spec_of program ∷ []; pool = None }
 
 -- the configuration of these groups
 abbrev pub config_of : List GroupSpec → Config

@@ -1,20 +1,22 @@
 -- What is told of how a journal's reading ended.
 use Rattle.std.specs.Prelude.{◌≡◌, ℕ, List, [], ◌∷◌, ◌+◌, ◌⊎◌, Option}
 use Rattle.std.specs.Io.KnownBytes.{Appends, Consumes, IsAtEnd}
-use Rattle.sv_loop.specs.Replaying.{bad_line, not_accepted, configuration_fault, source_failed, too_long}
-use Rattle.sv_loop.specs.declared.judge.Place.{Place}
-use Rattle.sv_loop.specs.declared.judge.Place.TheVariants as place
+use Rattle.sv_loop.specs.Replaying.{bad_line, not_accepted, configuration_fault, source_failed}
+use Rattle.sv_loop.specs.Replaying.{too_long}
+use Rattle.sv_loop.specs.declared.judge.JournalProgress.{JournalProgress}
+use Rattle.sv_loop.specs.declared.judge.JournalProgress.TheVariants as place
 use Rattle.sv_loop.specs.declared.replaying.Ending.{Ending}
 use Rattle.sv_loop.specs.declared.replaying.Ending.TheVariants.{Whole, Broken, Full, Stopped}
 use Rattle.sv_loop.specs.declared.replaying.Status.{Status}
 use Rattle.sv_loop.specs.declared.replaying.Status.TheVariants as status
 use Rattle.sv_loop.specs.declared.run.End.{End}
-use Rattle.sv_loop.specs.declared.run.End.TheVariants.{BadLine, NotAccepted, NotConfigured, NoMemory, SinkFailed}
+use Rattle.sv_loop.specs.declared.run.End.TheVariants.{BadLine, NotAccepted, NotConfigured}
+use Rattle.sv_loop.specs.declared.run.End.TheVariants.{NoMemory, SinkFailed}
 use Rattle.sv_loop.specs.declared.run.Run.{Run}
 use Rattle.sv_out.specs.Written.{AppendsFront}
 
 -- the machine runs
-abbrev pub IsRunning : Place → Type 0
+abbrev pub IsRunning : JournalProgress → Type 0
 IsRunning (place.Running machine) = Unit {0}
 IsRunning other = ⊥
 
@@ -25,7 +27,8 @@ Tells text want old new got =
 
 -- the same, or no memory was left for the text
 abbrev pub TellsLine : List ℕ → Status → Option (List ℕ) → Option (List ℕ) → Status → Type 0
-TellsLine text want old new got = Tells text want old new got ⊎ ((got ≡ status.NoMemory) × Appends old new [])
+TellsLine text want old new got =
+    Tells text want old new got ⊎ ((got ≡ status.NoMemory) × Appends old new [])
 
 -- what stands at the limit
 abbrev pub IsBehind : Ending → Option (List ℕ) → Option (List ℕ) → Type 0
@@ -38,13 +41,18 @@ IsBehind (Stopped end) left left_after = ⊥
 abbrev pub TellsOfWhole : Run → Option (List ℕ) → Option (List ℕ) → Status → Type 0
 TellsOfWhole run old new got =
     ((got ≡ status.Done) × (run.line.items ≡ []) × IsRunning run.place × Appends old new [])
-    ⊎ ((((run.line.items ≡ []) × IsRunning run.place) → ⊥) × TellsLine (bad_line (run.lines + 1)) status.BadLine old new got)
+    ⊎
+    ((((run.line.items ≡ []) × IsRunning run.place) → ⊥)
+    × TellsLine (bad_line (run.lines + 1)) status.BadLine old new got)
 
 -- what the end of the reading at a line is told by
 abbrev pub TellsOfLine : End → Run → Option (List ℕ) → Option (List ℕ) → Status → Type 0
-TellsOfLine BadLine run old new got = TellsLine (bad_line (run.lines + 1)) status.BadLine old new got
-TellsOfLine NotAccepted run old new got = TellsLine (not_accepted (run.lines + 1)) status.NotAccepted old new got
-TellsOfLine (NotConfigured fault) run old new got = TellsLine (configuration_fault fault) status.NotConfigured old new got
+TellsOfLine BadLine run old new got =
+    TellsLine (bad_line (run.lines + 1)) status.BadLine old new got
+TellsOfLine NotAccepted run old new got =
+    TellsLine (not_accepted (run.lines + 1)) status.NotAccepted old new got
+TellsOfLine (NotConfigured fault) run old new got =
+    TellsLine (configuration_fault fault) status.NotConfigured old new got
 TellsOfLine NoMemory run old new got = (got ≡ status.NoMemory) × Appends old new []
 TellsOfLine SinkFailed run old new got = (got ≡ status.SinkFailed) × Appends old new []
 

@@ -1,28 +1,31 @@
 -- A whole journal as what it says: how the daemon begins, and what stands after `go`.
 use Rattle.std.specs.Prelude.{◌≡◌, ◌≤◌, ◌+◌, ℕ, List, [], ◌∷◌, ◌++◌, true, Option, Some, Ok, length}
 use Rattle.std.specs.Io.KnownBytes.{Appends, Consumes, IsAtEnd}
+use Rattle.sv_base.specs.Ascii.{line_feed}
 use Rattle.sv_base.specs.declared.config.Config.{Config}
 use Rattle.sv_base.specs.declared.config.Host.{Host}
 use Rattle.sv_base.specs.declared.spec.GroupSpec.{GroupSpec}
 use Rattle.sv_conf.specs.Configuration.{configuration_of}
 use Rattle.sv_core.specs.Deeds.{after, deeds}
 use Rattle.sv_core.specs.MachineState.{Model, accepts, next, opening}
+use Rattle.sv_groups.specs.Changes.{with_group}
 use Rattle.sv_journal.specs.JournalLine.{FitsHeader, header_line}
 use Rattle.sv_journal.specs.Limits.{line_limit}
 use Rattle.sv_journal.specs.declared.header.Header.{Header}
 use Rattle.sv_journal.specs.declared.header.Header.TheVariants as header
 use Rattle.sv_journal.specs.declared.header.Program.{Program}
-use Rattle.sv_loop.specs.JournalPlaces.{Line, Stage, Verdict, heads, journal_text, order_text, AllFit, walked}
+use Rattle.sv_loop.specs.JournalPlaces.{Line, Stage, Verdict, heads, journal_text, order_text}
+use Rattle.sv_loop.specs.JournalPlaces.{AllFit, walked}
 use Rattle.sv_loop.specs.JournalPlaces.Line.{Head, Said, Noted}
 use Rattle.sv_loop.specs.JournalPlaces.Stage.{Fresh, Running}
 use Rattle.sv_loop.specs.JournalPlaces.Walked.{Reaches}
 use Rattle.sv_loop.specs.Replaying.{TellsWhy, journal_limit}
-use Rattle.sv_loop.specs.ShortHeader.{config_of, group_of, host_at, placed}
+use Rattle.sv_loop.specs.ShortHeader.{config_of, group_of, host_at}
 use Rattle.sv_out.specs.declared.input.Input.{Input}
 use Rattle.sv_out.specs.declared.order.Order.{Order}
 
--- what a header says: some programs and the start; or a host with the start in it, the known sizes, the configuration's
--- text and those that it includes, each with its name
+-- what a header says: some programs and the start; or a host with the start in it, the known sizes,
+-- the configuration's text and those that it includes, each with its name
 pub data Beginning : Type 0 where
   Short : List Program → ℕ → Beginning
   Long : Host → List (List ℕ × ℕ) → List ℕ → List (List ℕ × List ℕ) → Beginning
@@ -67,9 +70,11 @@ inputs_in (Given order ∷ entries) = inputs_in entries
 -- a journal's lines: those of its header, then a line for each entry
 abbrev pub journal_lines : Beginning → List Entry → List Line
 journal_lines (Short programs start) entries =
-    Head (header.Journal 0) ∷ (program_lines programs ++ Head (header.Go start) ∷ entry_lines entries)
+    Head (header.Journal 0)
+    ∷ (program_lines programs ++ Head (header.Go start) ∷ entry_lines entries)
 journal_lines (Long host sizes text included) entries =
-    Head (header.Journal 1) ∷ Head (header.Host host.name) ∷ Head (header.Here host.here) ∷ Head (header.Pid host.pid)
+    Head (header.Journal 1) ∷ Head (header.Host host.name) ∷ Head (header.Here host.here)
+    ∷ Head (header.Pid host.pid)
     ∷ (variable_lines host.environment
     ++ (size_lines sizes
     ++ Head (header.Conf text) ∷ (include_lines included
@@ -78,17 +83,20 @@ journal_lines (Long host sizes text included) entries =
 -- the groups with those of the programs, each in its place
 abbrev pub groups_of : List GroupSpec → List Program → List GroupSpec
 groups_of groups [] = groups
-groups_of groups (program ∷ programs) = groups_of (placed (group_of program) groups) programs
+groups_of groups (program ∷ programs) =
+    groups_of (with_group (group_of program) groups) programs
 
 -- the state in which the daemon of this header begins: that of its configuration
-pub record IsConfigured (host : Host) (sizes : List (List ℕ × ℕ)) (text : List ℕ) (included : List (List ℕ × List ℕ)) (m : Model) : Type 0 where
+pub record IsConfigured (host : Host) (sizes : List (List ℕ × ℕ)) (text : List ℕ)
+    (included : List (List ℕ × List ℕ)) (m : Model) : Type 0 where
   pub config : Config
   pub accepted : configuration_of text included host ≡ Ok config
   pub begins : m ≡ opening config sizes host
 
 -- the machine as it begins
 abbrev pub BeginsAs : Beginning → Model → Type 0
-BeginsAs (Short programs start) m = m ≡ opening (config_of (groups_of [] programs)) [] (host_at start)
+BeginsAs (Short programs start) m =
+    m ≡ opening (config_of (groups_of [] programs)) [] (host_at start)
 BeginsAs (Long host sizes text included) m = IsConfigured host sizes text included m
 
 -- each input is accepted where it comes
@@ -107,13 +115,14 @@ pub record SaysJournal (lines : List Line) (m : Model) (given : List Order) : Ty
   pub state : m ≡ after first (inputs_in entries)
   pub orders : given ≡ deeds first (inputs_in entries)
 
--- lines that lead after `go` are a journal, and their orders are the deeds of its inputs; before `go` there are no orders
+-- lines that lead after `go` are a journal, and their orders are the deeds of its inputs; before
+-- `go` there are no orders
 abbrev pub TellsDeeds : List Line → Stage → List Order → Type 0
 TellsDeeds lines (Running m) given = SaysJournal lines m given
 TellsDeeds lines at given = given ≡ []
 
--- the source was read to its end, and gave a journal whose inputs are each accepted; the sink was written the lines of
--- the deeds of these inputs, and nothing else
+-- the source was read to its end, and gave a journal whose inputs are each accepted; the sink was
+-- written the lines of the deeds of these inputs, and nothing else
 pub record WritesDeeds (left left_after written written_after : Option (List ℕ)) : Type 0 where
   pub beginning : Beginning
   pub first : Model
@@ -125,8 +134,8 @@ pub record WritesDeeds (left left_after written written_after : Option (List ℕ
   pub accepted : AllAccepted first (inputs_in entries)
   pub wrote : Appends written written_after (order_text (deeds first (inputs_in entries)))
 
--- the source holds a good journal: each line is in the grammar of its place, they lead after `go`, each input is accepted,
--- and it has no more bytes than a journal may have
+-- the source holds a good journal: each line is in the grammar of its place, they lead after `go`,
+-- each input is accepted, and it has no more bytes than a journal may have
 pub record HoldsGoodJournal (left : Option (List ℕ)) : Type 0 where
   pub lines : List Line
   pub model : Model
@@ -143,8 +152,8 @@ pub data IsDoneOrHindered : ℕ → Type 0 where
   No_memory : IsDoneOrHindered 3
   Sink_failed : IsDoneOrHindered 4
 
--- the source holds a header whose configuration isn't run, with anything after it: each line before its last one is in
--- the grammar of its place, and at the last one the configuration is refused
+-- the source holds a header whose configuration isn't run, with anything after it: each line before
+-- its last one is in the grammar of its place, and at the last one the configuration is refused
 pub record HoldsUnconfigured (left : Option (List ℕ)) : Type 0 where
   pub lines : List Line
   pub fit : AllFit lines
@@ -159,7 +168,7 @@ pub record HoldsUnconfigured (left : Option (List ℕ)) : Type 0 where
   pub closing : List ℕ
   pub why : TellsWhy verdict closing
   pub rest : List ℕ
-  pub held : left ≡ Some (journal_text lines ++ (header_line last ++ 10 ∷ rest))
+  pub held : left ≡ Some (journal_text lines ++ (header_line last ++ line_feed ∷ rest))
   pub short : length (journal_text lines) + (length (header_line last) + 1) ≤ journal_limit
 
 -- the configuration was told to be refused, or the replay was hindered

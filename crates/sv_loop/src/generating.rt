@@ -1,15 +1,17 @@
 //! The words `gen N`: a generated run of the machine, of which one line is written.
-ghost use Rattle.std.specs.Prelude.{◌≡◌, ◌≢◌, ◌≤◌, ◌↔◌, ℕ, IsTrue, IfOk, IfSome, None, [], codes, string_bytes};
+ghost use Rattle.std.specs.Prelude.{◌≡◌, ◌≢◌, ◌≤◌, ◌↔◌, ℕ, IsTrue, IfOk, IfSome, None, [], codes};
+ghost use Rattle.std.specs.Prelude.{string_bytes};
 ghost use Rattle.std.specs.Fmt.{decimal};
 ghost use Rattle.sv_generated.specs.Taken.{Begins};
-ghost use Rattle.sv_loop.specs.Generating.{AreGen, IsNumber, generated_line, program_of, programs, run_begins};
+ghost use Rattle.sv_loop.specs.Generating.{AreGen, IsNumber, generated_line, program_of, programs};
+ghost use Rattle.sv_loop.specs.Generating.{run_begins};
 ghost use Rattle.sv_loop.specs.Telling.{TellsLine};
 ghost use Rattle.sv_loop.specs.WholeJournal.{groups_of};
 ghost use Rattle.sv_loop.specs.declared.replaying.Status.{Status};
 ghost use Rattle.sv_out.specs.Faults.{Rose};
 
 use crate::replaying::{Status, tell};
-use crate::short::{config_of, group_of, host_at, place};
+use crate::short::{config_of, group_of, host_at};
 use std::alloc::{AllocError, Global};
 use sv_base::groups::Groups;
 use sv_base::items::Items;
@@ -25,6 +27,7 @@ use sv_journal::code_list::ExitCodes;
 use sv_journal::header::Program;
 use sv_journal::program_name::ProgramName;
 use sv_out::sink::Sink;
+use sv_ranks::place;
 
 /// How many programs the run has.
 const PROGRAMS: u32 = 200;

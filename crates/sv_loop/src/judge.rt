@@ -1,28 +1,31 @@
 //! What is to be said of one line at its place.
-ghost use Rattle.std.specs.Prelude.{◌≡◌, ◌≢◌, ◌↔◌, ◌++◌, List, ℕ, [], IsTrue, IsSome, IfOk, IfSome, MatchOption, codes};
+ghost use Rattle.std.specs.Prelude.{◌≡◌, ◌≢◌, ◌↔◌, ◌++◌, List, ℕ, [], IsTrue, IsSome, IfOk, IfSome};
+ghost use Rattle.std.specs.Prelude.{MatchOption, codes};
 ghost use Rattle.sv_base.specs.Roster.{is_roster};
 ghost use Rattle.sv_core.specs.MachineState.{Model};
 ghost use Rattle.sv_core.specs.StandsFor.{StandsFor};
+ghost use Rattle.sv_groups.specs.Changes.{with_group};
 ghost use Rattle.sv_journal.specs.declared.header.Header.TheVariants.{Go};
 ghost use Rattle.sv_loop.specs.JournalPlaces.{Stage, adds, heads, titles};
-ghost use Rattle.sv_loop.specs.ShortHeader.{group_of, placed};
+ghost use Rattle.sv_loop.specs.ShortHeader.{group_of};
 ghost use Rattle.sv_loop.specs.JournalPlaces.Stage.{Fresh, Named, Running};
 ghost use Rattle.sv_loop.specs.JournalPlaces.Verdict.{Stands};
 ghost use Rattle.sv_loop.specs.Judging.{IsPlace, JudgedAs, JudgedHead};
 ghost use Rattle.sv_loop.specs.Telling.{IsRunning};
 
 use crate::long::{LongPlace, judge_long};
-use crate::short::{config_of, group_of, host_at, place};
+use crate::short::{config_of, group_of, host_at};
 use std::alloc::{AllocError, Global};
 use sv_base::groups::Groups;
 use sv_base::moment::Moment;
-use sv_conf::fault::ConfFault;
 use sv_core::machine::Machine;
 use sv_journal::fault::LineFault;
 use sv_journal::header::{Header, Program, Version};
 use sv_journal::read::{LINE_LIMIT, read_header, read_input};
 use sv_journal::reading_orders::read_order;
 use sv_out::order::Order;
+use sv_ranks::place;
+use sv_sections::fault::ConfFault;
 
 /// The length of the mark that stands before an order's line in a daemon's journal.
 const MARK_LENGTH: usize = 2;
@@ -30,19 +33,19 @@ const MARK_LENGTH: usize = 2;
 /// Where in a journal the next line stands: at the beginning, after the title and some programs, in a long header, or
 /// after `go`.
 #[derive(Drop)]
-pub enum Place {
+pub enum JournalProgress {
     Fresh,
     Named(Groups),
     Long(LongPlace),
     Running(Box<Machine>),
 }
 
-impl Place {
+impl JournalProgress {
     /// Whether the machine runs.
     pub(crate) fn is_running(&self) -> bool
         ensures { IsTrue result ↔ IsRunning self.now }
     {
-        matches!(self, Place::Running(_))
+        matches!(self, JournalProgress::Running(_))
     }
 }
 
@@ -50,7 +53,7 @@ impl Place {
 #[derive(Drop)]
 pub enum Judged {
     /// It stands, leads to this place and gives these orders.
-    Stands(Place, Vec<Order>),
+    Stands(JournalProgress, Vec<Order>),
     /// It is outside the grammar of its place.
     BadLine,
     /// Its input isn't accepted.
@@ -62,17 +65,17 @@ pub enum Judged {
 }
 
 /// Judges the line at this place, where the machine takes the line's input.
-pub(crate) fn judge(alloc: Global, place: Place, line: &[u8]) -> Judged
+pub(crate) fn judge(alloc: Global, place: JournalProgress, line: &[u8]) -> Judged
     ensures { (at : Stage) → IsPlace place at → JudgedAs result at line.now }
 {
     match place {
-        Place::Running(machine) => judge_input(alloc, machine, line),
+        JournalProgress::Running(machine) => judge_input(alloc, machine, line),
         place => judge_header(alloc, place, line),
     }
 }
 
 /// Before `go` stand lines of the header alone.
-fn judge_header(alloc: Global, place: Place, line: &[u8]) -> Judged
+fn judge_header(alloc: Global, place: JournalProgress, line: &[u8]) -> Judged
     requires { IsRunning place → ⊥ }
     ensures { (at : Stage) → IsPlace place at → JudgedAs result at line.now }
 {
@@ -84,14 +87,14 @@ fn judge_header(alloc: Global, place: Place, line: &[u8]) -> Judged
 }
 
 #[tactic(auto, using(crate::proofs::OneReading::no_header_behind_go))]
-fn judge_head(alloc: Global, place: Place, header: Header) -> Judged
+fn judge_head(alloc: Global, place: JournalProgress, header: Header) -> Judged
     ensures { (at : Stage) → IsPlace place at → JudgedHead result (heads at header) }
 {
     match place {
-        Place::Fresh => judge_first(alloc, &header),
-        Place::Named(groups) => judge_short(alloc, groups, header),
-        Place::Long(long) => judge_long(alloc, long, header),
-        Place::Running(_) => Judged::BadLine,
+        JournalProgress::Fresh => judge_first(alloc, &header),
+        JournalProgress::Named(groups) => judge_short(alloc, groups, header),
+        JournalProgress::Long(long) => judge_long(alloc, long, header),
+        JournalProgress::Running(_) => Judged::BadLine,
     }
 }
 
@@ -111,8 +114,8 @@ fn judge_version(alloc: Global, version: Version) -> Judged
     ensures memory { result ≢ Judged.NoMemory }
 {
     match version.get() {
-        0 => Judged::Stands(Place::Named(Groups::none(alloc)), Vec::new(alloc)),
-        1 => Judged::Stands(Place::Long(LongPlace::Titled), Vec::new(alloc)),
+        0 => Judged::Stands(JournalProgress::Named(Groups::none(alloc)), Vec::new(alloc)),
+        1 => Judged::Stands(JournalProgress::Long(LongPlace::Titled), Vec::new(alloc)),
         _ => Judged::BadLine,
     }
 }
@@ -129,10 +132,10 @@ fn judge_short(alloc: Global, groups: Groups, header: Header) -> Judged
 }
 
 fn judge_program(alloc: Global, groups: Groups, program: Program) -> Judged
-    ensures { JudgedHead result (adds (placed (group_of program) groups)) }
+    ensures { JudgedHead result (adds (with_group (group_of program) groups)) }
 {
     match with_program(alloc, groups, program) {
-        Ok(Some(groups)) => Judged::Stands(Place::Named(groups), Vec::new(alloc)),
+        Ok(Some(groups)) => Judged::Stands(JournalProgress::Named(groups), Vec::new(alloc)),
         Ok(None) => Judged::BadLine,
         Err(AllocError) => Judged::NoMemory,
     }
@@ -145,8 +148,9 @@ fn with_program(
     program: Program,
 ) -> Result<Option<Groups>, AllocError>
     ensures some { IfOk result (λ more. IsSome more
-        ↔ IsTrue (is_roster (placed (group_of program) groups))) }
-    ensures value { IfOk result (λ more. IfSome more (λ g. g ≡ placed (group_of program) groups)) }
+        ↔ IsTrue (is_roster (with_group (group_of program) groups))) }
+    ensures value { IfOk result (λ more. IfSome more (λ given.
+        given ≡ with_group (group_of program) groups)) }
 {
     let group = group_of(alloc, program)?;
     let mut groups = groups.into_vec();
@@ -176,7 +180,7 @@ pub(crate) fn running(alloc: Global, machine: Machine) -> Judged
     ensures { (m : Model) → StandsFor machine m → JudgedHead result (Stands (Running m) []) }
 {
     match Box::new(alloc, machine) {
-        Ok(machine) => Judged::Stands(Place::Running(machine), Vec::new(alloc)),
+        Ok(machine) => Judged::Stands(JournalProgress::Running(machine), Vec::new(alloc)),
         Err(_) => Judged::NoMemory,
     }
 }
@@ -211,7 +215,7 @@ fn judge_noted(alloc: Global, machine: Box<Machine>, order: &[u8]) -> Judged
         return Judged::BadLine;
     }
     match read_order(alloc, order) {
-        Ok(_) => Judged::Stands(Place::Running(machine), Vec::new(alloc)),
+        Ok(_) => Judged::Stands(JournalProgress::Running(machine), Vec::new(alloc)),
         Err(LineFault::BadLine(_)) => Judged::BadLine,
         Err(LineFault::OutOfMemory) => Judged::NoMemory,
     }
@@ -229,7 +233,7 @@ fn judge_said(alloc: Global, machine: Box<Machine>, line: &[u8]) -> Judged
                 return Judged::NotAccepted;
             }
             match machine.step(alloc, input) {
-                Ok(orders) => Judged::Stands(Place::Running(machine), orders),
+                Ok(orders) => Judged::Stands(JournalProgress::Running(machine), orders),
                 Err(AllocError) => Judged::NoMemory,
             }
         }

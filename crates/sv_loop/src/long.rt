@@ -1,5 +1,6 @@
 //! The long header: its lines in their order, and the configuration that it holds.
-ghost use Rattle.std.specs.Prelude.{◌≡◌, ◌↔◌, ◌++◌, ◌∷◌, [], IsTrue, IsSome, IfOk, IfSome, OnErr, ◌≢◌, length};
+ghost use Rattle.std.specs.Prelude.{◌≡◌, ◌↔◌, ◌++◌, ◌∷◌, [], IsTrue, IsSome, IfOk, IfSome, OnErr};
+ghost use Rattle.std.specs.Prelude.{◌≢◌, length};
 ghost use Rattle.sv_conf.specs.Configuration.{configuration_of};
 ghost use Rattle.sv_files.specs.Sizes.{rise};
 ghost use Rattle.sv_journal.specs.declared.header.Header.{Header};
@@ -7,7 +8,7 @@ ghost use Rattle.sv_loop.specs.JournalPlaces.{begins, goes_on, long_heads, moved
 ghost use Rattle.sv_loop.specs.Judging.{JudgedHead};
 ghost use Rattle.sv_loop.specs.LongHeader.{host_of, starting_at};
 
-use crate::judge::{Judged, Place};
+use crate::judge::{JournalProgress, Judged};
 use crate::sizes::{Sizes, is_behind};
 use std::alloc::{AllocError, Global};
 use sv_base::bytes::Bytes;
@@ -16,9 +17,9 @@ use sv_base::items::Items;
 use sv_base::moment::Moment;
 use sv_base::text::Text;
 use sv_conf::config::config;
-use sv_conf::fault::ConfFault;
 use sv_core::machine::Machine;
 use sv_journal::header::Header;
+use sv_sections::fault::ConfFault;
 
 /// How far a long header is read.
 #[derive(Debug, Drop)]
@@ -59,7 +60,7 @@ fn moved(alloc: Global, next: Option<LongPlace>) -> Judged
     ensures memory { result ≢ Judged.NoMemory }
 {
     match next {
-        Some(place) => Judged::Stands(Place::Long(place), Vec::new(alloc)),
+        Some(place) => Judged::Stands(JournalProgress::Long(place), Vec::new(alloc)),
         None => Judged::BadLine,
     }
 }

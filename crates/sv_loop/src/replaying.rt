@@ -1,13 +1,17 @@
 //! The call that reads a journal, runs the machine on it and writes its orders; or that goes through a generated run.
-ghost use Rattle.std.specs.Prelude.{◌≡◌, ◌≢◌, ◌≤◌, ◌<◌, ◌↔◌, ℕ, IsTrue, codes, ◌++◌, ◌∷◌, [], Err, IfOk, OnErr, length, take, string_bytes};
+ghost use Rattle.std.specs.Prelude.{◌≡◌, ◌≢◌, ◌≤◌, ◌<◌, ◌↔◌, ℕ, IsTrue, codes, ◌++◌, ◌∷◌, [], Err};
+ghost use Rattle.std.specs.Prelude.{IfOk, OnErr, length, take, string_bytes};
 ghost use Rattle.std.specs.Fmt.{decimal};
 ghost use Rattle.std.specs.Io.KnownBytes.{Appends, Consumes, IsAtEnd, Keeps};
 ghost use Rattle.sv_loop.specs.Generating.{AreGen, Generates};
 ghost use Rattle.sv_loop.specs.JournalPlaces.Stage.{Fresh};
 ghost use Rattle.sv_loop.specs.Reading.{IsAt};
-ghost use Rattle.sv_loop.specs.Replaying.{AreRun, Ended, Refuses, Replays, ReplaysAs, bad_line, configuration_fault, fault_line, status_number};
-ghost use Rattle.sv_loop.specs.Telling.{IsBehind, Tells, TellsLine, TellsOf, TellsOfLine, TellsOfWhole};
-ghost use Rattle.sv_loop.specs.WholeJournal.{HoldsGoodJournal, HoldsUnconfigured, IsDoneOrHindered, IsUnconfiguredOrHindered, WritesDeeds};
+ghost use Rattle.sv_loop.specs.Replaying.{AreRun, Ended, Refuses, Replays, ReplaysAs, bad_line};
+ghost use Rattle.sv_loop.specs.Replaying.{configuration_fault, fault_line, status_number};
+ghost use Rattle.sv_loop.specs.Telling.{IsBehind, Tells, TellsLine, TellsOf, TellsOfLine};
+ghost use Rattle.sv_loop.specs.Telling.{TellsOfWhole};
+ghost use Rattle.sv_loop.specs.WholeJournal.{HoldsGoodJournal, HoldsUnconfigured, IsDoneOrHindered};
+ghost use Rattle.sv_loop.specs.WholeJournal.{IsUnconfiguredOrHindered, WritesDeeds};
 ghost use Rattle.sv_loop.specs.declared.replaying.Status.{Status};
 ghost use Rattle.sv_out.specs.Faults.{HasCause, Rose};
 
@@ -15,10 +19,10 @@ use crate::generating::{generate, number_in};
 use crate::run::{End, Run};
 use std::alloc::{AllocError, Global};
 use sv_base::text::Text;
-use sv_conf::fault::ConfFault;
 use sv_out::failed::Failed;
 use sv_out::sink::{Sink, write_all};
 use sv_out::source::Source;
+use sv_sections::fault::ConfFault;
 
 /// The most bytes of a journal.
 pub const JOURNAL_LIMIT: usize = 67_108_864;

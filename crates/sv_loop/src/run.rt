@@ -1,5 +1,6 @@
 //! The lines of a journal, piece by piece.
-ghost use Rattle.std.specs.Prelude.{◌≡◌, ◌↔◌, IsTrue, ◌≤◌, ◌<◌, ◌+◌, ◌^◌, ◌∷◌, ◌++◌, [], List, ℕ, OnOk, IfErr, Err, Option, false, ◌≢◌, length};
+ghost use Rattle.std.specs.Prelude.{◌≡◌, ◌↔◌, IsTrue, ◌≤◌, ◌<◌, ◌+◌, ◌^◌, ◌∷◌, ◌++◌, [], List, ℕ};
+ghost use Rattle.std.specs.Prelude.{OnOk, IfErr, Err, Option, false, ◌≢◌, length};
 ghost use Rattle.sv_loop.specs.JournalPlaces.{Line, Stage};
 ghost use Rattle.sv_loop.specs.JournalPlaces.Stage.{Fresh};
 ghost use Rattle.sv_loop.specs.Judging.{JudgedAs};
@@ -9,13 +10,13 @@ ghost use Rattle.sv_out.specs.Faults.{Rose};
 ghost use Rattle.sv_out.specs.declared.order.Order.{Order};
 
 use crate::cutting::cut;
-use crate::judge::{Judged, Place, judge};
+use crate::judge::{JournalProgress, Judged, judge};
 use crate::orders::write_orders;
 use std::alloc::Global;
 use std::mem;
-use sv_conf::fault::ConfFault;
 use sv_journal::read::LINE_LIMIT;
 use sv_out::sink::Sink;
+use sv_sections::fault::ConfFault;
 
 /// Why the reading of a journal stopped at a line.
 #[derive(Debug, Drop)]
@@ -35,7 +36,7 @@ pub enum End {
 /// A journal that is read: the place of the line in hand, how many lines stand before it, and what has come of it.
 #[derive(Drop)]
 pub struct Run {
-    pub(crate) place: Place,
+    pub(crate) place: JournalProgress,
     pub(crate) lines: u64,
     pub(crate) line: Vec<u8>,
 }
@@ -49,7 +50,7 @@ impl Run {
         ensures few { result.lines ≡ 0 }
     {
         Run {
-            place: Place::Fresh,
+            place: JournalProgress::Fresh,
             lines: 0,
             line: Vec::new(alloc),
         }
@@ -72,7 +73,8 @@ impl Run {
         requires { self.old.lines + length piece.now < 2 ^ 32 }
         ensures few { self.new.lines ≤ self.old.lines + length piece.now }
         ensures later { K.faults sink.old ≤ K.faults sink.new }
-        ensures failed { result ≡ Err End.SinkFailed → Rose (K.faults sink.old) (K.faults sink.new) }
+        ensures failed { result ≡ Err End.SinkFailed
+            → Rose (K.faults sink.old) (K.faults sink.new) }
         ensures goes_on { OnOk result ((lines : List Line) (at : Stage) (given : List Order)
             (bytes : List ℕ) →
             IsAt self.old lines at given bytes →
@@ -98,7 +100,8 @@ impl Run {
         requires unbroken { has_feed line.now ≡ false }
         ensures few { self.new.lines ≤ self.old.lines + 1 }
         ensures later { K.faults sink.old ≤ K.faults sink.new }
-        ensures failed { result ≡ Err End.SinkFailed → Rose (K.faults sink.old) (K.faults sink.new) }
+        ensures failed { result ≡ Err End.SinkFailed
+            → Rose (K.faults sink.old) (K.faults sink.new) }
         ensures goes_on { OnOk result ((lines : List Line) (at : Stage) (given : List Order)
             (bytes : List ℕ) →
             IsAt self.old lines at given bytes →
@@ -147,7 +150,8 @@ impl Run {
         requires unbroken { has_feed line.now ≡ false }
         ensures few { self.new.lines ≤ self.old.lines + 1 }
         ensures later { K.faults sink.old ≤ K.faults sink.new }
-        ensures failed { result ≡ Err End.SinkFailed → Rose (K.faults sink.old) (K.faults sink.new) }
+        ensures failed { result ≡ Err End.SinkFailed
+            → Rose (K.faults sink.old) (K.faults sink.new) }
         ensures goes_on { OnOk result ((lines : List Line) (at : Stage) (given : List Order)
             (bytes : List ℕ) →
             IsAt self.old lines at given bytes →
@@ -162,7 +166,7 @@ impl Run {
         if line.len() > LINE_LIMIT {
             return Err(End::BadLine);
         }
-        let place = mem::replace(&mut self.place, Place::Fresh);
+        let place = mem::replace(&mut self.place, JournalProgress::Fresh);
         let judged = judge(alloc, place, line);
         self.go_on(alloc, judged, sink)
     }
@@ -172,7 +176,8 @@ impl Run {
         requires { self.old.lines < 2 ^ 32 }
         ensures few { self.new.lines ≤ self.old.lines + 1 }
         ensures later { K.faults sink.old ≤ K.faults sink.new }
-        ensures failed { result ≡ Err End.SinkFailed → Rose (K.faults sink.old) (K.faults sink.new) }
+        ensures failed { result ≡ Err End.SinkFailed
+            → Rose (K.faults sink.old) (K.faults sink.new) }
         ensures goes_on { OnOk result ((lines : List Line) (at : Stage) (given : List Order)
             (bytes : List ℕ) →
             IsAt self.old lines at given bytes →
@@ -183,7 +188,7 @@ impl Run {
             StopsAt end self.new (bytes ++ 10 ∷ []) given (K.written sink.old)
             (K.written sink.new)) }
     {
-        let place = mem::replace(&mut self.place, Place::Fresh);
+        let place = mem::replace(&mut self.place, JournalProgress::Fresh);
         let judged = judge(alloc, place, self.line.as_slice());
         self.go_on(alloc, judged, sink)
     }
@@ -193,7 +198,8 @@ impl Run {
         requires { self.old.lines < 2 ^ 32 }
         ensures few { self.new.lines ≤ self.old.lines + 1 }
         ensures later { K.faults sink.old ≤ K.faults sink.new }
-        ensures failed { result ≡ Err End.SinkFailed → Rose (K.faults sink.old) (K.faults sink.new) }
+        ensures failed { result ≡ Err End.SinkFailed
+            → Rose (K.faults sink.old) (K.faults sink.new) }
         ensures goes_on { OnOk result ((lines : List Line) (at : Stage) (given : List Order)
             (bytes text : List ℕ) →
             Holds self.old.lines lines at given bytes text → JudgedAs judged at text →

@@ -1,6 +1,6 @@
 //! The short header: its programs, and the configuration that they make.
-ghost use Rattle.std.specs.Prelude.{◌≡◌, ◌≤◌, ◌∷◌, [], codes, length, position, unwrap_or, IfOk, OnOk};
-ghost use Rattle.sv_loop.specs.ShortHeader.{no_log, spec_of, group_of, starts_before, placed, config_of, host_at};
+ghost use Rattle.std.specs.Prelude.{◌≡◌, ◌∷◌, [], codes, IfOk};
+ghost use Rattle.sv_loop.specs.ShortHeader.{no_log, spec_of, group_of, config_of, host_at};
 
 use std::alloc::{AllocError, Global};
 use sv_base::config::{ClientSpec, Config, Host};
@@ -8,7 +8,6 @@ use sv_base::groups::Groups;
 use sv_base::items::Items;
 use sv_base::moment::Moment;
 use sv_base::number::{Backups, CaptureBytes};
-use sv_base::ranked::start_order;
 use sv_base::spec::{GroupSpec, LogSpec, Spec};
 use sv_base::state::Level;
 use sv_base::text::Text;
@@ -82,31 +81,6 @@ pub(crate) fn group_of(alloc: Global, program: Program) -> Result<GroupSpec, All
         members,
         pool: None,
     })
-}
-
-/// Puts a group into its place among groups in start order.
-pub(crate) fn place(groups: &mut Vec<GroupSpec>, group: GroupSpec) -> Result<(), AllocError>
-    ensures { OnOk result (groups.new.items ≡ placed group groups.old.items) }
-{
-    let place = place_of(&group, groups.as_slice());
-    groups.insert(place, group)?;
-    Ok(())
-}
-
-fn place_of(group: &GroupSpec, groups: &[GroupSpec]) -> usize
-    ensures value { result ≡ unwrap_or (position (starts_before group.now) groups.now)
-        (length groups.now) }
-    ensures within { result ≤ length groups.now }
-{
-    first_after(group, groups).unwrap_or(groups.len())
-}
-
-fn first_after(group: &GroupSpec, groups: &[GroupSpec]) -> Option<usize>
-    ensures { result ≡ position (starts_before group.now) groups.now }
-{
-    groups
-        .iter()
-        .position(|other| start_order(group, other).is_lt())
 }
 
 /// The configuration of these groups, without logs, servers and rpcinterface.

@@ -1,5 +1,6 @@
 -- Starting, stopping and signalling: one process, a group, or all.
-use Rattle.std.specs.Prelude.{ℕ, List, [], ◌∷◌, Bool, true, false, not, Option, Some, None, filter, map, reverse, if◌then◌else◌}
+use Rattle.std.specs.Prelude.{ℕ, List, [], ◌∷◌, Bool, true, false, not, Option, Some, None, filter}
+use Rattle.std.specs.Prelude.{map, reverse, if◌then◌else◌}
 use Rattle.std.specs.List.{slice_get}
 use Rattle.sv_base.specs.declared.ids.ChildId.{ChildId}
 use Rattle.sv_base.specs.declared.spec.GroupSpec.{GroupSpec}
@@ -11,9 +12,11 @@ use Rattle.sv_groups.specs.StartOrder.{start_order}
 use Rattle.sv_groups.specs.declared.lookup.Found.{Found}
 use Rattle.sv_groups.specs.declared.lookup.Found.TheVariants.{One, Group, Nothing}
 use Rattle.sv_info.specs.declared.fault.Fault.{Fault}
-use Rattle.sv_info.specs.declared.fault.Fault.TheVariants.{AlreadyStarted, BadName, BadSignal, NotRunning}
+use Rattle.sv_info.specs.declared.fault.Fault.TheVariants.{AlreadyStarted, BadName, BadSignal}
+use Rattle.sv_info.specs.declared.fault.Fault.TheVariants.{NotRunning}
 use Rattle.sv_methods.specs.Outcomes.{Outcome, Does, refuses}
-use Rattle.sv_methods.specs.Processes.{group_named, is_running_state, is_signalled_state, members_of_group}
+use Rattle.sv_methods.specs.Processes.{group_named, is_running_state, is_signalled_state}
+use Rattle.sv_methods.specs.Processes.{members_of_group}
 use Rattle.sv_methods.specs.declared.act.Act.{Act}
 use Rattle.sv_methods.specs.declared.act.Act.TheVariants as act
 use Rattle.sv_methods.specs.declared.planned.Aim.{Aim}

@@ -1,5 +1,6 @@
 -- Reading and clearing logs.
-use Rattle.std.specs.Prelude.{ℕ, ℤ, pos, ◌+◌, List, [], ◌∷◌, ◌++◌, Bool, true, false, Option, Some, None, min}
+use Rattle.std.specs.Prelude.{ℕ, ℤ, pos, ◌+◌, List, [], ◌∷◌, ◌++◌, Bool, true, false, Option, Some}
+use Rattle.std.specs.Prelude.{None, min}
 use Rattle.std.specs.List.{slice_get}
 use Rattle.sv_base.specs.declared.ids.ChildId.{ChildId}
 use Rattle.sv_base.specs.declared.spec.GroupSpec.{GroupSpec}
@@ -15,7 +16,8 @@ use Rattle.sv_logs.specs.declared.spans.Span.{Span}
 use Rattle.sv_methods.specs.Outcomes.{Outcome, Gives, Does, Reads, refuses}
 use Rattle.sv_methods.specs.Processes.{size_of}
 use Rattle.sv_methods.specs.declared.method.LogMethod.{LogMethod}
-use Rattle.sv_methods.specs.declared.method.LogMethod.TheVariants.{ReadStderr, ReadStdout, TailStderr, TailStdout}
+use Rattle.sv_methods.specs.declared.method.LogMethod.TheVariants.{ReadStderr, ReadStdout}
+use Rattle.sv_methods.specs.declared.method.LogMethod.TheVariants.{TailStderr, TailStdout}
 use Rattle.sv_methods.specs.declared.planned.Aim.TheVariants.{Cleared}
 use Rattle.sv_methods.specs.declared.planned.Asked.{Asked}
 use Rattle.sv_methods.specs.declared.planned.ReadShape.TheVariants.{Plain, Tail}

@@ -1,23 +1,40 @@
--- The methods of the manual's chapter on its XML-RPC interface: how each is spelled, what it is answered,
--- what it takes.
+-- The methods of the manual's chapter on its XML-RPC interface: how each is spelled, what it is
+-- answered, what it takes.
 use Rattle.std.specs.Prelude.{ℕ, List, [], ◌∷◌, Bool, true, false, ◌&&◌, Option, codes, find}
 use Rattle.std.specs.Cmp.Lexicographic.{slice_cmp}
 use Rattle.std.specs.Ordering.{is_lt, nat_cmp}
 use Rattle.std.specs.Str.{bytes_eq}
 use Rattle.sv_methods.specs.declared.method.LogMethod.{LogMethod}
-use Rattle.sv_methods.specs.declared.method.LogMethod.TheVariants.{ReadStderr, ReadStdout, TailStderr, TailStdout}
+use Rattle.sv_methods.specs.declared.method.LogMethod.TheVariants.{ReadStderr, ReadStdout}
+use Rattle.sv_methods.specs.declared.method.LogMethod.TheVariants.{TailStderr, TailStdout}
 use Rattle.sv_methods.specs.declared.method.Method.{Method}
-use Rattle.sv_methods.specs.declared.method.Method.TheVariants.{Plain, OfText, OfWait, OfTextAndWait, OfTexts, ReadLog, OfLog, Multicall}
+use Rattle.sv_methods.specs.declared.method.Method.TheVariants.{Plain, OfText, OfWait}
+use Rattle.sv_methods.specs.declared.method.Method.TheVariants.{OfTextAndWait, OfTexts, ReadLog}
+use Rattle.sv_methods.specs.declared.method.Method.TheVariants.{OfLog, Multicall}
 use Rattle.sv_methods.specs.declared.method.PlainMethod.{PlainMethod}
-use Rattle.sv_methods.specs.declared.method.PlainMethod.TheVariants.{ClearAllProcessLogs, ClearLog, GetApiVersion, GetAllProcessInfo, GetIdentification, GetPid, GetState, GetSupervisorVersion, ListMethods, Shutdown}
+use Rattle.sv_methods.specs.declared.method.PlainMethod.TheVariants.{ClearAllProcessLogs, ClearLog}
+use Rattle.sv_methods.specs.declared.method.PlainMethod.TheVariants.{GetApiVersion}
+use Rattle.sv_methods.specs.declared.method.PlainMethod.TheVariants.{GetAllProcessInfo}
+use Rattle.sv_methods.specs.declared.method.PlainMethod.TheVariants.{GetIdentification, GetPid}
+use Rattle.sv_methods.specs.declared.method.PlainMethod.TheVariants.{GetState, GetSupervisorVersion}
+use Rattle.sv_methods.specs.declared.method.PlainMethod.TheVariants.{ListMethods, Shutdown}
 use Rattle.sv_methods.specs.declared.method.TextMethod.{TextMethod}
-use Rattle.sv_methods.specs.declared.method.TextMethod.TheVariants.{ClearProcessLogs, GetProcessInfo, MethodSignature, SignalAllProcesses}
+use Rattle.sv_methods.specs.declared.method.TextMethod.TheVariants.{ClearProcessLogs}
+use Rattle.sv_methods.specs.declared.method.TextMethod.TheVariants.{GetProcessInfo, MethodSignature}
+use Rattle.sv_methods.specs.declared.method.TextMethod.TheVariants.{SignalAllProcesses}
 use Rattle.sv_methods.specs.declared.method.TextWaitMethod.{TextWaitMethod}
-use Rattle.sv_methods.specs.declared.method.TextWaitMethod.TheVariants.{StartProcess, StartProcessGroup, StopProcess, StopProcessGroup}
+use Rattle.sv_methods.specs.declared.method.TextWaitMethod.TheVariants.{StartProcess}
+use Rattle.sv_methods.specs.declared.method.TextWaitMethod.TheVariants.{StartProcessGroup}
+use Rattle.sv_methods.specs.declared.method.TextWaitMethod.TheVariants.{StopProcess}
+use Rattle.sv_methods.specs.declared.method.TextWaitMethod.TheVariants.{StopProcessGroup}
 use Rattle.sv_methods.specs.declared.method.TextsMethod.{TextsMethod}
-use Rattle.sv_methods.specs.declared.method.TextsMethod.TheVariants.{SendProcessStdin, SendRemoteCommEvent, SignalProcess, SignalProcessGroup}
+use Rattle.sv_methods.specs.declared.method.TextsMethod.TheVariants.{SendProcessStdin}
+use Rattle.sv_methods.specs.declared.method.TextsMethod.TheVariants.{SendRemoteCommEvent}
+use Rattle.sv_methods.specs.declared.method.TextsMethod.TheVariants.{SignalProcess}
+use Rattle.sv_methods.specs.declared.method.TextsMethod.TheVariants.{SignalProcessGroup}
 use Rattle.sv_methods.specs.declared.method.WaitMethod.{WaitMethod}
-use Rattle.sv_methods.specs.declared.method.WaitMethod.TheVariants.{StartAllProcesses, StopAllProcesses}
+use Rattle.sv_methods.specs.declared.method.WaitMethod.TheVariants.{StartAllProcesses}
+use Rattle.sv_methods.specs.declared.method.WaitMethod.TheVariants.{StopAllProcesses}
 
 -- how a method is spelled
 abbrev pub spelling : Method → List ℕ

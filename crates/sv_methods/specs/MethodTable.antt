@@ -1,5 +1,6 @@
 -- The table of methods (the manual's chapter on its XML-RPC interface): one row for each method.
-use Rattle.std.specs.Prelude.{ℕ, ℤ, pos, List, [], ◌∷◌, ◌++◌, Bool, true, false, not, ◌&&◌, ◌||◌, Option, Some, None, codes, find, map, if◌then◌else◌}
+use Rattle.std.specs.Prelude.{ℕ, ℤ, pos, List, [], ◌∷◌, ◌++◌, Bool, true, false, not, ◌&&◌, ◌||◌}
+use Rattle.std.specs.Prelude.{Option, Some, None, codes, find, map, if◌then◌else◌}
 use Rattle.std.specs.List.{slice_get}
 use Rattle.std.specs.Str.{str_to_ascii_lowercase}
 use Rattle.sv_base.specs.Names.{mood_name, mood_number}
@@ -17,32 +18,53 @@ use Rattle.sv_groups.specs.StartOrder.{pairs_of, processes, start_order}
 use Rattle.sv_groups.specs.declared.lookup.Found.{Found}
 use Rattle.sv_groups.specs.declared.lookup.Found.TheVariants.{One, Group, Nothing}
 use Rattle.sv_info.specs.declared.fault.Fault.{Fault}
-use Rattle.sv_info.specs.declared.fault.Fault.TheVariants.{BadName, IncorrectParameters, NoFile, NotRunning, ShutdownState, SignatureUnsupported, UnknownMethod}
-use Rattle.sv_methods.specs.Acts.{asks_all, asks_group_named, asks_named, signals_all, signals_found, signals_found_group}
-use Rattle.sv_methods.specs.Logs.{clear_request, cleared, clears, clears_main, clears_named, log_row, reads_main}
-use Rattle.sv_methods.specs.MethodNames.{all_methods, is_always_open, is_ours, method_named, signature, spelling}
+use Rattle.sv_info.specs.declared.fault.Fault.TheVariants.{BadName, IncorrectParameters, NoFile}
+use Rattle.sv_info.specs.declared.fault.Fault.TheVariants.{NotRunning, ShutdownState}
+use Rattle.sv_info.specs.declared.fault.Fault.TheVariants.{SignatureUnsupported, UnknownMethod}
+use Rattle.sv_methods.specs.Acts.{asks_all, asks_group_named, asks_named, signals_all}
+use Rattle.sv_methods.specs.Acts.{signals_found, signals_found_group}
+use Rattle.sv_methods.specs.Logs.{clear_request, cleared, clears, clears_main, clears_named}
+use Rattle.sv_methods.specs.Logs.{log_row, reads_main}
+use Rattle.sv_methods.specs.MethodNames.{all_methods, is_always_open, is_ours, method_named}
+use Rattle.sv_methods.specs.MethodNames.{signature, spelling}
 use Rattle.sv_methods.specs.Outcomes.{Outcome, Gives, does, refuses}
-use Rattle.sv_methods.specs.Params.{log_in, numbers_in, text_and_wait_in, text_in, texts_in, wait_in, ended}
+use Rattle.sv_methods.specs.Params.{log_in, numbers_in, text_and_wait_in, text_in, texts_in}
+use Rattle.sv_methods.specs.Params.{wait_in, ended}
 use Rattle.sv_methods.specs.Processes.{group_named, info_of, infos, is_heard_state}
 use Rattle.sv_methods.specs.declared.act.Act.TheVariants as act
 use Rattle.sv_methods.specs.declared.method.LogMethod.{LogMethod}
 use Rattle.sv_methods.specs.declared.method.Method.{Method}
 use Rattle.sv_methods.specs.declared.method.Method.TheVariants as takes
 use Rattle.sv_methods.specs.declared.method.PlainMethod.{PlainMethod}
-use Rattle.sv_methods.specs.declared.method.PlainMethod.TheVariants.{ClearAllProcessLogs, ClearLog, GetApiVersion, GetAllProcessInfo, GetIdentification, GetPid, GetState, GetSupervisorVersion, ListMethods, Shutdown}
+use Rattle.sv_methods.specs.declared.method.PlainMethod.TheVariants.{ClearAllProcessLogs, ClearLog}
+use Rattle.sv_methods.specs.declared.method.PlainMethod.TheVariants.{GetApiVersion}
+use Rattle.sv_methods.specs.declared.method.PlainMethod.TheVariants.{GetAllProcessInfo}
+use Rattle.sv_methods.specs.declared.method.PlainMethod.TheVariants.{GetIdentification, GetPid}
+use Rattle.sv_methods.specs.declared.method.PlainMethod.TheVariants.{GetState, GetSupervisorVersion}
+use Rattle.sv_methods.specs.declared.method.PlainMethod.TheVariants.{ListMethods, Shutdown}
 use Rattle.sv_methods.specs.declared.method.TextMethod.{TextMethod}
-use Rattle.sv_methods.specs.declared.method.TextMethod.TheVariants.{ClearProcessLogs, GetProcessInfo, MethodSignature, SignalAllProcesses}
+use Rattle.sv_methods.specs.declared.method.TextMethod.TheVariants.{ClearProcessLogs}
+use Rattle.sv_methods.specs.declared.method.TextMethod.TheVariants.{GetProcessInfo, MethodSignature}
+use Rattle.sv_methods.specs.declared.method.TextMethod.TheVariants.{SignalAllProcesses}
 use Rattle.sv_methods.specs.declared.method.TextWaitMethod.{TextWaitMethod}
-use Rattle.sv_methods.specs.declared.method.TextWaitMethod.TheVariants.{StartProcess, StartProcessGroup, StopProcess, StopProcessGroup}
+use Rattle.sv_methods.specs.declared.method.TextWaitMethod.TheVariants.{StartProcess}
+use Rattle.sv_methods.specs.declared.method.TextWaitMethod.TheVariants.{StartProcessGroup}
+use Rattle.sv_methods.specs.declared.method.TextWaitMethod.TheVariants.{StopProcess}
+use Rattle.sv_methods.specs.declared.method.TextWaitMethod.TheVariants.{StopProcessGroup}
 use Rattle.sv_methods.specs.declared.method.TextsMethod.{TextsMethod}
-use Rattle.sv_methods.specs.declared.method.TextsMethod.TheVariants.{SendProcessStdin, SendRemoteCommEvent, SignalProcess, SignalProcessGroup}
+use Rattle.sv_methods.specs.declared.method.TextsMethod.TheVariants.{SendProcessStdin}
+use Rattle.sv_methods.specs.declared.method.TextsMethod.TheVariants.{SendRemoteCommEvent}
+use Rattle.sv_methods.specs.declared.method.TextsMethod.TheVariants.{SignalProcess}
+use Rattle.sv_methods.specs.declared.method.TextsMethod.TheVariants.{SignalProcessGroup}
 use Rattle.sv_methods.specs.declared.method.WaitMethod.{WaitMethod}
-use Rattle.sv_methods.specs.declared.method.WaitMethod.TheVariants.{StartAllProcesses, StopAllProcesses}
+use Rattle.sv_methods.specs.declared.method.WaitMethod.TheVariants.{StartAllProcesses}
+use Rattle.sv_methods.specs.declared.method.WaitMethod.TheVariants.{StopAllProcesses}
 use Rattle.sv_methods.specs.declared.planned.Asked.{Asked}
 use Rattle.sv_methods.specs.declared.planned.Request.{Request}
 use Rattle.sv_methods.specs.declared.planned.Request.TheVariants as request
 use Rattle.sv_methods.specs.Scenes.{Scene}
-use Rattle.sv_xmlcall.specs.Trees.{CallTree, Tree, Trees, integer, text, structure, array, no_tree, tree, trees_of, members_of}
+use Rattle.sv_xmlcall.specs.Trees.{CallTree, Tree, Trees, integer, text, structure, array, no_tree}
+use Rattle.sv_xmlcall.specs.Trees.{tree, trees_of, members_of}
 
 -- texts as an array
 abbrev pub texts_tree : List (List ℕ) → Tree

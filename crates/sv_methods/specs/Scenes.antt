@@ -6,8 +6,9 @@ use Rattle.sv_base.specs.declared.state.Mood.{Mood}
 use Rattle.sv_child.specs.declared.child.Child.{Child}
 use Rattle.sv_methods.specs.declared.stand.Stand.{Stand}
 
--- the daemon's mood and its own process number; the configuration; the groups and the children of all processes in start
--- order; of each child, whether the stdin of its present run was closed by a failed write; and the known sizes of files
+-- the daemon's mood and its own process number; the configuration; the groups and the children of
+-- all processes in start order; of each child, whether the stdin of its present run was closed by a
+-- failed write; and the known sizes of files
 pub record Scene : Type 0 where
   pub mood : Mood
   pub pid : ℕ

@@ -1,5 +1,6 @@
 -- What ends a wait, and what its answer is.
-use Rattle.std.specs.Prelude.{ℕ, List, [], ◌∷◌, Bool, true, false, not, ◌&&◌, ◌++◌, Option, Some, None, codes, pos, map, if◌then◌else◌}
+use Rattle.std.specs.Prelude.{ℕ, List, [], ◌∷◌, Bool, true, false, not, ◌&&◌, ◌++◌, Option, Some}
+use Rattle.std.specs.Prelude.{None, codes, pos, map, if◌then◌else◌}
 use Rattle.std.specs.List.{list_any, slice_get}
 use Rattle.std.specs.Option.{option_map}
 use Rattle.sv_base.specs.declared.ids.ChildId.{ChildId}
@@ -21,7 +22,8 @@ use Rattle.sv_methods.specs.declared.planned.Waiting.{Waiting}
 use Rattle.sv_methods.specs.Scenes.{Scene}
 use Rattle.sv_xmlcall.specs.Trees.{Tree, truth, array, trees_of, Reply, Returns, Faults}
 
--- a process that was started is waited for while it is STARTING, one that was stopped until it is at rest
+-- a process that was started is waited for while it is STARTING, one that was stopped until it is
+-- at rest
 abbrev pub is_due : Aim → State → Bool
 is_due Started state.Starting = true
 is_due Stopped now = not (is_at_rest now)

@@ -2,9 +2,13 @@
 ghost use Rattle.std.specs.Prelude.{◌≡◌, ◌<◌, ℕ, IfOk, Some, None, length, map, slice_get};
 ghost use Rattle.sv_groups.specs.Lookup.{found};
 ghost use Rattle.sv_groups.specs.declared.lookup.Found.TheVariants.{Group};
-ghost use Rattle.sv_methods.specs.Acts.{aim_of, asked_of, asks, asks_all, asks_fitting, asks_found, asks_found_group, asks_group, asks_group_named, asks_in, asks_named, asks_one, in_order, is_asked, request_for, row_for, unfit};
+ghost use Rattle.sv_methods.specs.Acts.{aim_of, asked_of, asks, asks_all, asks_fitting, asks_found};
+ghost use Rattle.sv_methods.specs.Acts.{asks_found_group, asks_group, asks_group_named, asks_in};
+ghost use Rattle.sv_methods.specs.Acts.{asks_named, asks_one, in_order, is_asked, request_for};
+ghost use Rattle.sv_methods.specs.Acts.{row_for, unfit};
 ghost use Rattle.sv_methods.specs.Outcomes.{outcome, refuses};
-ghost use Rattle.sv_methods.specs.Processes.{group_named, is_running_state, is_signalled_state, members_of_group};
+ghost use Rattle.sv_methods.specs.Processes.{group_named, is_running_state, is_signalled_state};
+ghost use Rattle.sv_methods.specs.Processes.{members_of_group};
 ghost use Rattle.sv_methods.specs.Scenes.{scene};
 ghost use Rattle.sv_methods.specs.declared.act.Act.TheVariants as act_is;
 

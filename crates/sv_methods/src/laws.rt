@@ -1,6 +1,7 @@
 //! Laws of the table of methods.
 ghost use Rattle.std.specs.Prelude.{◌≡◌, IsTrue, Some, map};
-ghost use Rattle.sv_methods.specs.MethodNames.{all_methods, are_rising, method_named, signature, spelling};
+ghost use Rattle.sv_methods.specs.MethodNames.{all_methods, are_rising, method_named, signature};
+ghost use Rattle.sv_methods.specs.MethodNames.{spelling};
 ghost use Rattle.sv_methods.specs.MethodTable.{signature_row, texts_tree};
 ghost use Rattle.sv_methods.specs.Outcomes.{Gives};
 ghost use Rattle.sv_methods.specs.declared.method.Method.{Method};

@@ -1,8 +1,11 @@
 //! Reading and clearing logs.
-ghost use Rattle.std.specs.Prelude.{◌≡◌, ◌++◌, ◌∷◌, [], false, IfOk, MatchOption, None, OnOk, Some, map};
+ghost use Rattle.std.specs.Prelude.{◌≡◌, ◌++◌, ◌∷◌, [], false, IfOk, MatchOption, None, OnOk, Some};
+ghost use Rattle.std.specs.Prelude.{map};
 ghost use Rattle.sv_groups.specs.StartOrder.{processes};
 ghost use Rattle.sv_logs.specs.Spans.{read_part};
-ghost use Rattle.sv_methods.specs.Logs.{clear_request, cleared, clears, clears_main, clears_named, file_of, log_of, log_row, logs_of, process_named, reads, reads_main, reads_part, tails};
+ghost use Rattle.sv_methods.specs.Logs.{clear_request, cleared, clears, clears_main, clears_named};
+ghost use Rattle.sv_methods.specs.Logs.{file_of, log_of, log_row, logs_of, process_named, reads};
+ghost use Rattle.sv_methods.specs.Logs.{reads_main, reads_part, tails};
 ghost use Rattle.sv_methods.specs.MethodTable.{clears_all};
 ghost use Rattle.sv_methods.specs.Outcomes.{outcome};
 ghost use Rattle.sv_methods.specs.Processes.{size_of};

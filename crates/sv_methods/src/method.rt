@@ -1,7 +1,8 @@
 //! The methods by what they take, each with its spelling and its signature.
 ghost use Rattle.std.specs.Prelude.{◌≡◌, IsTrue, find};
 ghost use Rattle.std.specs.Str.{bytes_eq};
-ghost use Rattle.sv_methods.specs.MethodNames.{all_methods, answer_type, is_always_open, is_ours, method_named, spelling};
+ghost use Rattle.sv_methods.specs.MethodNames.{all_methods, answer_type, is_always_open, is_ours};
+ghost use Rattle.sv_methods.specs.MethodNames.{method_named, spelling};
 
 /// Methods that take nothing.
 #[derive(Clone, Copy, Debug, PartialEq, Eq)]

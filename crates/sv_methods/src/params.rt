@@ -1,7 +1,8 @@
 //! What a method takes.
 ghost use Rattle.std.specs.Prelude.{◌≡◌};
 ghost use Rattle.std.specs.Option.{option_map, option_copied};
-ghost use Rattle.sv_methods.specs.Params.{ended, log_in, number_first, numbers_in, text_and_wait_in, text_first, text_in, texts_in, wait_in};
+ghost use Rattle.sv_methods.specs.Params.{ended, log_in, number_first, numbers_in};
+ghost use Rattle.sv_methods.specs.Params.{text_and_wait_in, text_first, text_in, texts_in, wait_in};
 ghost use Rattle.sv_xmlcall.specs.Trees.{tree, trees_view, view};
 
 use sv_base::text::Text;

@@ -1,7 +1,8 @@
 //! What comes of a call.
 ghost use Rattle.std.specs.Prelude.{◌≡◌, IfOk};
 ghost use Rattle.sv_methods.specs.Logs.{log_row, reads_main};
-ghost use Rattle.sv_methods.specs.MethodTable.{after_params, is_here, is_shut, planned, row, row_if_here, text_wait_row, texts_row, wait_row};
+ghost use Rattle.sv_methods.specs.MethodTable.{after_params, is_here, is_shut, planned, row};
+ghost use Rattle.sv_methods.specs.MethodTable.{row_if_here, text_wait_row, texts_row, wait_row};
 ghost use Rattle.sv_methods.specs.Outcomes.{outcome};
 ghost use Rattle.sv_methods.specs.Params.{log_in, numbers_in, text_and_wait_in, texts_in, wait_in};
 ghost use Rattle.sv_methods.specs.Scenes.{scene};

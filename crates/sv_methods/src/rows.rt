@@ -2,7 +2,9 @@
 ghost use Rattle.std.specs.Prelude.{◌≡◌, ◌∷◌, ◌++◌, [], IfOk, None, OnOk, Some, map, slice_get};
 ghost use Rattle.sv_groups.specs.StartOrder.{pairs_of};
 ghost use Rattle.sv_methods.specs.MethodNames.{all_methods, method_named, signature, spelling};
-ghost use Rattle.sv_methods.specs.MethodTable.{info_row, is_closed, is_heard, plain_row, signature_row, state_tree, stdin_found, text_row, text_wait_row, texts_row, texts_tree, wait_row};
+ghost use Rattle.sv_methods.specs.MethodTable.{info_row, is_closed, is_heard, plain_row};
+ghost use Rattle.sv_methods.specs.MethodTable.{signature_row, state_tree, stdin_found, text_row};
+ghost use Rattle.sv_methods.specs.MethodTable.{text_wait_row, texts_row, texts_tree, wait_row};
 ghost use Rattle.sv_methods.specs.Outcomes.{does, outcome};
 ghost use Rattle.sv_methods.specs.Processes.{info_of, infos, is_heard_state};
 ghost use Rattle.sv_methods.specs.Scenes.{scene};

@@ -3,7 +3,9 @@ ghost use Rattle.std.specs.Prelude.{◌≡◌, ◌++◌, IfOk, OnOk, map};
 ghost use Rattle.std.specs.List.{list_any};
 ghost use Rattle.std.specs.Option.{option_map, option_copied};
 ghost use Rattle.sv_methods.specs.Scenes.{scene};
-ghost use Rattle.sv_methods.specs.Waits.{answer, checked, child_of, first_fault, is_due, is_waited_for, judged, judged_by, process_of, single, started, status_of, statuses, waits};
+ghost use Rattle.sv_methods.specs.Waits.{answer, checked, child_of, first_fault, is_due};
+ghost use Rattle.sv_methods.specs.Waits.{is_waited_for, judged, judged_by, process_of, single};
+ghost use Rattle.sv_methods.specs.Waits.{started, status_of, statuses, waits};
 ghost use Rattle.sv_xmlcall.specs.Trees.{reply_view, view};
 
 use crate::planned::{Aim, Asked, Waiting};

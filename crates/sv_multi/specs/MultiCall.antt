@@ -1,12 +1,13 @@
--- Several calls in one (the manual's chapter on its XML-RPC interface, `system.multicall`): the calls that
--- one value asks for, and the one value that their answers make.
+-- Several calls in one (the manual's chapter on its XML-RPC interface, `system.multicall`): the
+-- calls that one value asks for, and the one value that their answers make.
 use Rattle.std.specs.Prelude.{◌≡◌, ℕ, List, [], ◌∷◌, Option, Some, None, codes, if◌then◌else◌}
 use Rattle.std.specs.Option.{option_map}
 use Rattle.std.specs.Str.{bytes_eq}
 use Rattle.sv_multi.specs.Views.{PartTree, Calls, Refuses}
 use Rattle.sv_multi.specs.declared.fault.MultiFault.{MultiFault}
 use Rattle.sv_multi.specs.declared.fault.MultiFault.TheVariants.{NotParts, OutOfMemory}
-use Rattle.sv_xmlcall.specs.Trees.{Tree, Trees, Members, text, structure, array, no_tree, tree, no_member, member, Reply, Returns, Faults}
+use Rattle.sv_xmlcall.specs.Trees.{Tree, Trees, Members, text, structure, array, no_tree, tree}
+use Rattle.sv_xmlcall.specs.Trees.{no_member, member, Reply, Returns, Faults}
 use Rattle.sv_xmlcall.specs.Written.{fault_tree}
 
 -- the value of the first member of this name

@@ -1,7 +1,8 @@
 //! The calls that a value asks for.
 ghost use Rattle.std.specs.Prelude.{◌≡◌, IfErr, IfOk, Some};
 ghost use Rattle.std.specs.Option.{option_copied, option_map};
-ghost use Rattle.sv_multi.specs.MultiCall.{IsRefused, bad_part, call_of, called_with, member_named, part_in, part_of, parts_in, parts_of};
+ghost use Rattle.sv_multi.specs.MultiCall.{IsRefused, bad_part, call_of, called_with, member_named};
+ghost use Rattle.sv_multi.specs.MultiCall.{part_in, part_of, parts_in, parts_of};
 ghost use Rattle.sv_multi.specs.Views.{part_view, parts_view};
 ghost use Rattle.sv_xmlcall.specs.Trees.{view, trees_view, members_view};
 

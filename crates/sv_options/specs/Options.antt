@@ -1,6 +1,7 @@
 -- What the client's options say.
 use Rattle.std.specs.Prelude.{◌∷◌, ℕ, List, [], Option, Some, None, codes}
-use Rattle.clap.specs.Words.{App, Kinds, Row, Rule, fault_of, first_of, matches_of, new_app, new_rule, with_rule}
+use Rattle.clap.specs.Words.{App, Kinds, Row, Rule, fault_of, first_of, matches_of, new_app}
+use Rattle.clap.specs.Words.{new_rule, with_rule}
 use Rattle.sv_options.specs.declared.options.Options.{Options}
 
 -- an option of one letter, which takes a value

@@ -1,8 +1,10 @@
 //! What the options say.
 ghost use Rattle.std.specs.Prelude.{◌≡◌, ◌∷◌, Some, IfOk, List, codes, map, true};
 ghost use Rattle.std.specs.Option.{option_map};
-ghost use Rattle.clap.specs.Words.{FailsBy, HasMatchesOf, app_of, fault_of, first_of, found_of, matches_of, rows_of, with_rule};
-ghost use Rattle.sv_options.specs.Options.{command_line, option_of, options_of, values_in, with_name};
+ghost use Rattle.clap.specs.Words.{FailsBy, HasMatchesOf, app_of, fault_of, first_of, found_of};
+ghost use Rattle.clap.specs.Words.{matches_of, rows_of, with_rule};
+ghost use Rattle.sv_options.specs.Options.{command_line, option_of, options_of, values_in};
+ghost use Rattle.sv_options.specs.Options.{with_name};
 
 use clap::error::ErrorKind;
 use clap::{Arg, ArgMatches, Command, Error};

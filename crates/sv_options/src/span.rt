@@ -1,6 +1,7 @@
 //! Where the options of the client's words end.
 ghost use Rattle.std.specs.Prelude.{◌≡◌, ◌≤◌, false, length};
-ghost use Rattle.sv_options.specs.Span.{command_in, options_in, options_size, is_option, takes_value};
+ghost use Rattle.sv_options.specs.Span.{command_in, options_in, options_size, is_option};
+ghost use Rattle.sv_options.specs.Span.{takes_value};
 
 use sv_base::Text;
 

@@ -1,5 +1,6 @@
 -- What went over a connection, step by step, and what a dial keeps of it.
-use Rattle.std.specs.Prelude.{◌≡◌, ◌==◌, ◌&&◌, ◌||◌, ◌++◌, ◌∷◌, ℕ, List, [], false, Option, Some, Result, Ok, Err, length, take, nat_lt, option_map}
+use Rattle.std.specs.Prelude.{◌≡◌, ◌==◌, ◌&&◌, ◌||◌, ◌++◌, ◌∷◌, ℕ, List, [], false, Option, Some}
+use Rattle.std.specs.Prelude.{Result, Ok, Err, length, take, nat_lt, option_map}
 use Rattle.std.specs.Option.{ForSome}
 use Rattle.sv_base.specs.declared.config.Place.{Place}
 use Rattle.sv_out.specs.declared.connection.Exchange.{Exchange}

@@ -1,5 +1,6 @@
 -- The files of a shelf: a map from names to bytes, and what each call answers of it or makes of it.
-use Rattle.std.specs.Prelude.{◌≡◌, ◌-◌, ◌^◌, ◌&&◌, ◌++◌, ℕ, List, [], Option, None, Some, Result, Ok, Err, is_some, length, min, take, drop, if◌then◌else◌}
+use Rattle.std.specs.Prelude.{◌≡◌, ◌-◌, ◌^◌, ◌&&◌, ◌++◌, ℕ, List, [], Option, None, Some, Result}
+use Rattle.std.specs.Prelude.{Ok, Err, is_some, length, min, take, drop, if◌then◌else◌}
 use Rattle.std.specs.Option.{ForSome, unwrap_or}
 use Rattle.std.specs.List.{list_any}
 use Rattle.std.specs.List.Sorted.{IsStrictlySortedBy}
@@ -36,8 +37,10 @@ abbrev pub emptied : List ℕ → Files → Files
 emptied name files = put name (Some []) files
 
 -- what a read of a file gives: some view of its bytes, or Missing exactly where a told map lacks it
-abbrev pub Reads : {A : Type 0} → Option Files → List ℕ → (List ℕ → A) → Result A ShelfFault → Type 0
-Reads told name view (Ok value) = ForSome told (λ files. (bytes : List ℕ) × (files name ≡ Some bytes) × (value ≡ view bytes))
+abbrev pub Reads : {A : Type 0} → Option Files → List ℕ → (List ℕ → A) → Result A ShelfFault
+    → Type 0
+Reads told name view (Ok value) =
+    ForSome told (λ files. (bytes : List ℕ) × (files name ≡ Some bytes) × (value ≡ view bytes))
 Reads told name view (Err Missing) = ForSome told (λ files. files name ≡ None)
 Reads told name view (Err Failed) = Unit {0}
 Reads told name view (Err OutOfMemory) = Unit {0}
@@ -57,7 +60,8 @@ AreRising names = IsStrictlySortedBy (slice_cmp nat_cmp) names
 -- the names of the files that match a pattern
 abbrev pub AreNames : List ℕ → List (List ℕ) → Files → Type 0
 AreNames pattern names files =
-    (name : List ℕ) → list_any (bytes_eq name) names ≡ (matches pattern name && is_some (files name))
+    (name : List ℕ)
+    → list_any (bytes_eq name) names ≡ (matches pattern name && is_some (files name))
 
 -- a told map became what this makes of it
 abbrev pub Becomes : Option Files → Option Files → (Files → Files) → Type 0
@@ -66,7 +70,8 @@ Becomes (Some before) None change = ⊥
 Becomes (Some before) (Some after) change = (name : List ℕ) → after name ≡ change before name
 
 -- what a call that changes files leaves: the change; after a failure what was there
-abbrev pub Changes : Option Files → Option Files → (Files → Files) → Result (Unit {0}) ShelfFault → Type 0
+abbrev pub Changes : Option Files → Option Files → (Files → Files) → Result (Unit {0}) ShelfFault
+    → Type 0
 Changes old new change (Ok done) = Becomes old new change
 Changes old new change (Err Missing) = ⊥
 Changes old new change (Err Failed) = Becomes old new (λ files. files)

@@ -1,5 +1,6 @@
 -- What a list in memory was made with, and what became of its calls.
-use Rattle.std.specs.Prelude.{◌≡◌, ℕ, ◌-◌, ◌==◌, List, Bool, true, IsTrue, Option, Some, drop, vec_len, vec_capacity, if◌then◌else◌}
+use Rattle.std.specs.Prelude.{◌≡◌, ℕ, ◌-◌, ◌==◌, List, Bool, true, IsTrue, Option, Some, drop}
+use Rattle.std.specs.Prelude.{vec_len, vec_capacity, if◌then◌else◌}
 use Rattle.std.specs.List.{list_any}
 use Rattle.sv_out.specs.Faults.{counted}
 use Rattle.sv_out.specs.declared.calls.Calls.{Calls}

@@ -1,6 +1,7 @@
 //! Where bytes go.
 
-ghost use Rattle.std.specs.Prelude.{◌≡◌, ◌≤◌, ◌<◌, List, [], ℕ, Option, Some, IfOk, IsErr, IsTrue, OnOk, OnErr, false, is_err, length, min};
+ghost use Rattle.std.specs.Prelude.{◌≡◌, ◌≤◌, ◌<◌, List, [], ℕ, Option, Some, IfOk, IsErr, IsTrue};
+ghost use Rattle.std.specs.Prelude.{OnOk, OnErr, false, is_err, length, min};
 ghost use Rattle.std.specs.Io.{WritesAtMost};
 ghost use Rattle.std.specs.Io.KnownBytes.{WriteAppends, Appends};
 ghost use Rattle.sv_out.specs.Faults.{HasCause};
@@ -88,7 +89,8 @@ impl ListSink {
 }
 
 impl Sink for ListSink {
-    ghost use Rattle.sv_out.specs.Plans.{sink_plan, sink_faults, after_call, fails_next, known_written, spare_room};
+    ghost use Rattle.sv_out.specs.Plans.{sink_plan, sink_faults, after_call, fails_next};
+    ghost use Rattle.sv_out.specs.Plans.{known_written, spare_room};
 
     ghost written = { λ s. Some s.written.items };
 

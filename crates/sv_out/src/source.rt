@@ -1,6 +1,7 @@
 //! Where bytes come from.
 
-ghost use Rattle.std.specs.Prelude.{◌≡◌, ◌≤◌, List, ℕ, Option, Some, IfOk, drop, is_err, length, min, take};
+ghost use Rattle.std.specs.Prelude.{◌≡◌, ◌≤◌, List, ℕ, Option, Some, IfOk, drop, is_err, length};
+ghost use Rattle.std.specs.Prelude.{min, take};
 ghost use Rattle.std.specs.Io.{ReadsAtMost};
 ghost use Rattle.std.specs.Io.KnownBytes.{ReadConsumes};
 ghost use Rattle.sv_out.specs.Faults.{HasCause};
@@ -66,7 +67,8 @@ impl ListSource {
 }
 
 impl Source for ListSource {
-    ghost use Rattle.sv_out.specs.Plans.{source_plan, source_faults, after_call, fails_next, bytes_left, known_left};
+    ghost use Rattle.sv_out.specs.Plans.{source_plan, source_faults, after_call, fails_next};
+    ghost use Rattle.sv_out.specs.Plans.{bytes_left, known_left};
 
     ghost left = { λ s. Some (drop s.at s.bytes.items) };
 

@@ -1,5 +1,6 @@
 -- What a clock in memory tells.
-use Rattle.std.specs.Prelude.{ℕ, ◌++◌, ◌∷◌, List, [], Option, None, Some, length, nat_lt, if◌then◌else◌}
+use Rattle.std.specs.Prelude.{ℕ, ◌++◌, ◌∷◌, List, [], Option, None, Some, length, nat_lt}
+use Rattle.std.specs.Prelude.{if◌then◌else◌}
 use Rattle.sv_outside.specs.declared.clock.FixedClock.{FixedClock}
 
 -- the moments that are still to come, the next one first

@@ -42,7 +42,8 @@ SpawnsAsPlanned before after (Err (spawns.Refused refusal)) =
 SpawnsAsPlanned before after (Err spawns.OutOfMemory) = Unit {0}
 
 -- what was started is the next program; past the list any
-abbrev pub IsNext : List Program → List Program → Started ListSink ListSource ListSource ScriptWaiter → Type 0
+abbrev pub IsNext : List Program → List Program
+    → Started ListSink ListSource ListSource ScriptWaiter → Type 0
 IsNext [] left started = left ≡ []
 IsNext (program ∷ later) left started =
     (left ≡ later) × (started.stdin ≡ program.stdin) × (started.stdout ≡ program.stdout)

@@ -1,5 +1,6 @@
 -- What a spawner was asked for, and what it answered.
-use Rattle.std.specs.Prelude.{ℕ, ◌++◌, ◌∷◌, Bool, true, false, List, [], Option, None, Some, Result, Ok, Err}
+use Rattle.std.specs.Prelude.{ℕ, ◌++◌, ◌∷◌, Bool, true, false, List, [], Option, None, Some, Result}
+use Rattle.std.specs.Prelude.{Ok, Err}
 use Rattle.sv_base.specs.declared.signal.Signal.{Signal}
 use Rattle.sv_out.specs.declared.order.SpawnOrder.{SpawnOrder}
 use Rattle.sv_outside.specs.declared.spawner.Asked.{Asked}
@@ -17,9 +18,11 @@ with_one one (Some told) = Some (told ++ one ∷ [])
 
 module _ {I O E W : Type 0} where
   -- a call that asked for this program; one in which memory was refused isn't told
-  abbrev pub spawn_asked : SpawnOrder → Result (Started I O E W) SpawnFault → Option (List Asked) → Option (List Asked)
+  abbrev pub spawn_asked : SpawnOrder → Result (Started I O E W) SpawnFault → Option (List Asked)
+      → Option (List Asked)
   spawn_asked order (Ok started) asked = with_one (Spawn order (Ok started.pid)) asked
-  spawn_asked order (Err (spawns.Refused refusal)) asked = with_one (Spawn order (Err refusal)) asked
+  spawn_asked order (Err (spawns.Refused refusal)) asked =
+      with_one (Spawn order (Err refusal)) asked
   spawn_asked order (Err spawns.OutOfMemory) asked = asked
 
   -- the program was refused
@@ -29,7 +32,8 @@ module _ {I O E W : Type 0} where
   IsSpawnFailure (Err spawns.OutOfMemory) = ⊥
 
 -- a call that asked for this signal
-abbrev pub kill_asked : ℕ → Signal → Bool → Result (Unit {0}) KillFault → Option (List Asked) → Option (List Asked)
+abbrev pub kill_asked : ℕ → Signal → Bool → Result (Unit {0}) KillFault → Option (List Asked)
+    → Option (List Asked)
 kill_asked pid signal group (Ok done) asked = with_one (Kill pid signal group true) asked
 kill_asked pid signal group (Err kills.Failed) asked = with_one (Kill pid signal group false) asked
 kill_asked pid signal group (Err kills.OutOfMemory) asked = asked

@@ -15,8 +15,9 @@ abbrev pub waiter_faults : ScriptWaiter → ℕ
 waiter_faults waiter = waiter.calls.faults
 
 -- one call: it fails exactly where it was to, and else answers the end; each call is counted
-pub record Waits (old : ScriptWaiter) (result : Result How Failed) (new : ScriptWaiter) : Type 0 where
-  pub fails : is_err result ≡ is_to_fail (waiter_plan old)
-  pub answer : IfOk result (λ how. how ≡ how_ended old)
-  pub plan : waiter_plan new ≡ called (waiter_plan old) (is_to_fail (waiter_plan old))
-  pub same : how_ended new ≡ how_ended old
+pub record Waits (old : ScriptWaiter) (result : Result How Failed) (new : ScriptWaiter) : Type 0
+  where
+    pub fails : is_err result ≡ is_to_fail (waiter_plan old)
+    pub answer : IfOk result (λ how. how ≡ how_ended old)
+    pub plan : waiter_plan new ≡ called (waiter_plan old) (is_to_fail (waiter_plan old))
+    pub same : how_ended new ≡ how_ended old

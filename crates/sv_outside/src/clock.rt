@@ -1,5 +1,6 @@
 //! The clock: what time it is, and pauses.
-ghost use Rattle.std.specs.Prelude.{◌≡◌, ◌≤◌, ◌∷◌, [], ℕ, List, Option, IfOk, MatchOption, None, Some, length, vec_capacity, if◌then◌else◌};
+ghost use Rattle.std.specs.Prelude.{◌≡◌, ◌≤◌, ◌∷◌, [], ℕ, List, Option, IfOk, MatchOption, None};
+ghost use Rattle.std.specs.Prelude.{Some, length, vec_capacity, if◌then◌else◌};
 ghost use Rattle.std.specs.Option.{ForSome};
 ghost use Rattle.sv_outside.specs.Told.{GrowsWhileTold};
 
@@ -74,7 +75,8 @@ impl FixedClock {
 }
 
 impl Clock for FixedClock {
-    ghost use Rattle.sv_outside.specs.Clocks.{after_moment, moments_left, next_moment, pauses_room, told_pauses, with_pause};
+    ghost use Rattle.sv_outside.specs.Clocks.{after_moment, moments_left, next_moment, pauses_room};
+    ghost use Rattle.sv_outside.specs.Clocks.{told_pauses, with_pause};
 
     ghost next = { λ c. Some c.next };
 
@@ -98,7 +100,8 @@ impl Clock for FixedClock {
         ensures next { next_moment self.new ≡ next_moment self.old }
 
         // A pause is told exactly while there is room.
-        ensures exact { told_pauses self.new ≡ with_pause (pauses_room self.old) milliseconds (told_pauses self.old) }
+        ensures exact { told_pauses self.new
+            ≡ with_pause (pauses_room self.old) milliseconds (told_pauses self.old) }
         ensures moments { moments_left self.new ≡ moments_left self.old }
         ensures room { pauses_room self.new ≡ pauses_room self.old }
     {

@@ -62,7 +62,8 @@ impl<J: Drop> HoldGate<J> {
 }
 
 impl<J: Job> Gate<J> for HoldGate<J> {
-    ghost use Rattle.std.specs.Prelude.{◌++◌, ◌∷◌, ◌<◌, IfErr, IsErr, IsTrue, OnErr, OnOk, false, is_ok};
+    ghost use Rattle.std.specs.Prelude.{◌++◌, ◌∷◌, ◌<◌, IfErr, IsErr, IsTrue, OnErr, OnOk, false};
+    ghost use Rattle.std.specs.Prelude.{is_ok};
     ghost use Rattle.sv_out.specs.Faults.{HasCause};
     ghost use Rattle.sv_out.specs.Plans.{is_to_fail};
     ghost use Rattle.sv_outside.specs.Gates.{kept_more};

@@ -55,7 +55,8 @@ impl ScriptListen {
 
     /// How many links it gave.
     pub fn given(&self) -> u64
-        ensures { option_map (λ (accepts : Accepts). accepts.given) (told_accepts self.now) ≡ Some result }
+        ensures { option_map (λ (accepts : Accepts). accepts.given) (told_accepts self.now)
+            ≡ Some result }
     {
         self.given
     }
@@ -88,7 +89,8 @@ impl Listen for ScriptListen {
         ensures fails { IsTrue (is_to_fail (listen_plan self.old)) → IsErr result }
         ensures links { IfOk result (λ link. links_left self.old ≡ link ∷ links_left self.new) }
         ensures kept { IsErr result → links_left self.new ≡ links_left self.old }
-        ensures only { IsErr result → is_to_fail (listen_plan self.old) ≡ false → links_left self.old ≡ [] }
+        ensures only { IsErr result → is_to_fail (listen_plan self.old) ≡ false
+            → links_left self.old ≡ [] }
     {
         self.asked = self.asked.saturating_add(1);
         if self.calls.next_fails() {

@@ -105,8 +105,11 @@ fn copy_order(order: &SpawnOrder) -> Result<SpawnOrder, AllocError>
 impl Spawner for ScriptSpawner {
     ghost use Rattle.sv_out.specs.Faults.{RisesWhere};
     ghost use Rattle.sv_outside.specs.Plans.{spawner_plan};
-    ghost use Rattle.sv_outside.specs.ScriptSpawns.{IsNext, KillsAsPlanned, SpawnsAsPlanned, next_pid, programs_left, spawner_faults, told_asked};
-    ghost use Rattle.sv_outside.specs.Spawning.{IsKillFailure, IsSpawnFailure, kill_asked, spawn_asked};
+    ghost use Rattle.sv_outside.specs.ScriptSpawns.{IsNext, KillsAsPlanned, SpawnsAsPlanned};
+    ghost use Rattle.sv_outside.specs.ScriptSpawns.{next_pid, programs_left, spawner_faults};
+    ghost use Rattle.sv_outside.specs.ScriptSpawns.{told_asked};
+    ghost use Rattle.sv_outside.specs.Spawning.{IsKillFailure, IsSpawnFailure, kill_asked};
+    ghost use Rattle.sv_outside.specs.Spawning.{spawn_asked};
 
     type Stdin = ListSink;
 

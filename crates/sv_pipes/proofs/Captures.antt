@@ -9,7 +9,7 @@ use Rattle.sv_pipes.proofs.Awaited.{At, IsToken, drop_all, more_bytes, at_start,
 use Rattle.sv_pipes.specs.CaptureCut.{Decided, Stretch, IsCut, IsClosed, Lead, Leads, awaited, begin_token, end_token, last_of, spelled, decided_by, decided_open, with_byte, grouped}
 use Rattle.sv_pipes.specs.CaptureCut.Decided.{Byte, Message}
 use Rattle.sv_pipes.specs.CaptureCut.Stretch.{Plain, Captured}
-use Rattle.sv_pipes.specs.CapturePlaces.{Stands, Reading, reads, held_outside, step_outside, step_inside, step, steps}
+use Rattle.sv_pipes.specs.CapturePlaces.{Stands, CaptureState, reads, held_outside, step_outside, step_inside, step, steps}
 use Rattle.sv_pipes.specs.Kept.{kept, all_kept, logged_part}
 use Rattle.sv_pipes.specs.TalkPlaces.{is_next}
 use Rattle.sv_pipes.specs.declared.parts.Part.{Part}
@@ -172,7 +172,7 @@ gathers_bytes parts logged more fresh all = (
 )
 
 -- what a reading stands for, after what was decided earlier
-abbrev pub Reads : ℕ → List ℕ → List Decided → Reading → Type 0
+abbrev pub Reads : ℕ → List ℕ → List Decided → CaptureState → Type 0
 Reads limit stream earlier reading =
     (fresh : List Decided) × Stands limit reading.side reading.matched reading.body stream (earlier ++ fresh)
     × Gathers reading.side reading.parts reading.logged fresh
@@ -317,7 +317,7 @@ step_reads Outside limit matched byte body parts logged stream earlier was =
 step_reads Inside limit matched byte body parts logged stream earlier was =
     inside_reads limit matched byte body parts logged stream earlier was.0 was.1.0 was.1.1 was.1.2 was.1.3 was.2
 
-pub steps_read : (bytes : List ℕ) (limit : ℕ) (reading : Reading) (stream : List ℕ) (earlier : List Decided)
+pub steps_read : (bytes : List ℕ) (limit : ℕ) (reading : CaptureState) (stream : List ℕ) (earlier : List Decided)
     → Reads limit stream earlier reading → Reads limit (stream ++ bytes) earlier (steps limit reading bytes)
 steps_read [] limit reading stream earlier was = subst (λ (all : List ℕ). Reads limit all earlier reading) (sym (append-nil stream)) was
 steps_read (byte ∷ bytes) limit reading stream earlier was =
@@ -335,8 +335,8 @@ pub inside_again : (side : Side) (limit matched byte : ℕ) (body after : List �
     → is_next end_token matched byte ≡ false → byte ≡ 60 → after ≡ all_kept limit body (take matched end_token)
     → reads side 1 after parts logged ≡ step_inside limit matched byte body parts logged
 inside_again side limit matched byte body after parts logged is next mark holds =
-    cond_by (λ (r : Reading). reads side 1 after parts logged ≡ r) (is_next end_token matched byte) _ _ (λ yet. absurd (cc))
-    (λ _. cond_by (λ (r : Reading). reads side 1 after parts logged ≡ r) (byte == 60)
+    cond_by (λ (r : CaptureState). reads side 1 after parts logged ≡ r) (is_next end_token matched byte) _ _ (λ yet. absurd (cc))
+    (λ _. cond_by (λ (r : CaptureState). reads side 1 after parts logged ≡ r) (byte == 60)
     (reads Inside 1 (all_kept limit body (take matched end_token)) parts logged)
     (reads Inside 0 (kept limit (all_kept limit body (take matched end_token)) byte) parts logged)
     (λ _. cc) (λ no_mark. absurd (eq_false byte 60 no_mark mark)))
@@ -346,8 +346,8 @@ pub inside_on : (side : Side) (limit matched byte : ℕ) (body middle after : Li
     → reads side 0 after parts logged ≡ step_inside limit matched byte body parts logged
 inside_on side limit matched byte body middle after parts logged is next no_mark is_middle holds =
     let whole : after ≡ kept limit (all_kept limit body (take matched end_token)) byte = holds ∙ ap (λ b. kept limit b byte) is_middle in
-    cond_by (λ (r : Reading). reads side 0 after parts logged ≡ r) (is_next end_token matched byte) _ _ (λ yet. absurd (cc))
-    (λ _. cond_by (λ (r : Reading). reads side 0 after parts logged ≡ r) (byte == 60)
+    cond_by (λ (r : CaptureState). reads side 0 after parts logged ≡ r) (is_next end_token matched byte) _ _ (λ yet. absurd (cc))
+    (λ _. cond_by (λ (r : CaptureState). reads side 0 after parts logged ≡ r) (byte == 60)
     (reads Inside 1 (all_kept limit body (take matched end_token)) parts logged)
     (reads Inside 0 (kept limit (all_kept limit body (take matched end_token)) byte) parts logged)
     (λ mark. absurd (no_mark (eq_true byte 60 mark))) (λ _. cc))
@@ -361,7 +361,7 @@ feed_stands limit now_limit side to matched at body now_body parts out logged pi
     let was : Stands limit side matched body stream (decided ++ [])
     = subst (λ (d : List Decided). Stands limit side matched body stream d) (sym (append-nil decided)) stands in
     let all = steps_read piece limit (reads side matched body [] []) stream decided ([], was, start_gathers side) in
-    let now = subst (λ (r : Reading). Reads limit (stream ++ piece) decided r) (sym is_steps) all in (
+    let now = subst (λ (r : CaptureState). Reads limit (stream ++ piece) decided r) (sym is_steps) all in (
       now.0,
       is_out ∙ gathered to parts logged now.0 now.2,
       subst (λ (n : ℕ). Stands n to at now_body (stream ++ piece) (decided ++ now.0)) (sym same) now.1,

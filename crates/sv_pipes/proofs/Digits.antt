@@ -4,7 +4,8 @@ use Rattle.std.proofs.lemmas.Bool.{and_parts, and_from}
 use Rattle.std.proofs.lemmas.List.Folds.{list_all-append}
 use Rattle.std.specs.List.{list_all}
 use Rattle.std.specs.Char.{is_ascii_digit}
-use Rattle.sv_pipes.specs.Talk.{IsLength, number_of}
+use Rattle.sv_pipes.specs.Talk.{IsLength}
+use Rattle.sv_base.specs.SizeText.{number_of}
 
 pub number_more : (digits : List ℕ) (number digit : ℕ)
     → number_of number (digits ++ digit ∷ []) ≡ 10 * number_of number digits + (digit - 48)

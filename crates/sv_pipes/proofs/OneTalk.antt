@@ -3,12 +3,13 @@ use Rattle.std.proofs.Common.{◌≡◌, ◌+◌, ◌⊎◌, ℕ, List, [], ◌�
 use Rattle.std.proofs.lemmas.List.{append_cancel_left, length-map, map-append}
 use Rattle.sv_pipes.proofs.Digits.{digits_stop}
 use Rattle.sv_pipes.proofs.Fronts.{no_bytes}
-use Rattle.sv_pipes.specs.Talk.{Mark, Phrase, said, spelled, talk_of, tokens_of, Leads, IsRound, IsSaid, IsBegun, IsOutside, IsLength, GoesOn, IsLost, IsCut, result_text, number_of}
+use Rattle.sv_pipes.specs.Talk.{Mark, Phrase, said, spelled, talk_of, tokens_of, Leads, IsRound, IsSaid, IsBegun, IsOutside, IsLength, GoesOn, IsLost, IsCut, result_text}
+use Rattle.sv_base.specs.SizeText.{number_of}
 use Rattle.sv_pipes.specs.Talk.Mark.{Byte, Sent}
 use Rattle.sv_pipes.specs.Talk.Phrase.{Ready, Event, Result}
 use Rattle.sv_pipes.specs.TalkPlaces.{Stands, state_of}
-use Rattle.sv_pipes.specs.declared.talk.Place.{Place}
-use Rattle.sv_pipes.specs.declared.talk.Place.TheVariants as place
+use Rattle.sv_pipes.specs.declared.talk.TalkProgress.{TalkProgress}
+use Rattle.sv_pipes.specs.declared.talk.TalkProgress.TheVariants as place
 use Rattle.sv_pipes.specs.declared.tokens.TalkState.{TalkState}
 use Rattle.sv_pipes.specs.declared.tokens.TalkState.TheVariants as state
 use Rattle.sv_pipes.specs.declared.tokens.Token.{Token}
@@ -299,7 +300,7 @@ one_rest talk tokens others to also rest other cut cut' =
     sym (length-map rest Byte) ∙ ap length same.marks_are ∙ length-map other Byte
 
 -- a reader in a place was told a talk that has such a cut
-pub stands_cut : (at : Place) (held : List ℕ) (talk : List Mark) (tokens : List Token) → Stands at held talk tokens → IsCut talk tokens (state_of at)
+pub stands_cut : (at : TalkProgress) (held : List ℕ) (talk : List Mark) (tokens : List Token) → Stands at held talk tokens → IsCut talk tokens (state_of at)
 stands_cut (place.Greeting count) held talk tokens stands = (stands.0, stands.1)
 stands_cut place.Idle held talk tokens stands = (stands.0, stands.1)
 stands_cut (place.Word count) held talk tokens stands = (stands.0, stands.1)

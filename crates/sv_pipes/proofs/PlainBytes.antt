@@ -9,7 +9,7 @@ use Rattle.sv_pipes.proofs.Awaited.{drop_all}
 use Rattle.sv_pipes.proofs.Captures.{last_all}
 use Rattle.sv_pipes.proofs.Fronts.{cond_by, eq_true, eq_false, next_is}
 use Rattle.sv_pipes.specs.CaptureCut.{begin_token, end_token, last_of}
-use Rattle.sv_pipes.specs.CapturePlaces.{Reading, reads, step_outside, step_inside, steps}
+use Rattle.sv_pipes.specs.CapturePlaces.{CaptureState, reads, step_outside, step_inside, steps}
 use Rattle.sv_pipes.specs.Kept.{kept, all_kept, is_plain}
 use Rattle.sv_pipes.specs.TalkPlaces.{is_next}
 use Rattle.sv_pipes.specs.declared.parts.Part.{Part}
@@ -38,9 +38,9 @@ not_token byte plain = by_test (byte == 60) plain where
 plain_outside_one : (byte : ℕ) (body : List ℕ) (parts : List Part) (logged : List ℕ) → is_plain byte ≡ true
     → step_outside 0 byte body parts logged ≡ reads Outside 0 body parts (logged ++ byte ∷ [])
 plain_outside_one byte body parts logged plain =
-    cond_by (λ (r : Reading). r ≡ reads Outside 0 body parts (logged ++ byte ∷ [])) (is_next begin_token 0 byte) _ _
+    cond_by (λ (r : CaptureState). r ≡ reads Outside 0 body parts (logged ++ byte ∷ [])) (is_next begin_token 0 byte) _ _
     (λ next. absurd (eq_false byte 60 (not_token byte plain) (sym (next_is begin_token 0 byte next))))
-    (λ next. cond_by (λ (r : Reading). r ≡ reads Outside 0 body parts (logged ++ byte ∷ [])) (byte == 60) _ _
+    (λ next. cond_by (λ (r : CaptureState). r ≡ reads Outside 0 body parts (logged ++ byte ∷ [])) (byte == 60) _ _
     (λ mark. absurd (eq_false byte 60 (not_token byte plain) (eq_true byte 60 mark)))
     (λ no_mark. ap (λ front. reads Outside 0 body parts (front ++ byte ∷ [])) (append-nil logged)))
 
@@ -49,7 +49,7 @@ pub plain_outside : (limit : ℕ) (bytes body : List ℕ) (parts : List Part) (l
 plain_outside limit [] body parts logged plain = ap (λ all. reads Outside 0 body parts all) (sym (append-nil logged))
 plain_outside limit (byte ∷ bytes) body parts logged plain =
     let both = and_parts (is_plain byte) (list_all is_plain bytes) plain in
-    ap (λ (r : Reading). steps limit r bytes) (plain_outside_one byte body parts logged both.0)
+    ap (λ (r : CaptureState). steps limit r bytes) (plain_outside_one byte body parts logged both.0)
     ∙ plain_outside limit bytes body parts (logged ++ byte ∷ []) both.1
     ∙ ap (λ all. reads Outside 0 body parts all) (append_assoc logged (byte ∷ []) bytes)
 
@@ -57,9 +57,9 @@ plain_outside limit (byte ∷ bytes) body parts logged plain =
 plain_inside_one : (limit byte : ℕ) (body : List ℕ) (parts : List Part) (logged : List ℕ) → is_plain byte ≡ true
     → step_inside limit 0 byte body parts logged ≡ reads Inside 0 (kept limit body byte) parts logged
 plain_inside_one limit byte body parts logged plain =
-    cond_by (λ (r : Reading). r ≡ reads Inside 0 (kept limit body byte) parts logged) (is_next end_token 0 byte) _ _
+    cond_by (λ (r : CaptureState). r ≡ reads Inside 0 (kept limit body byte) parts logged) (is_next end_token 0 byte) _ _
     (λ next. absurd (eq_false byte 60 (not_token byte plain) (sym (next_is end_token 0 byte next))))
-    (λ next. cond_by (λ (r : Reading). r ≡ reads Inside 0 (kept limit body byte) parts logged) (byte == 60) _ _
+    (λ next. cond_by (λ (r : CaptureState). r ≡ reads Inside 0 (kept limit body byte) parts logged) (byte == 60) _ _
     (λ mark. absurd (eq_false byte 60 (not_token byte plain) (eq_true byte 60 mark)))
     (λ no_mark. refl))
 
@@ -68,7 +68,7 @@ pub plain_inside : (limit : ℕ) (bytes body : List ℕ) (parts : List Part) (lo
 plain_inside limit [] body parts logged plain = refl
 plain_inside limit (byte ∷ bytes) body parts logged plain =
     let both = and_parts (is_plain byte) (list_all is_plain bytes) plain in
-    ap (λ (r : Reading). steps limit r bytes) (plain_inside_one limit byte body parts logged both.0)
+    ap (λ (r : CaptureState). steps limit r bytes) (plain_inside_one limit byte body parts logged both.0)
     ∙ plain_inside limit bytes (kept limit body byte) parts logged both.1
 
 -- so of a capture's fields
@@ -84,15 +84,15 @@ pub plain_inside_at : (limit : ℕ) (side : Side) (matched : ℕ) (bytes body af
 plain_inside_at limit side matched bytes body after parts logged is none plain made =
     rw (is, none, made) (sym (plain_inside limit bytes body parts logged plain))
 
-steps_append : (limit : ℕ) (bytes more : List ℕ) (reading : Reading) → steps limit reading (bytes ++ more) ≡ steps limit (steps limit reading bytes) more
+steps_append : (limit : ℕ) (bytes more : List ℕ) (reading : CaptureState) → steps limit reading (bytes ++ more) ≡ steps limit (steps limit reading bytes) more
 steps_append limit [] more reading = refl
 steps_append limit (byte ∷ bytes) more reading = steps_append limit bytes more _
 
 -- and of what comes after them
-pub goes_behind : (limit : ℕ) (front back rest : List ℕ) (reading after : Reading) → rest ≡ front ++ back → after ≡ steps limit reading front
+pub goes_behind : (limit : ℕ) (front back rest : List ℕ) (reading after : CaptureState) → rest ≡ front ++ back → after ≡ steps limit reading front
     → steps limit after back ≡ steps limit reading rest
 goes_behind limit front back rest reading after split made =
-    ap (λ (r : Reading). steps limit r back) made ∙ sym (steps_append limit front back reading)
+    ap (λ (r : CaptureState). steps limit r back) made ∙ sym (steps_append limit front back reading)
     ∙ ap (λ all. steps limit reading all) (sym split)
 
 -- the last bytes of a message, with more bytes

@@ -3,8 +3,8 @@ use Rattle.std.proofs.Common.{◌≡◌, ◌≤◌, ◌<◌, ◌+◌, ℕ, List,
 use Rattle.std.proofs.lemmas.Bool.Decides.{nat_tests}
 use Rattle.sv_pipes.proofs.Fronts.{cond_by}
 use Rattle.sv_pipes.specs.TalkPlaces.{Told, after_body, goes, step, steps}
-use Rattle.sv_pipes.specs.declared.talk.Place.{Place}
-use Rattle.sv_pipes.specs.declared.talk.Place.TheVariants as place
+use Rattle.sv_pipes.specs.declared.talk.TalkProgress.{TalkProgress}
+use Rattle.sv_pipes.specs.declared.talk.TalkProgress.TheVariants as place
 use Rattle.sv_pipes.specs.declared.tokens.Token.{Token}
 use Rattle.sv_pipes.specs.declared.tokens.Token.TheVariants as token
 
@@ -30,12 +30,12 @@ body_at_once (next ∷ bytes) count number byte held tokens within =
     ∙ ap (λ all. after_body count number all tokens) (append_assoc held (byte ∷ []) (next ∷ bytes))
 
 -- so of a place in a talk, and what comes after them
-pub body_goes : (count number : ℕ) (held front back rest : List ℕ) (tokens : List Token) (at : Place) (after : Told)
+pub body_goes : (count number : ℕ) (held front back rest : List ℕ) (tokens : List Token) (at : TalkProgress) (after : Told)
     → at ≡ place.Body count number → 0 < length front → length held + length front ≤ number → rest ≡ front ++ back
     → after ≡ after_body count number (held ++ front) tokens → steps after back ≡ steps (goes at held tokens) rest
 body_goes count number held [] back rest tokens at after is some within split made = absurd (omega (arith, some))
 body_goes count number held (byte ∷ bytes) back rest tokens at after is some within split made =
     ap (λ (told : Told). steps told back) (made ∙ sym (body_at_once bytes count number byte held tokens within))
     ∙ sym (steps_append (byte ∷ bytes) back (goes (place.Body count number) held tokens))
-    ∙ ap (λ (from : Place). steps (goes from held tokens) ((byte ∷ bytes) ++ back)) (sym is)
+    ∙ ap (λ (from : TalkProgress). steps (goes from held tokens) ((byte ∷ bytes) ++ back)) (sym is)
     ∙ ap (λ all. steps (goes at held tokens) all) (sym split)

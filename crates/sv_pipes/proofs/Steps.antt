@@ -7,12 +7,13 @@ use Rattle.std.specs.Char.{is_ascii_digit}
 use Rattle.sv_pipes.proofs.Digits.{number_more, all_more, digits_go_on, digits_stop, too_far}
 use Rattle.sv_pipes.proofs.Fronts.{cond_by, eq_true, eq_false, lt_true, next_is, next_not, word_more, word_split, word_left, word_outside}
 use Rattle.sv_pipes.proofs.Talks.{byte_goes_on, part_ends, byte_loses, stays_lost}
-use Rattle.sv_pipes.specs.Talk.{Mark, said, IsBegun, IsOutside, IsLength, GoesOn, number_of, result_limit}
+use Rattle.sv_pipes.specs.Talk.{Mark, said, IsBegun, IsOutside, IsLength, GoesOn, result_limit}
+use Rattle.sv_base.specs.SizeText.{number_of}
 use Rattle.sv_pipes.specs.Talk.Mark.{Byte, Sent}
 use Rattle.sv_pipes.specs.Talk.Phrase.{Ready, Event, Result}
 use Rattle.sv_pipes.specs.TalkPlaces.{Stands, Told, ready_line, result_word, is_next, state_of, goes, lost, step, steps, after_greeting, after_word, after_digit, after_length, after_body}
-use Rattle.sv_pipes.specs.declared.talk.Place.{Place}
-use Rattle.sv_pipes.specs.declared.talk.Place.TheVariants as place
+use Rattle.sv_pipes.specs.declared.talk.TalkProgress.{TalkProgress}
+use Rattle.sv_pipes.specs.declared.talk.TalkProgress.TheVariants as place
 use Rattle.sv_pipes.specs.declared.tokens.TalkState.TheVariants as state
 use Rattle.sv_pipes.specs.declared.tokens.Token.{Token}
 use Rattle.sv_pipes.specs.declared.tokens.Token.TheVariants as token
@@ -239,7 +240,7 @@ body_steps count number byte held tokens earlier talk rest digits was is is_leng
       (refl, omega arith, refl),
     ))
 
-pub step_stands : (at : Place) (byte : ℕ) (held : List ℕ) (tokens earlier : List Token) (talk : List Mark)
+pub step_stands : (at : TalkProgress) (byte : ℕ) (held : List ℕ) (tokens earlier : List Token) (talk : List Mark)
     → Stands at held talk (earlier ++ tokens) → StandsTold (talk ++ Byte byte ∷ []) earlier (step at byte held tokens)
 step_stands (place.Greeting count) byte held tokens earlier talk stands =
     greeting_steps count byte held tokens earlier talk stands.0 stands.1 stands.2.0 stands.2.1 stands.2.2
@@ -270,7 +271,7 @@ steps_stand (byte ∷ bytes) told earlier talk stands =
     (append_assoc talk (Byte byte ∷ []) (said bytes))
     (steps_stand bytes (step told.place byte told.held told.tokens) earlier (talk ++ Byte byte ∷ []) here)
 
-pub sent_stands : (at : Place) (held : List ℕ) (talk : List Mark) (tokens : List Token) → state_of at ≡ state.Ready
+pub sent_stands : (at : TalkProgress) (held : List ℕ) (talk : List Mark) (tokens : List Token) → state_of at ≡ state.Ready
     → Stands at held talk tokens → Stands (place.Word 0) held (talk ++ Sent ∷ []) tokens
 sent_stands (place.Greeting count) held talk tokens is stands = absurd (cc)
 sent_stands place.Idle held talk tokens is stands =

@@ -9,8 +9,8 @@ use Rattle.sv_pipes.specs.Talk.Mark.{Byte, Sent}
 use Rattle.sv_pipes.specs.Talk.Phrase.{Ready, Event, Result}
 use Rattle.sv_pipes.specs.TalkPlaces.{Stands, Told, goes, state_of}
 use Rattle.sv_pipes.specs.TalkCut.{after_event, after_mark, after_marks, told_of, talk_tokens, talk_state, IsAttended}
-use Rattle.sv_pipes.specs.declared.talk.Place.{Place}
-use Rattle.sv_pipes.specs.declared.talk.Place.TheVariants as place
+use Rattle.sv_pipes.specs.declared.talk.TalkProgress.{TalkProgress}
+use Rattle.sv_pipes.specs.declared.talk.TalkProgress.TheVariants as place
 use Rattle.sv_pipes.specs.declared.tokens.TalkState.{TalkState}
 use Rattle.sv_pipes.specs.declared.tokens.TalkState.TheVariants as state
 use Rattle.sv_pipes.specs.declared.tokens.Token.{Token}
@@ -30,7 +30,7 @@ IsTold talk told = Stands told.place told.held talk told.tokens
 pub told_cut : (talk : List Mark) (told : Told) → IsTold talk told → IsCut talk told.tokens (state_of told.place)
 told_cut talk told stands = stands_cut told.place told.held talk told.tokens stands
 
-idle_only : (at : Place) → state_of at ≡ state.Ready → at ≡ place.Idle
+idle_only : (at : TalkProgress) → state_of at ≡ state.Ready → at ≡ place.Idle
 idle_only (place.Greeting count) is = absurd (cc)
 idle_only place.Idle is = refl
 idle_only (place.Word count) is = absurd (cc)
@@ -45,7 +45,7 @@ byte_told talk told byte stands = step_stands told.place byte told.held told.tok
 event_told : (talk : List Mark) (told : Told) → IsTold talk told → state_of told.place ≡ state.Ready
     → IsTold (talk ++ Sent ∷ []) (after_mark told Sent)
 event_told talk told stands ready =
-    subst (λ (at : Place). Stands (after_event at) told.held (talk ++ Sent ∷ []) told.tokens) (sym (idle_only told.place ready))
+    subst (λ (at : TalkProgress). Stands (after_event at) told.held (talk ++ Sent ∷ []) told.tokens) (sym (idle_only told.place ready))
     (sent_stands told.place told.held talk told.tokens ready stands)
 
 pub said_told : (bytes : List ℕ) (talk : List Mark) (told : Told) → IsTold talk told → IsTold (talk ++ said bytes) (after_marks told (said bytes))
@@ -138,7 +138,7 @@ lost_told (Sent ∷ marks) talk held tokens lost =
     subst (λ (all : List Mark). IsTold all (after_marks (goes place.Lost held tokens) marks)) (append_assoc talk (Sent ∷ []) marks)
     (lost_told marks (talk ++ Sent ∷ []) held tokens (stays_lost talk tokens Sent lost))
 
-lost_from : (at : Place) (held : List ℕ) (tokens : List Token) (talk marks : List Mark) → Stands at held talk tokens → state_of at ≡ state.Unknown
+lost_from : (at : TalkProgress) (held : List ℕ) (tokens : List Token) (talk marks : List Mark) → Stands at held talk tokens → state_of at ≡ state.Unknown
     → IsTold (talk ++ marks) (after_marks (goes at held tokens) marks)
 lost_from (place.Greeting count) held tokens talk marks stands is = absurd (cc)
 lost_from place.Idle held tokens talk marks stands is = absurd (cc)
@@ -186,6 +186,6 @@ cut_of_talk talk tokens at cut =
     one_talk talk tokens (talk_tokens talk) at (talk_state talk) cut (told_cut talk (told_of talk) (cut_read talk tokens at cut))
 
 -- a value that stands for a talk gave the tokens of its functions
-pub stands_read : (at : Place) (held : List ℕ) (talk : List Mark) (tokens : List Token) → Stands at held talk tokens
+pub stands_read : (at : TalkProgress) (held : List ℕ) (talk : List Mark) (tokens : List Token) → Stands at held talk tokens
     → (tokens ≡ talk_tokens talk) × (state_of at ≡ talk_state talk)
 stands_read at held talk tokens stands = cut_of_talk talk tokens (state_of at) (stands_cut at held talk tokens stands)

@@ -2,7 +2,7 @@
 use Rattle.std.proofs.Common.{◌≡◌, ◌+◌, ◌<◌, ℕ, List, ◌++◌, ◌∷◌, length, take, refl, ap, sym, ◌∙◌, subst, arith, length-append}
 use Rattle.sv_pipes.proofs.Awaited.{length_take}
 use Rattle.sv_pipes.proofs.OneStream.{one_cut}
-use Rattle.sv_pipes.proofs.OneTalk.{one_talk, one_rest, stands_cut}
+use Rattle.sv_pipes.proofs.OneTalk.{one_talk, one_rest}
 use Rattle.sv_pipes.proofs.StreamReading.{stream_cut}
 use Rattle.sv_pipes.proofs.TalkReading.{cut_read}
 use Rattle.sv_pipes.specs.CaptureCut.{Decided, awaited, begin_token, end_token}
@@ -13,8 +13,8 @@ use Rattle.sv_pipes.specs.TalkCut.{told_of, undecided_of}
 use Rattle.sv_pipes.specs.TalkPlaces.{Stands, ready_line, result_word, state_of, undecided_at}
 use Rattle.sv_pipes.specs.declared.parts.Side.{Side}
 use Rattle.sv_pipes.specs.declared.parts.Side.TheVariants.{Outside, Inside}
-use Rattle.sv_pipes.specs.declared.talk.Place.{Place}
-use Rattle.sv_pipes.specs.declared.talk.Place.TheVariants as place
+use Rattle.sv_pipes.specs.declared.talk.TalkProgress.{TalkProgress}
+use Rattle.sv_pipes.specs.declared.talk.TalkProgress.TheVariants as place
 use Rattle.sv_pipes.specs.declared.tokens.TalkState.{TalkState}
 use Rattle.sv_pipes.specs.declared.tokens.TalkState.TheVariants as state
 use Rattle.sv_pipes.specs.declared.tokens.Token.{Token}
@@ -44,7 +44,7 @@ one_number talk tokens others at also count number one two =
     same_number talk tokens others at count number one (subst (λ (s : TalkState). IsUndecided talk others s number) (sym same.1) two)
 
 -- a reader in a place was told a talk of which so many bytes aren't decided
-pub stands_undecided : (at : Place) (held : List ℕ) (talk : List Mark) (tokens : List Token) → Stands at held talk tokens
+pub stands_undecided : (at : TalkProgress) (held : List ℕ) (talk : List Mark) (tokens : List Token) → Stands at held talk tokens
     → IsUndecided talk tokens (state_of at) (undecided_at at held)
 stands_undecided (place.Greeting count) held talk tokens stands =
     let size = length_take ready_line count (omega (arith, stands.2.1)) in
@@ -70,7 +70,7 @@ number_is talk tokens at count is =
     one_number talk tokens told.tokens at (state_of told.place) count (undecided_at told.place told.held) is
     (stands_undecided told.place told.held talk told.tokens (cut_read talk tokens at (undecided_cut talk tokens at count is)))
 
-pub stands_number : (at : Place) (held : List ℕ) (talk : List Mark) (tokens : List Token) → Stands at held talk tokens
+pub stands_number : (at : TalkProgress) (held : List ℕ) (talk : List Mark) (tokens : List Token) → Stands at held talk tokens
     → undecided_at at held ≡ undecided_of talk
 stands_number at held talk tokens stands =
     number_is talk tokens (state_of at) (undecided_at at held) (stands_undecided at held talk tokens stands)

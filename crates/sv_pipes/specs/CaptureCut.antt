@@ -1,5 +1,6 @@
--- The cut of a captured stream (the manual's chapter on events, "PROCESS_COMMUNICATION"): at each BEGIN outside and at
--- each END inside. Bytes outside are for the log, and bytes inside make a message.
+-- The cut of a captured stream (the manual's chapter on events, "PROCESS_COMMUNICATION"): at each
+-- BEGIN outside and at each END inside. Bytes outside are for the log, and bytes inside make a
+-- message.
 use Rattle.std.specs.Prelude.{◌≡◌, ◌≢◌, ◌≤◌, ◌-◌, ℕ, List, [], ◌∷◌, ◌++◌, length, drop, map, codes}
 use Rattle.std.specs.List.{flat_map}
 use Rattle.sv_pipes.specs.declared.parts.Part.{Part}
@@ -61,7 +62,8 @@ Leads from stretch to = ⊥
 -- stretches one after the other lead from one side to the other
 abbrev pub Lead : Side → List Stretch → Side → Type 0
 Lead from [] to = from ≡ to
-Lead from (stretch ∷ stretches) to = (next : Side) × Leads from stretch next × Lead next stretches to
+Lead from (stretch ∷ stretches) to =
+    (next : Side) × Leads from stretch next × Lead next stretches to
 
 -- no longer tail of these bytes is a proper prefix of the token
 abbrev pub IsLongest : List ℕ → List ℕ → List ℕ → Type 0
@@ -74,8 +76,8 @@ abbrev pub decided_open : Side → List ℕ → List Decided
 decided_open Outside shown = map Byte shown
 decided_open Inside shown = []
 
--- a stream and what is decided of it: whole stretches, then what is shown of the last one, which has no token, and
--- after that its longest tail that may begin one
+-- a stream and what is decided of it: whole stretches, then what is shown of the last one, which
+-- has no token, and after that its longest tail that may begin one
 pub record IsCut (limit : ℕ) (stream : List ℕ) (decided : List Decided) (side : Side)
     (shown held : List ℕ) : Type 0 where
   pub stretches : List Stretch

@@ -1,11 +1,14 @@
--- What is kept of a message, of whose bytes only the last ones count, and the part that bytes outside make.
-use Rattle.std.specs.Prelude.{ℕ, List, [], ◌∷◌, ◌++◌, ◌==◌, Bool, length, drop, nat_lt, not, if◌then◌else◌}
+-- What is kept of a message, of whose bytes only the last ones count, and the part that bytes
+-- outside make.
+use Rattle.std.specs.Prelude.{ℕ, List, [], ◌∷◌, ◌++◌, ◌==◌, Bool, length, drop, nat_lt, not}
+use Rattle.std.specs.Prelude.{if◌then◌else◌}
+use Rattle.sv_base.specs.Ascii.{less_sign}
 use Rattle.sv_pipes.specs.declared.parts.Part.{Part}
 use Rattle.sv_pipes.specs.declared.parts.Part.TheVariants.{Logged}
 
 -- a byte with which no token begins
 abbrev pub is_plain : ℕ → Bool
-is_plain byte = not (byte == 60)
+is_plain byte = not (byte == less_sign)
 
 -- a further byte of a message
 abbrev pub kept : ℕ → List ℕ → ℕ → List ℕ

@@ -1,5 +1,7 @@
--- The cut of a whole captured stream, as a function: up to the first awaited token, and then what follows it.
-use Rattle.std.specs.Prelude.{◌==◌, ◌+◌, ◌++◌, ◌∷◌, ℕ, zero, suc, List, [], length, Option, None, Some, option_map, if◌then◌else◌}
+-- The cut of a whole captured stream, as a function: up to the first awaited token, and then what
+-- follows it.
+use Rattle.std.specs.Prelude.{◌==◌, ◌+◌, ◌++◌, ◌∷◌, ℕ, zero, suc, List, [], length, Option, None}
+use Rattle.std.specs.Prelude.{Some, option_map, if◌then◌else◌}
 use Rattle.sv_pipes.specs.CaptureCut.{Decided, Stretch, awaited, decided_by, decided_open, last_of}
 use Rattle.sv_pipes.specs.CaptureCut.Stretch.{Plain, Captured}
 use Rattle.sv_pipes.specs.declared.parts.Side.{Side}
@@ -19,9 +21,11 @@ split_here byte None later = option_map (λ parts. (byte ∷ parts.0, parts.1)) 
 -- the first such token anywhere in the bytes
 abbrev pub split_at : List ℕ → List ℕ → Option (List ℕ × List ℕ)
 split_at token [] = None
-split_at token (byte ∷ bytes) = split_here byte (rest_after token (byte ∷ bytes)) (split_at token bytes)
+split_at token (byte ∷ bytes) =
+    split_here byte (rest_after token (byte ∷ bytes)) (split_at token bytes)
 
--- of bytes without such a token, what is shown, and after it the longest tail that begins one, by whether one begins here
+-- of bytes without such a token, what is shown, and after it the longest tail that begins one, by
+-- whether one begins here
 abbrev pub held_here : ℕ → List ℕ → Option (List ℕ) → List ℕ × List ℕ → List ℕ × List ℕ
 held_here byte bytes (Some (next ∷ left)) later = ([], byte ∷ bytes)
 held_here byte bytes begun later = (byte ∷ later.0, later.1)
@@ -29,7 +33,8 @@ held_here byte bytes begun later = (byte ∷ later.0, later.1)
 -- what is shown and what is held of all bytes
 abbrev pub open_at : List ℕ → List ℕ → List ℕ × List ℕ
 open_at token [] = ([], [])
-open_at token (byte ∷ bytes) = held_here byte bytes (rest_after (byte ∷ bytes) token) (open_at token bytes)
+open_at token (byte ∷ bytes) =
+    held_here byte bytes (rest_after (byte ∷ bytes) token) (open_at token bytes)
 
 -- these bytes as a stretch of a side
 abbrev pub stretch_on : Side → List ℕ → Stretch
@@ -41,7 +46,8 @@ abbrev pub side_after : Side → Side
 side_after Outside = Inside
 side_after Inside = Outside
 
--- a cut: what is decided, the side on which the stream ends, and there what is shown and what is held
+-- a cut: what is decided, the side on which the stream ends, and there what is shown and what is
+-- held
 pub record Cut : Type 0 where
   pub decided : List Decided
   pub side : Side
@@ -73,7 +79,8 @@ cut_at (suc most) limit side bytes =
 unfoldable pub cut_of : ℕ → List ℕ → Cut
 cut_of limit stream = cut_at (length stream) limit Outside stream
 
--- how many bytes on a side aren't decided: the held tail, and inside the last ones shown, as many as a message has
+-- how many bytes on a side aren't decided: the held tail, and inside the last ones shown, as many
+-- as a message has
 abbrev pub undecided_on : ℕ → Side → List ℕ → List ℕ → ℕ
 undecided_on limit Outside shown held = length held
 undecided_on limit Inside shown held = length (last_of limit shown) + length held

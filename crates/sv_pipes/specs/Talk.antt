@@ -1,8 +1,12 @@
--- The talk of an event listener (the manual's chapter on events, "Event Listener States"): the bytes that it says,
--- with a mark where an event was sent to it, and the cut of that talk into what it says.
-use Rattle.std.specs.Prelude.{◌≡◌, ◌≢◌, ◌≤◌, ◌+◌, ◌-◌, ◌*◌, ◌⊎◌, ⊤, ℕ, List, [], ◌∷◌, ◌++◌, length, map, codes, true}
+-- The talk of an event listener (the manual's chapter on events, "Event Listener States"): the
+-- bytes that it says, with a mark where an event was sent to it, and the cut of that talk into what
+-- it says.
+use Rattle.std.specs.Prelude.{◌≡◌, ◌≢◌, ◌≤◌, ◌⊎◌, ⊤, ℕ, List, [], ◌∷◌, ◌++◌, length}
+use Rattle.std.specs.Prelude.{map, codes, true}
 use Rattle.std.specs.List.{flat_map, list_all}
 use Rattle.std.specs.Char.{is_ascii_digit}
+use Rattle.sv_base.specs.Ascii.{line_feed}
+use Rattle.sv_base.specs.SizeText.{number_of}
 use Rattle.sv_pipes.specs.declared.tokens.TalkState.{TalkState}
 use Rattle.sv_pipes.specs.declared.tokens.TalkState.TheVariants as state
 use Rattle.sv_pipes.specs.declared.tokens.Token.{Token}
@@ -23,11 +27,6 @@ pub data Phrase : Type 0 where
   Event : Phrase
   Result : (digits body : List ℕ) → Phrase
 
--- the number that these digits write after a number
-abbrev pub number_of : ℕ → List ℕ → ℕ
-number_of number [] = number
-number_of number (digit ∷ digits) = number_of (10 * number + (digit - 48)) digits
-
 -- the most bytes of a result
 abbrev pub result_limit : ℕ
 result_limit = 1048576
@@ -42,7 +41,7 @@ pub record IsLength (digits : List ℕ) (number : ℕ) : Type 0 where
 
 -- how a result is said: its length, a line feed and its bytes
 abbrev pub result_text : List ℕ → List ℕ → List ℕ
-result_text digits body = codes "RESULT " ++ digits ++ 10 ∷ body
+result_text digits body = codes "RESULT " ++ digits ++ line_feed ∷ body
 
 -- how each part stands in the talk
 abbrev pub spelled : Phrase → List Mark
@@ -64,7 +63,8 @@ Leads from phrase to = ⊥
 -- the parts lead from one state to another
 abbrev pub IsRound : TalkState → List Phrase → TalkState → Type 0
 IsRound from [] to = from ≡ to
-IsRound from (phrase ∷ phrases) to = (next : TalkState) × Leads from phrase next × IsRound next phrases to
+IsRound from (phrase ∷ phrases) to =
+    (next : TalkState) × Leads from phrase next × IsRound next phrases to
 
 -- the bytes that a listener may say next, as a whole
 abbrev pub IsSaid : TalkState → List ℕ → Type 0
@@ -114,10 +114,12 @@ pub record IsLost (talk : List Mark) (tokens : List Token) : Type 0 where
   pub outside : IsOutside to rest byte
   pub tokens_are : tokens ≡ tokens_of phrases ++ token.Wrong ∷ []
 
--- the cut of a whole talk and how many of its bytes aren't decided yet: those of the rest, and none where it is lost
+-- the cut of a whole talk and how many of its bytes aren't decided yet: those of the rest, and none
+-- where it is lost
 abbrev pub IsUndecided : List Mark → List Token → TalkState → ℕ → Type 0
 IsUndecided talk tokens state.Unknown count = IsLost talk tokens × (count ≡ 0)
-IsUndecided talk tokens to count = (rest : List ℕ) × GoesOn talk tokens to rest × (count ≡ length rest)
+IsUndecided talk tokens to count =
+    (rest : List ℕ) × GoesOn talk tokens to rest × (count ≡ length rest)
 
 -- the cut of a whole talk: its tokens, and the state in which it leaves the listener
 abbrev pub IsCut : List Mark → List Token → TalkState → Type 0

@@ -46,7 +46,8 @@ HasUndecided value count =
 -- so many bytes of the whole talk aren't decided yet
 abbrev pub Holds : ListenerTalk → ℕ → Type 0
 Holds value count =
-    (talk : List Mark) (tokens : List Token) → StandsFor value talk tokens → count ≡ undecided_of talk
+    (talk : List Mark) (tokens : List Token) → StandsFor value talk tokens
+    → count ≡ undecided_of talk
 
 -- there is no talk that the value stands for
 abbrev pub StandsForNone : ListenerTalk → Type 0

@@ -1,16 +1,17 @@
--- The cut of a whole talk, as a function: it is read mark by mark, from a listener that said nothing.
+-- The cut of a whole talk, as a function: it is read mark by mark, from a listener that said
+-- nothing.
 use Rattle.std.specs.Prelude.{◌≡◌, ◌++◌, ◌∷◌, ℕ, List, []}
 use Rattle.sv_pipes.specs.Talk.{Mark}
 use Rattle.sv_pipes.specs.Talk.Mark.{Byte, Sent}
 use Rattle.sv_pipes.specs.TalkPlaces.{Told, goes, state_of, step, undecided_at}
-use Rattle.sv_pipes.specs.declared.talk.Place.{Place}
-use Rattle.sv_pipes.specs.declared.talk.Place.TheVariants as place
+use Rattle.sv_pipes.specs.declared.talk.TalkProgress.{TalkProgress}
+use Rattle.sv_pipes.specs.declared.talk.TalkProgress.TheVariants as place
 use Rattle.sv_pipes.specs.declared.tokens.TalkState.{TalkState}
 use Rattle.sv_pipes.specs.declared.tokens.TalkState.TheVariants as state
 use Rattle.sv_pipes.specs.declared.tokens.Token.{Token}
 
 -- an event is sent to a listener that waits for one, and elsewhere it changes nothing
-abbrev pub after_event : Place → Place
+abbrev pub after_event : TalkProgress → TalkProgress
 after_event place.Idle = place.Word 0
 after_event at = at
 
@@ -42,4 +43,5 @@ undecided_of talk = undecided_at (told_of talk).place (told_of talk).held
 
 -- events were sent where the listener waited for one
 abbrev pub IsAttended : List Mark → Type 0
-IsAttended talk = (front back : List Mark) → talk ≡ front ++ Sent ∷ back → talk_state front ≡ state.Ready
+IsAttended talk =
+    (front back : List Mark) → talk ≡ front ++ Sent ∷ back → talk_state front ≡ state.Ready

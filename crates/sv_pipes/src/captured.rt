@@ -1,7 +1,8 @@
 //! A captured stream: its bytes for the log, and the messages between its marks.
 
 ghost use Rattle.std.specs.List.{list_all};
-ghost use Rattle.std.specs.Prelude.{◌≡◌, ◌<◌, ◌≤◌, ◌++◌, ◌∷◌, [], List, ℕ, ◌+◌, length, take, true, IfOk, IsOkAnd, OnOk, OnErr, IsErr};
+ghost use Rattle.std.specs.Prelude.{◌≡◌, ◌<◌, ◌≤◌, ◌++◌, ◌∷◌, [], List, ℕ, ◌+◌, length, take, true};
+ghost use Rattle.std.specs.Prelude.{IfOk, IsOkAnd, OnOk, OnErr, IsErr};
 ghost use Rattle.sv_pipes.specs.Kept.{all_kept, is_plain, logged_part};
 ghost use Rattle.sv_pipes.specs.CaptureCut.{last_of};
 
@@ -37,8 +38,10 @@ pub struct Capture {
 }
 
 impl Capture {
-    ghost use Rattle.sv_pipes.specs.CaptureCalls.{Feeds, Tells, Closes, TellsEnd, Holds, StandsForNone};
-    ghost use Rattle.sv_pipes.specs.CapturePlaces.{StandsFor, IsBroken, shown, step, steps, step_outside, step_inside, held_outside};
+    ghost use Rattle.sv_pipes.specs.CaptureCalls.{Feeds, Tells, Closes, TellsEnd, Holds};
+    ghost use Rattle.sv_pipes.specs.CaptureCalls.{StandsForNone};
+    ghost use Rattle.sv_pipes.specs.CapturePlaces.{StandsFor, IsBroken, limit_of, shown, step};
+    ghost use Rattle.sv_pipes.specs.CapturePlaces.{steps, step_outside, step_inside, held_outside};
     ghost use Rattle.sv_pipes.specs.declared.parts.Part.{Part};
 
     /// A capture of a stream that has no bytes yet, whose messages have at most so many bytes. It takes no memory, so
@@ -105,7 +108,7 @@ impl Capture {
     pub fn held(&self) -> u64
         ensures read { Holds self.now result }
         ensures refused { IsBroken self.now → result ≡ 0 }
-        ensures bound { result ≤ self.now.limit + 23 }
+        ensures bound { result ≤ limit_of self.now + 23 }
     {
         if self.broken {
             return 0;
@@ -222,7 +225,7 @@ impl Capture {
         ensures broken { self.new.broken ≡ self.old.broken }
     {
         if is_next(BEGIN, self.matched, byte) {
-            if self.matched == 23 {
+            if self.matched == BEGIN.len() - 1 {
                 flush(alloc, parts, logged)?;
                 self.side = Side::Inside;
                 self.matched = 0;
@@ -250,7 +253,7 @@ impl Capture {
         ensures broken { self.new.broken ≡ self.old.broken }
     {
         if is_next(END, self.matched, byte) {
-            if self.matched == 21 {
+            if self.matched == END.len() - 1 {
                 let body = mem::replace(&mut self.body, VecDeque::new(alloc));
                 parts.push(Part::Message(Bytes::from_vec(body.into_vec())))?;
                 self.side = Side::Outside;

@@ -1,6 +1,7 @@
 //! The talk of an event listener: what it says on its standard output, and the events that were sent to it.
 
-ghost use Rattle.std.specs.Prelude.{◌≡◌, ◌↔◌, ◌+◌, ◌<◌, ◌≤◌, ◌++◌, ◌∷◌, [], List, length, IfOk, OnOk, OnErr, IsTrue, IsErr};
+ghost use Rattle.std.specs.Prelude.{◌≡◌, ◌↔◌, ◌+◌, ◌<◌, ◌≤◌, ◌++◌, ◌∷◌, [], List, length, IfOk};
+ghost use Rattle.std.specs.Prelude.{OnOk, OnErr, IsTrue, IsErr};
 ghost use Rattle.sv_pipes.specs.PlaceBounds.{digits_in, length_in, room_in, word_in};
 
 use crate::tokens::{TalkState, Token};
@@ -8,6 +9,12 @@ use crate::word::is_next;
 use std::alloc::{AllocError, Global};
 use std::mem;
 use sv_base::bytes::Bytes;
+
+/// What a listener says when it waits for an event.
+const READY: &[u8] = b"READY\n";
+
+/// How a listener begins its answer to an event.
+const RESULT: &[u8] = b"RESULT ";
 
 /// The most bytes of a result.
 const RESULT_LIMIT: u64 = 1_048_576;
@@ -17,7 +24,7 @@ const MOST_DIGITS: u8 = 7;
 
 /// How far a talk has come.
 #[derive(Clone, Copy, Debug)]
-enum Place {
+enum TalkProgress {
     /// So many bytes of `READY` and a line feed were said.
     Greeting { count: usize },
     /// An event is still to be sent.
@@ -37,7 +44,7 @@ enum Place {
 /// What a listener said so far, of which only the undecided bytes of a result are kept.
 #[derive(Debug, Drop)]
 pub struct ListenerTalk {
-    place: Place,
+    place: TalkProgress,
     /// The bytes of a result so far.
     held: Vec<u8>,
     ghost short_word: { word_in place ≤ 6 },
@@ -46,7 +53,7 @@ pub struct ListenerTalk {
     ghost open_result: { length held.items < room_in place },
 }
 
-impl Place {
+impl TalkProgress {
     ghost use Rattle.sv_pipes.specs.TalkPlaces.{undecided_at};
 
     /// How many undecided bytes were said, where these of a result are kept.
@@ -59,20 +66,23 @@ impl Place {
         ensures bound { result ≤ 1048591 }
     {
         match self {
-            Place::Greeting { count } => count as u64,
-            Place::Word { count } => count as u64,
-            Place::Length { count, number: _ } => 7 + u64::from(count),
-            Place::Body { count, number: _ } => 8 + u64::from(count) + held.len() as u64,
-            Place::Idle | Place::Lost | Place::Broken => 0,
+            TalkProgress::Greeting { count } => count as u64,
+            TalkProgress::Word { count } => count as u64,
+            TalkProgress::Length { count, number: _ } => 7 + u64::from(count),
+            TalkProgress::Body { count, number: _ } => 8 + u64::from(count) + held.len() as u64,
+            TalkProgress::Idle | TalkProgress::Lost | TalkProgress::Broken => 0,
         }
     }
 }
 
 impl ListenerTalk {
-    ghost use Rattle.sv_pipes.specs.TalkPlaces.{StandsFor, IsBroken, state_in, shown, goes, lost, step, steps};
-    ghost use Rattle.sv_pipes.specs.TalkPlaces.{after_greeting, after_word, after_digit, after_length, after_body};
-    ghost use Rattle.sv_pipes.specs.TalkCalls.{Feeds, Tells, Sends, HasCut, IsRead, HasUndecided, Holds, StandsForNone};
-    ghost use Rattle.sv_pipes.specs.declared.talk.Place.{Place};
+    ghost use Rattle.sv_pipes.specs.TalkPlaces.{StandsFor, IsBroken, state_in, shown, goes, lost};
+    ghost use Rattle.sv_pipes.specs.TalkPlaces.{step, steps};
+    ghost use Rattle.sv_pipes.specs.TalkPlaces.{after_greeting, after_word, after_digit};
+    ghost use Rattle.sv_pipes.specs.TalkPlaces.{after_length, after_body};
+    ghost use Rattle.sv_pipes.specs.TalkCalls.{Feeds, Tells, Sends, HasCut, IsRead, HasUndecided};
+    ghost use Rattle.sv_pipes.specs.TalkCalls.{Holds, StandsForNone};
+    ghost use Rattle.sv_pipes.specs.declared.talk.TalkProgress.{TalkProgress};
     ghost use Rattle.sv_pipes.specs.declared.tokens.TalkState.{TalkState};
 
     /// The talk of a listener that said nothing yet. It takes no memory.
@@ -80,7 +90,7 @@ impl ListenerTalk {
         ensures { StandsFor result [] [] }
     {
         ListenerTalk {
-            place: Place::Greeting { count: 0 },
+            place: TalkProgress::Greeting { count: 0 },
             held: Vec::new(alloc),
         }
     }
@@ -92,19 +102,19 @@ impl ListenerTalk {
         ensures read { IsRead self.now result }
     {
         match self.place {
-            Place::Greeting { count: _ } => TalkState::Acknowledged,
-            Place::Idle => TalkState::Ready,
-            Place::Word { count: _ } => TalkState::Busy,
-            Place::Length {
+            TalkProgress::Greeting { count: _ } => TalkState::Acknowledged,
+            TalkProgress::Idle => TalkState::Ready,
+            TalkProgress::Word { count: _ } => TalkState::Busy,
+            TalkProgress::Length {
                 count: _,
                 number: _,
             } => TalkState::Busy,
-            Place::Body {
+            TalkProgress::Body {
                 count: _,
                 number: _,
             } => TalkState::Busy,
-            Place::Lost => TalkState::Unknown,
-            Place::Broken => TalkState::Unknown,
+            TalkProgress::Lost => TalkState::Unknown,
+            TalkProgress::Broken => TalkState::Unknown,
         }
     }
 
@@ -124,7 +134,7 @@ impl ListenerTalk {
         requires { state_in self.old ≡ TalkState.Ready }
         ensures { Sends self.old self.new }
     {
-        self.place = Place::Word { count: 0 };
+        self.place = TalkProgress::Word { count: 0 };
     }
 
     /// Takes the next bytes of the listener's standard output and gives the tokens that they end.
@@ -145,7 +155,7 @@ impl ListenerTalk {
             Ok(()) => Ok(tokens),
             Err(refusal) => {
                 self.held = Vec::new(alloc);
-                self.place = Place::Broken;
+                self.place = TalkProgress::Broken;
                 Err(refusal)
             }
         }
@@ -155,7 +165,7 @@ impl ListenerTalk {
         ensures { IsTrue result ↔ IsBroken self.now }
     {
         match self.place {
-            Place::Broken => true,
+            TalkProgress::Broken => true,
             _ => false,
         }
     }
@@ -171,7 +181,7 @@ impl ListenerTalk {
     {
         let mut rest = piece;
         while let [byte, more @ ..] = rest {
-            if let Place::Body { count, number } = self.place {
+            if let TalkProgress::Body { count, number } = self.place {
                 let missing = number as usize - self.held.len();
                 let (bytes, behind) = rest.split_at(missing.min(rest.len()));
                 self.body(alloc, bytes, count, number, tokens)?;
@@ -189,25 +199,31 @@ impl ListenerTalk {
             ≡ step self.old.place byte self.old.held.items tokens.old.items) }
     {
         match self.place {
-            Place::Greeting { count } => self.greeting(byte, count, tokens),
-            Place::Idle => self.lose(tokens),
-            Place::Word { count } => self.word(byte, count, tokens),
-            Place::Length { count, number } if byte.is_ascii_digit() => {
+            TalkProgress::Greeting { count } => self.greeting(byte, count, tokens),
+            TalkProgress::Idle => self.lose(tokens),
+            TalkProgress::Word { count } => self.word(byte, count, tokens),
+            TalkProgress::Length { count, number } if byte.is_ascii_digit() => {
                 self.digit(
                     count,
                     u64::from(number) * 10 + u64::from(byte - b'0'),
                     tokens,
                 )
             }
-            Place::Length { count, number } if byte == b'\n' => self.length(
+            TalkProgress::Length { count, number } if byte == b'\n' => self.length(
                 alloc, count, number, tokens,
             ),
-            Place::Length {
+            TalkProgress::Length {
                 count: _,
                 number: _,
             } => self.lose(tokens),
-            Place::Body { count, number } => self.body(alloc, &[byte], count, number, tokens),
-            Place::Lost | Place::Broken => Ok(()),
+            TalkProgress::Body { count, number } => self.body(
+                alloc,
+                &[byte],
+                count,
+                number,
+                tokens,
+            ),
+            TalkProgress::Lost | TalkProgress::Broken => Ok(()),
         }
     }
 
@@ -221,14 +237,14 @@ impl ListenerTalk {
         ensures { OnOk result (shown self.new tokens.new.items
             ≡ after_greeting count byte self.old.held.items tokens.old.items) }
     {
-        if !is_next(b"READY\n", count, byte) {
+        if !is_next(READY, count, byte) {
             return self.lose(tokens);
         }
-        if count == 5 {
+        if count == READY.len() - 1 {
             tokens.push(Token::Ready)?;
-            self.place = Place::Idle;
+            self.place = TalkProgress::Idle;
         } else {
-            self.place = Place::Greeting { count: count + 1 };
+            self.place = TalkProgress::Greeting { count: count + 1 };
         }
         Ok(())
     }
@@ -238,16 +254,16 @@ impl ListenerTalk {
         ensures { OnOk result (shown self.new tokens.new.items
             ≡ after_word count byte self.old.held.items tokens.old.items) }
     {
-        if !is_next(b"RESULT ", count, byte) {
+        if !is_next(RESULT, count, byte) {
             return self.lose(tokens);
         }
-        if count == 6 {
-            self.place = Place::Length {
+        if count == RESULT.len() - 1 {
+            self.place = TalkProgress::Length {
                 count: 0,
                 number: 0,
             };
         } else {
-            self.place = Place::Word { count: count + 1 };
+            self.place = TalkProgress::Word { count: count + 1 };
         }
         Ok(())
     }
@@ -258,7 +274,7 @@ impl ListenerTalk {
             ≡ after_digit count number self.old.held.items tokens.old.items) }
     {
         if count < MOST_DIGITS && number <= RESULT_LIMIT {
-            self.place = Place::Length {
+            self.place = TalkProgress::Length {
                 count: count + 1,
                 number: number as u32,
             };
@@ -286,9 +302,9 @@ impl ListenerTalk {
         }
         if number == 0 {
             tokens.push(Token::Result(Bytes::from_vec(Vec::new(alloc))))?;
-            self.place = Place::Greeting { count: 0 };
+            self.place = TalkProgress::Greeting { count: 0 };
         } else {
-            self.place = Place::Body { count, number };
+            self.place = TalkProgress::Body { count, number };
         }
         Ok(())
     }
@@ -302,7 +318,7 @@ impl ListenerTalk {
         number: u32,
         tokens: &mut Vec<Token>,
     ) -> Result<(), AllocError>
-        requires place { self.old.place ≡ Place.Body count number }
+        requires place { self.old.place ≡ TalkProgress.Body count number }
         requires within { length self.old.held.items + length bytes.now ≤ number }
         ensures { OnOk result (shown self.new tokens.new.items
             ≡ after_body count number (self.old.held.items ++ bytes.now) tokens.old.items) }
@@ -313,7 +329,7 @@ impl ListenerTalk {
             let mut body = mem::replace(&mut self.held, Vec::new(alloc));
             body.extend_from_slice(bytes)?;
             tokens.push(Token::Result(Bytes::from_vec(body)))?;
-            self.place = Place::Greeting { count: 0 };
+            self.place = TalkProgress::Greeting { count: 0 };
         }
         Ok(())
     }
@@ -324,7 +340,7 @@ impl ListenerTalk {
             ≡ lost self.old.held.items tokens.old.items) }
     {
         tokens.push(Token::Wrong)?;
-        self.place = Place::Lost;
+        self.place = TalkProgress::Lost;
         Ok(())
     }
 }

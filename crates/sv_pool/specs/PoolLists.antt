@@ -1,5 +1,8 @@
--- An event pool (the manual's chapter on events, "event listener notifications") as lists of all the events that it took.
-use Rattle.std.specs.Prelude.{◌≡◌, ℕ, ◌+◌, ◌^◌, ◌%◌, List, [], ◌∷◌, ◌++◌, length, take, drop, map, replicate, Bool, nat_lt, Option, None, slice_get, slice_set, slice_index_or, if◌then◌else◌}
+-- An event pool (the manual's chapter on events, "event listener notifications") as lists of all
+-- the events that it took.
+use Rattle.std.specs.Prelude.{◌≡◌, ℕ, ◌+◌, ◌^◌, ◌%◌, List, [], ◌∷◌, ◌++◌, length, take, drop, map}
+use Rattle.std.specs.Prelude.{replicate, Bool, nat_lt, Option, None, slice_get, slice_set}
+use Rattle.std.specs.Prelude.{slice_index_or, if◌then◌else◌}
 use Rattle.std.specs.List.{flat_map}
 use Rattle.std.specs.Option.{option_map, option_to_list}
 use Rattle.sv_events.specs.declared.event.Event.{Event}
@@ -38,7 +41,8 @@ has_room lists = nat_lt (length lists.waiting) lists.buffer
 abbrev pub make_room : Lists → Lists
 make_room lists =
     if has_room lists then lists
-    else record lists { waiting = drop 1 lists.waiting; dropped = lists.dropped ++ take 1 lists.waiting }
+    else record lists
+    { waiting = drop 1 lists.waiting; dropped = lists.dropped ++ take 1 lists.waiting }
 
 -- what is reported of an event that is dropped
 abbrev pub report : Taken → Dropped
@@ -46,7 +50,8 @@ report taken = record { serial = taken.event.serial; poolserial = taken.poolseri
 
 -- the report of what is dropped to make room
 abbrev pub dropped_for_room : Lists → Option Dropped
-dropped_for_room lists = if has_room lists then None else option_map report (slice_get lists.waiting 0)
+dropped_for_room lists =
+    if has_room lists then None else option_map report (slice_get lists.waiting 0)
 
 -- the event gets the pool's next number, modulo 2^64, and waits after the others
 abbrev pub numbered : Event → ℕ → Taken
@@ -55,7 +60,11 @@ numbered event number = record { event = event; poolserial = number % 2 ^ 64 }
 -- an event is taken: it waits as the last
 abbrev pub accepted : Event → Lists → Lists
 accepted event lists =
-    record (make_room lists) { taken = lists.taken + 1; waiting = (make_room lists).waiting ++ numbered event lists.taken ∷ [] }
+    record (make_room lists) {
+      taken = lists.taken + 1;
+      waiting = (make_room lists).waiting ++ numbered event lists.taken
+          ∷ [];
+    }
 
 -- the event that a listener holds
 abbrev pub holding : ℕ → List (Option Taken) → Option Taken
@@ -64,7 +73,10 @@ holding listener held = slice_index_or held listener None
 -- the first event that waits goes to the listener
 abbrev pub took : ℕ → Lists → Lists
 took listener lists =
-    record lists { waiting = drop 1 lists.waiting; held = slice_set lists.held listener (slice_get lists.waiting 0) }
+    record lists {
+      waiting = drop 1 lists.waiting;
+      held = slice_set lists.held listener (slice_get lists.waiting 0);
+    }
 
 -- the listener is done with the event that it holds
 abbrev pub acknowledged : ℕ → Lists → Lists

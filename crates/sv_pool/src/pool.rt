@@ -1,8 +1,12 @@
 //! An event pool: the events that wait, and those that listeners hold.
-ghost use Rattle.std.specs.Prelude.{◌≡◌, ◌+◌, ◌<◌, ◌≤◌, [], ◌∷◌, ◌++◌, None, IfOk, OnOk, IsOk, IsSome, IsTrue, ◌↔◌, MatchOption, Some, length, replicate, slice_get, map, nat_lt, drop, if◌then◌else◌};
+ghost use Rattle.std.specs.Prelude.{◌≡◌, ◌+◌, ◌<◌, ◌≤◌, [], ◌∷◌, ◌++◌, None, IfOk, OnOk, IsOk};
+ghost use Rattle.std.specs.Prelude.{IsSome, IsTrue, ◌↔◌, MatchOption, Some, length, replicate};
+ghost use Rattle.std.specs.Prelude.{slice_get, map, nat_lt, drop, if◌then◌else◌};
 ghost use Rattle.std.specs.Option.{option_map};
 ghost use Rattle.sv_events.specs.declared.event.Event.{Event};
-ghost use Rattle.sv_pool.specs.PoolLists.{Lists, StandsFor, opened, report, dropped_for_room, accepted, holding, took, acknowledged, rejected, held_events, forgotten};
+ghost use Rattle.sv_pool.specs.PoolLists.{Lists, StandsFor, opened, report, dropped_for_room};
+ghost use Rattle.sv_pool.specs.PoolLists.{accepted, holding, took, acknowledged, rejected};
+ghost use Rattle.sv_pool.specs.PoolLists.{held_events, forgotten};
 
 use crate::taken::{Dropped, Taken};
 use circular_buffer::HeapCircularBuffer;
@@ -27,7 +31,8 @@ impl Model for Pool {
 
     ghost view = { λ p. record { buffer = p.waiting.capacity; next = p.next; waiting = p.waiting.items; held = p.held.items } };
 
-    ghost invariant = { λ p. (1 ≤ p.waiting.capacity) × (length p.waiting.items ≤ p.waiting.capacity) × (p.waiting.capacity + length p.held.items ≤ 4294967295) };
+    ghost invariant = { λ p. (1 ≤ p.waiting.capacity) × (length p.waiting.items ≤
+        p.waiting.capacity) × (p.waiting.capacity + length p.held.items ≤ 4294967295) };
 }
 
 impl Pool {

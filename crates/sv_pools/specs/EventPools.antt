@@ -5,8 +5,8 @@ use Rattle.sv_base.specs.declared.spec.GroupSpec.{GroupSpec}
 use Rattle.sv_base.specs.declared.spec.PoolSpec.{PoolSpec}
 use Rattle.sv_pool.specs.PoolLists.{Lists, opened}
 
--- a pool: the name of its group, the event types that it asks for, the place of its first listener in the start order,
--- where its listeners stand side by side, and its events
+-- a pool: the name of its group, the event types that it asks for, the place of its first listener
+-- in the start order, where its listeners stand side by side, and its events
 pub record EventPool : Type 0 where
   pub group : List ℕ
   pub kinds : List Kind

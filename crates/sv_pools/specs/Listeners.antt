@@ -1,6 +1,7 @@
--- What passes between a pool and one of its listeners, which is known by its place in the start order (the manual's
--- chapter on events, "event listener notification protocol").
-use Rattle.std.specs.Prelude.{ℕ, List, [], ◌-◌, Bool, ◌&&◌, is_some, nat_le, map, slice_get, if◌then◌else◌}
+-- What passes between a pool and one of its listeners, which is known by its place in the start
+-- order (the manual's chapter on events, "event listener notification protocol").
+use Rattle.std.specs.Prelude.{ℕ, List, [], ◌-◌, Bool, ◌&&◌, is_some, nat_le, map, slice_get}
+use Rattle.std.specs.Prelude.{if◌then◌else◌}
 use Rattle.std.specs.List.{flat_map, list_any}
 use Rattle.std.specs.Option.{option_map, option_to_list}
 use Rattle.sv_base.specs.declared.ids.Run.{Run}
@@ -31,15 +32,18 @@ may_get place p = nat_le p.first place && may_take (place - p.first) p.lists
 
 -- the event that waits first, as it is written to the run of a listener
 abbrev pub written : List ℕ → Run → List ℕ → Taken → Order
-written server run group taken = order.Stdin run (envelope_of server group taken.poolserial taken.event)
+written server run group taken =
+    order.Stdin run (envelope_of server group taken.poolserial taken.event)
 
 -- and so the pool's, if one waits
 abbrev pub front_written : List ℕ → Run → EventPool → List Order
-front_written server run p = option_to_list (option_map (written server run p.group) (slice_get p.lists.waiting 0))
+front_written server run p =
+    option_to_list (option_map (written server run p.group) (slice_get p.lists.waiting 0))
 
 -- the listener gets the event that waits first, if it may
 abbrev pub handed_by : ℕ → EventPool → EventPool
-handed_by place p = if may_get place p then record p { lists = took (place - p.first) p.lists } else p
+handed_by place p =
+    if may_get place p then record p { lists = took (place - p.first) p.lists } else p
 
 -- the order that goes with it
 abbrev pub orders_to : List ℕ → Run → ℕ → EventPool → List Order
@@ -68,7 +72,8 @@ acknowledges place ps = record ps { each = map (acknowledged_by place) ps.each }
 
 -- the event that it holds goes back to the front
 abbrev pub rejected_by : ℕ → EventPool → EventPool
-rejected_by place p = if is_holding place p then record p { lists = rejected (place - p.first) p.lists } else p
+rejected_by place p =
+    if is_holding place p then record p { lists = rejected (place - p.first) p.lists } else p
 
 -- what the pool reports
 abbrev pub reports_of_rejection : ℕ → EventPool → List Order

@@ -1,4 +1,5 @@
--- An event is offered to each pool, which takes it where it asks for it (the manual's chapter on events).
+-- An event is offered to each pool, which takes it where it asks for it (the manual's chapter on
+-- events).
 use Rattle.std.specs.Prelude.{ℕ, List, [], ◌+◌, ◌^◌, ◌%◌, Bool, map, if◌then◌else◌}
 use Rattle.std.specs.List.{flat_map, list_any}
 use Rattle.std.specs.Option.{option_map, option_to_list}

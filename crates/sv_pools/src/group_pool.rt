@@ -3,7 +3,8 @@ ghost use Rattle.std.specs.Prelude.{◌≡◌, ◌++◌, ◌-◌, ◌≤◌, IfO
 ghost use Rattle.std.specs.Option.{SomeIff, option_map, option_to_list};
 ghost use Rattle.sv_pools.specs.Covering.{ask_for, covers};
 ghost use Rattle.sv_pools.specs.EventPools.{EventPool};
-ghost use Rattle.sv_pools.specs.Listeners.{acknowledged_by, handed_by, has_waiting, is_holding, may_get, orders_to, rejected_by, reports_of_rejection};
+ghost use Rattle.sv_pools.specs.Listeners.{acknowledged_by, handed_by, has_waiting, is_holding};
+ghost use Rattle.sv_pools.specs.Listeners.{may_get, orders_to, rejected_by, reports_of_rejection};
 ghost use Rattle.sv_pools.specs.Offers.{drop_report, event_with, offered_to, reports_of_offer};
 ghost use Rattle.sv_pools.specs.StandsFor.{Keeps};
 

@@ -1,10 +1,16 @@
 //! All event pools of a daemon.
 ghost use Rattle.std.specs.Prelude.{◌≡◌, ◌++◌, ◌+◌, ◌≤◌, ◌||◌, IfOk, List, OnOk, length, map};
 ghost use Rattle.std.specs.List.{flat_map, list_any};
+ghost use Rattle.sv_base.specs.Limits.{process_limit};
 ghost use Rattle.sv_groups.specs.StartOrder.{processes};
-ghost use Rattle.sv_pools.specs.EventPools.{EventPool, EventPools, opened_for, opening, pool_of, pools_from};
-ghost use Rattle.sv_pools.specs.Listeners.{acknowledged_by, acknowledges, hand_orders, handed, handed_by, has_waiting, holds, is_handed, is_holding, may_get, orders_to, rejected_by, rejection_reports, rejects, reports_of_rejection, some_wait};
-ghost use Rattle.sv_pools.specs.Offers.{event_with, is_asked_for, offer_reports, offered, offered_to, reports_of_offer};
+ghost use Rattle.sv_pools.specs.EventPools.{EventPool, EventPools, opened_for, opening, pool_of};
+ghost use Rattle.sv_pools.specs.EventPools.{pools_from};
+ghost use Rattle.sv_pools.specs.Listeners.{acknowledged_by, acknowledges, hand_orders, handed};
+ghost use Rattle.sv_pools.specs.Listeners.{handed_by, has_waiting, holds, is_handed, is_holding};
+ghost use Rattle.sv_pools.specs.Listeners.{may_get, orders_to, rejected_by, rejection_reports};
+ghost use Rattle.sv_pools.specs.Listeners.{rejects, reports_of_rejection, some_wait};
+ghost use Rattle.sv_pools.specs.Offers.{event_with, is_asked_for, offer_reports, offered};
+ghost use Rattle.sv_pools.specs.Offers.{offered_to, reports_of_offer};
 ghost use Rattle.sv_pools.specs.StandsFor.{AreKept, Keeps, StandsFor};
 
 use crate::group_pool::GroupPool;
@@ -139,7 +145,7 @@ fn open_all(
     groups: &[GroupSpec],
     each: &mut Vec<GroupPool>,
 ) -> Result<(), AllocError>
-    requires { first + length (processes groups.now) ≤ 1024 }
+    requires { first + length (processes groups.now) ≤ process_limit }
     ensures { OnOk result ((ps : List EventPool) → AreKept each.old.items ps
         → AreKept each.new.items (ps ++ pools_from first groups.now)) }
 {
@@ -161,7 +167,7 @@ fn open(
     group: &GroupSpec,
     each: &mut Vec<GroupPool>,
 ) -> Result<(), AllocError>
-    requires { length group.now.members ≤ 1024 }
+    requires { length group.now.members ≤ process_limit }
     ensures { OnOk result ((ps : List EventPool) → AreKept each.old.items ps
         → AreKept each.new.items (ps ++ pool_of first group.now group.now.pool)) }
 {
@@ -182,7 +188,7 @@ fn opened_for(
     group: &GroupSpec,
     pool: &PoolSpec,
 ) -> Result<GroupPool, AllocError>
-    requires { length group.now.members ≤ 1024 }
+    requires { length group.now.members ≤ process_limit }
     ensures { IfOk result (λ x. Keeps x (opened_for first group.now pool.now)) }
 {
     let listeners = group.members.as_slice().len() as u32;

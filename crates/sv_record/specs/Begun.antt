@@ -13,7 +13,8 @@ begun Kept header = header
 begun Quiet header = []
 
 -- it was written whole, or a prefix of it where writing failed, or nothing where memory was refused
-abbrev pub Begins : JournalLines → List ℕ → Option (List ℕ) → Option (List ℕ) → Result (Unit {0}) HeaderFault → Type 0
+abbrev pub Begins : JournalLines → List ℕ → Option (List ℕ) → Option (List ℕ)
+    → Result (Unit {0}) HeaderFault → Type 0
 Begins lines header old new (Ok done) = Appends old new (begun lines header)
 Begins lines header old new (Err Unwritten) = AppendsFront old new (begun lines header)
 Begins lines header old new (Err OutOfMemory) = new ≡ old

@@ -1,15 +1,17 @@
 -- The long header that a daemon writes.
 use Rattle.std.specs.Prelude.{ℕ, List, [], ◌∷◌, ◌++◌, nat_lt, if◌then◌else◌}
 use Rattle.std.specs.List.{flat_map}
+use Rattle.sv_base.specs.Ascii.{line_feed}
 use Rattle.sv_base.specs.declared.config.Host.{Host}
 use Rattle.sv_journal.specs.JournalLine.{header_line}
 use Rattle.sv_journal.specs.declared.header.Header.{Header}
-use Rattle.sv_journal.specs.declared.header.Header.TheVariants.{Journal, Env, Size, Include, Conf, Go, Here, Pid}
+use Rattle.sv_journal.specs.declared.header.Header.TheVariants.{Journal, Env, Size, Include, Conf}
+use Rattle.sv_journal.specs.declared.header.Header.TheVariants.{Go, Here, Pid}
 use Rattle.sv_journal.specs.declared.header.Header.TheVariants as header_is
 
 -- a line with its line feed
 unfoldable pub line_text : Header → List ℕ
-line_text header = header_line header ++ 10 ∷ []
+line_text header = header_line header ++ line_feed ∷ []
 
 -- a variable of the environment
 abbrev pub env_text : List ℕ × List ℕ → List ℕ
@@ -23,7 +25,8 @@ size_text known = if nat_lt 0 known.1 then line_text (Size known.0 known.1) else
 abbrev pub include_text : List ℕ × List ℕ → List ℕ
 include_text included = line_text (Include included.0 included.1)
 
--- the whole header: its version, the host with its environment, the sizes, the configuration with its includes, and the start
+-- the whole header: its version, the host with its environment, the sizes, the configuration with
+-- its includes, and the start
 abbrev pub header_text : Host → List (List ℕ × ℕ) → List ℕ → List (List ℕ × List ℕ) → List ℕ
 header_text host sizes main included =
     line_text (Journal 1)

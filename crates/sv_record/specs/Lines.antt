@@ -1,5 +1,6 @@
 -- What a daemon's journal tells of inputs and orders.
 use Rattle.std.specs.Prelude.{[], ◌∷◌, ◌++◌, codes}
+use Rattle.sv_base.specs.Ascii.{line_feed}
 use Rattle.sv_daemon.specs.Journal.{Texts}
 use Rattle.sv_journal.specs.JournalLine.{input_line, order_line}
 use Rattle.sv_record.specs.declared.lines.JournalLines.{JournalLines}
@@ -8,8 +9,8 @@ use Rattle.sv_record.specs.declared.lines.JournalLines.TheVariants.{Kept, Quiet}
 -- each input has its line, and each order one after a mark
 abbrev pub journal_texts : Texts
 journal_texts = record {
-  of_input = λ input. input_line input ++ 10 ∷ [];
-  of_order = λ order. codes "> " ++ order_line order ++ 10 ∷ [];
+  of_input = λ input. input_line input ++ line_feed ∷ [];
+  of_order = λ order. codes "> " ++ order_line order ++ line_feed ∷ [];
 }
 
 -- nothing is told

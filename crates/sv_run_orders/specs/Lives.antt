@@ -1,5 +1,6 @@
 -- The runs whose processes live, and what orders and notes change of them.
-use Rattle.std.specs.Prelude.{◌≡◌, ◌==◌, ◌+◌, ◌-◌, ◌^◌, ◌++◌, ◌∷◌, ◌||◌, ℕ, Bool, List, [], Option, Some, length, min, nat_le, position, slice_get, slice_set}
+use Rattle.std.specs.Prelude.{◌≡◌, ◌==◌, ◌+◌, ◌-◌, ◌^◌, ◌++◌, ◌∷◌, ◌||◌, ℕ, Bool, List, [], Option}
+use Rattle.std.specs.Prelude.{Some, length, min, nat_le, position, slice_get, slice_set}
 use Rattle.sv_jobs.specs.declared.notes.StdinWord.TheVariants.{Write}
 use Rattle.sv_lane.specs.Ends.{IsSameSeat, posted}
 use Rattle.sv_run_orders.specs.declared.life.Life.{Life}
@@ -30,9 +31,10 @@ pub record Posts (bytes : List ℕ) (old new : Life) : Type 0 where
   pub closed : new.closed ≡ old.closed
 
 -- the life at one place changed so, and no other
-pub record ChangesAt (place : ℕ) (change : Life → Life → Type 0) (old new : List Life) : Type 0 where
-  pub before : Life
-  pub after : Life
-  pub here : slice_get old place ≡ Some before
-  pub others : new ≡ slice_set old place after
-  pub changed : change before after
+pub record ChangesAt (place : ℕ) (change : Life → Life → Type 0) (old new : List Life) : Type 0
+  where
+    pub before : Life
+    pub after : Life
+    pub here : slice_get old place ≡ Some before
+    pub others : new ≡ slice_set old place after
+    pub changed : change before after

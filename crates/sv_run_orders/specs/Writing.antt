@@ -12,9 +12,10 @@ pub record IsFullAt (place : ℕ) (lives : List Life) : Type 0 where
   pub here : slice_get lives place ≡ Some life
   pub full : is_full life ≡ true
 
--- by the place of the run: one piece is posted there; where it takes none the order fails; where memory was
--- refused, or where there is no such run, nothing changes
-abbrev pub WritesAt : {E : Type 0} → Option ℕ → List ℕ → List Life → List Life → Result Handed E → Type 0
+-- by the place of the run: one piece is posted there; where it takes none the order fails; where
+-- memory was refused, or where there is no such run, nothing changes
+abbrev pub WritesAt : {E : Type 0} → Option ℕ → List ℕ → List Life → List Life → Result Handed E
+    → Type 0
 WritesAt None bytes old new (Ok Done) = new ≡ old
 WritesAt None bytes old new (Ok Failed) = ⊥
 WritesAt None bytes old new (Err error) = ⊥

@@ -1,5 +1,6 @@
 -- The jobs of a run that a gate was handed.
-use Rattle.std.specs.Prelude.{◌≡◌, ◌<◌, ◌++◌, ◌∷◌, ℕ, Bool, true, false, List, [], Option, length, option_map, take}
+use Rattle.std.specs.Prelude.{◌≡◌, ◌<◌, ◌++◌, ◌∷◌, ℕ, Bool, true, false, List, [], Option, length}
+use Rattle.std.specs.Prelude.{option_map, take}
 use Rattle.sv_base.specs.declared.ids.Run.{Run}
 use Rattle.sv_base.specs.declared.state.Stream.TheVariants as streams
 use Rattle.sv_outside.specs.declared.jobs.JobWord.{JobWord}
@@ -14,8 +15,9 @@ abbrev pub words_of_run : Run → List JobWord
 words_of_run run = Stdin run ∷ Pump run streams.Out ∷ Pump run streams.Err ∷ Watch run ∷ []
 
 -- the jobs were kept in order, up to the first that came back
-pub record Starts (words : List JobWord) (all : Bool) (old new : Option (List JobWord)) : Type 0 where
-  pub count : ℕ
-  pub kept : new ≡ grown (take count words) old
-  pub whole : all ≡ true → count ≡ length words
-  pub short : all ≡ false → count < length words
+pub record Starts (words : List JobWord) (all : Bool) (old new : Option (List JobWord)) : Type 0
+  where
+    pub count : ℕ
+    pub kept : new ≡ grown (take count words) old
+    pub whole : all ≡ true → count ≡ length words
+    pub short : all ≡ false → count < length words

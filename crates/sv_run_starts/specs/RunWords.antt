@@ -8,4 +8,5 @@ use Rattle.sv_run_starts.specs.declared.starting.RunJobs.{RunJobs}
 -- each of its own run
 abbrev pub words_of_jobs : {K O E W : Type 0} → RunJobs K O E W → List JobWord
 words_of_jobs jobs =
-    Stdin jobs.stdin.run ∷ Pump jobs.out.run streams.Out ∷ Pump jobs.err.run streams.Err ∷ Watch jobs.watch.run ∷ []
+    Stdin jobs.stdin.run ∷ Pump jobs.out.run streams.Out ∷ Pump jobs.err.run streams.Err
+    ∷ Watch jobs.watch.run ∷ []

@@ -1,6 +1,8 @@
--- The runs of processes and what becomes of them: a run is over where its process and both its pipes ended. A listener is one
--- until its process ends (the manual's chapter on events, "Event Listener States").
-use Rattle.std.specs.Prelude.{ℕ, List, [], ◌∷◌, ◌++◌, Option, Some, None, Bool, true, false, ◌&&◌, not, ◌==◌, if◌then◌else◌, map, length, drop, replicate, slice_set}
+-- The runs of processes and what becomes of them: a run is over where its process and both its
+-- pipes ended. A listener is one until its process ends (the manual's chapter on events, "Event
+-- Listener States").
+use Rattle.std.specs.Prelude.{ℕ, List, [], ◌∷◌, ◌++◌, Option, Some, None, Bool, true, false, ◌&&◌}
+use Rattle.std.specs.Prelude.{not, ◌==◌, if◌then◌else◌, map, length, drop, replicate, slice_set}
 use Rattle.sv_base.specs.declared.ids.Run.{Run}
 use Rattle.sv_base.specs.declared.state.Stream.{Stream}
 use Rattle.sv_base.specs.declared.state.Stream.TheVariants.{Out, Err}

@@ -1,6 +1,7 @@
 //! What is kept of a run that isn't over.
 ghost use Rattle.std.specs.Prelude.{◌≡◌, ℕ, IfOk, OnOk, Some, false};
-ghost use Rattle.sv_runs.specs.RunBook.{RunRecord, ends, ends_pipe, gets, is_over, living_of, loses, may_get, new_run, says, teller_of, tokens_by};
+ghost use Rattle.sv_runs.specs.RunBook.{RunRecord, ends, ends_pipe, gets, is_over, living_of};
+ghost use Rattle.sv_runs.specs.RunBook.{loses, may_get, new_run, says, teller_of, tokens_by};
 
 use std::alloc::{AllocError, Global};
 use sv_base::state::Stream;

@@ -1,6 +1,8 @@
 //! The runs of processes.
 ghost use Rattle.std.specs.Prelude.{◌≡◌, IfOk, OnOk, slice_set};
-ghost use Rattle.sv_runs.specs.RunBook.{RunBook, begun, heard, is_ready, living, lost, new_tokens, opening, pid_in, pipe_ended, process_ended, sent, stdin_lost, teller};
+ghost use Rattle.sv_runs.specs.RunBook.{RunBook, begun, heard, is_ready, living, lost, new_tokens};
+ghost use Rattle.sv_runs.specs.RunBook.{opening, pid_in, pipe_ended, process_ended, sent};
+ghost use Rattle.sv_runs.specs.RunBook.{stdin_lost, teller};
 
 use crate::open_run::OpenRun;
 use std::alloc::{AllocError, Global};

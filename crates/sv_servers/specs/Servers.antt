@@ -11,7 +11,8 @@ use Rattle.sv_outcome.specs.declared.outcome.Outcome.{Outcome}
 use Rattle.sv_outcome.specs.declared.outcome.Outcome.TheVariants.{NoMemory}
 
 -- the words are taken, and these files hold what the daemon begins with
-pub record Begins (words : List (List ℕ)) (host : Host) (files : Files) (servers : List ServerSpec) : Type 0 where
+pub record Begins (words : List (List ℕ)) (host : Host) (files : Files) (servers : List ServerSpec)
+    : Type 0 where
   pub arguments : Arguments
   pub said : arguments_of words ≡ Some arguments
   pub beginning : Beginning

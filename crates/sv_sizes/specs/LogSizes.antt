@@ -1,5 +1,6 @@
 -- The sizes that the log files of a configuration have on a shelf.
-use Rattle.std.specs.Prelude.{◌≡◌, ◌||◌, ◌⊎◌, ◌∷◌, ℕ, List, [], Bool, false, Option, None, Some, Result, Ok, Err, map}
+use Rattle.std.specs.Prelude.{◌≡◌, ◌||◌, ◌⊎◌, ◌∷◌, ℕ, List, [], Bool, false, Option, None, Some}
+use Rattle.std.specs.Prelude.{Result, Ok, Err, map}
 use Rattle.std.specs.List.{list_any}
 use Rattle.std.specs.Str.{bytes_eq}
 use Rattle.sv_base.specs.declared.config.Config.{Config}
@@ -26,7 +27,8 @@ group_logs_to name group = list_any (logs_to name) group.members
 
 -- this names the main log, or a log of one of the processes
 abbrev pub is_log_file : Config → List ℕ → Bool
-is_log_file config name = list_any (group_logs_to name) config.groups || is_name_of name config.main.file
+is_log_file config name =
+    list_any (group_logs_to name) config.groups || is_name_of name config.main.file
 
 -- the name of a file whose size is known
 abbrev pub name_of : List ℕ × ℕ → List ℕ

@@ -3,7 +3,8 @@ ghost use Rattle.std.specs.Prelude.{◌≡◌, ◌++◌, ◌∷◌, ℕ, List, [
 ghost use Rattle.std.specs.Option.{ForSome};
 ghost use Rattle.sv_files.specs.Sizes.{rise};
 ghost use Rattle.sv_out.specs.Faults.{RisesWhere};
-ghost use Rattle.sv_sizes.specs.LogSizes.{FailsAt, FailsAtOneOf, IsUnsized, is_log_file, is_one_of, log_files, name_of, size_on, sizes_on};
+ghost use Rattle.sv_sizes.specs.LogSizes.{FailsAt, FailsAtOneOf, IsUnsized, is_log_file, is_one_of};
+ghost use Rattle.sv_sizes.specs.LogSizes.{log_files, name_of, size_on, sizes_on};
 
 use crate::fault::SizesFault;
 use std::alloc::Global;

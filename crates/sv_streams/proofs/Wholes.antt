@@ -7,7 +7,7 @@ use Rattle.sv_pipes.proofs.Captures.{Reads, start_gathers, steps_read}
 use Rattle.sv_pipes.proofs.StreamReading.{stands_decided, stream_cut}
 use Rattle.sv_pipes.specs.CaptureCut.{Decided, IsCut, awaited, decided_open, grouped, last_of, with_byte}
 use Rattle.sv_pipes.specs.CaptureCut.Decided.{Byte, Message}
-use Rattle.sv_pipes.specs.CapturePlaces.{IsKept, Reading, Stands, reads, steps}
+use Rattle.sv_pipes.specs.CapturePlaces.{IsKept, CaptureState, Stands, reads, steps}
 use Rattle.sv_pipes.specs.StreamCut.{Cut, closed_of, cut_of, decided_of}
 use Rattle.sv_pipes.specs.declared.parts.Part.{Part}
 use Rattle.sv_pipes.specs.declared.parts.Part.TheVariants as part
@@ -65,7 +65,7 @@ stays_decided limit stream bytes =
     (stands limit stream cut.decided cut.side cut.shown cut.held (stream_cut limit stream)) in
     let all : Reads limit (stream ++ bytes) cut.decided (steps limit (reads cut.side (length cut.held) body [] []) bytes)
     = steps_read bytes limit (reads cut.side (length cut.held) body [] []) stream cut.decided ([], was, start_gathers cut.side) in
-    let now : Reading = steps limit (reads cut.side (length cut.held) body [] []) bytes in
+    let now : CaptureState = steps limit (reads cut.side (length cut.held) body [] []) bytes in
     (all.0, stands_decided limit now.side now.matched now.body (stream ++ bytes) (cut.decided ++ all.0) all.1)
 
 -- so the parts that are new follow what was decided

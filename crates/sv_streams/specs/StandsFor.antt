@@ -1,4 +1,5 @@
--- What is kept of the output of runs: each until both its pipes ended, and of it what its captures keep.
+-- What is kept of the output of runs: each until both its pipes ended, and of it what its captures
+-- keep.
 use Rattle.std.specs.Prelude.{◌≡◌, ℕ, zero, suc, List, Option, Some, None}
 use Rattle.std.specs.BTreeMap.{get}
 use Rattle.std.specs.Ordering.{nat_cmp}
@@ -13,7 +14,8 @@ use Rattle.sv_streams.specs.declared.streams.Streams.{Streams}
 -- a capture is kept of a channel that has a limit, and of no other
 abbrev pub IsCaptured : Option Capture → ℕ → List ℕ → Type 0
 IsCaptured None zero stream = Unit {0}
-IsCaptured (Some capture) (suc most) stream = CaptureStandsFor capture (suc most) stream (decided_of (suc most) stream)
+IsCaptured (Some capture) (suc most) stream =
+    CaptureStandsFor capture (suc most) stream (decided_of (suc most) stream)
 IsCaptured other limit stream = ⊥
 
 -- the value stands for a channel of this limit, on which these bytes came
@@ -38,4 +40,5 @@ IsKept kept run = ⊥
 
 -- the output of these runs is kept
 abbrev pub StandsFor : Streams → List StreamRecord → Type 0
-StandsFor x book = (number : ℕ) → IsKept (get nat_cmp x.open number) (open_run (last_of number book))
+StandsFor x book =
+    (number : ℕ) → IsKept (get nat_cmp x.open number) (open_run (last_of number book))

@@ -1,6 +1,8 @@
--- The output of runs: all bytes that came on the two pipes of each, and what is decided of them (the manual's chapter on logging,
--- "Child Process Logs" and "Capture Mode").
-use Rattle.std.specs.Prelude.{ℕ, zero, suc, List, [], ◌∷◌, ◌++◌, Option, Some, None, Bool, true, false, ◌&&◌, ◌||◌, not, ◌==◌, if◌then◌else◌, map, length, drop, option_map}
+-- The output of runs: all bytes that came on the two pipes of each, and what is decided of them
+-- (the manual's chapter on logging, "Child Process Logs" and "Capture Mode").
+use Rattle.std.specs.Prelude.{ℕ, zero, suc, List, [], ◌∷◌, ◌++◌, Option, Some, None, Bool, true}
+use Rattle.std.specs.Prelude.{false, ◌&&◌, ◌||◌, not, ◌==◌, if◌then◌else◌, map, length, drop}
+use Rattle.std.specs.Prelude.{option_map}
 use Rattle.std.specs.List.{flat_map}
 use Rattle.sv_base.specs.declared.ids.Run.{Run}
 use Rattle.sv_base.specs.declared.state.Stream.{Stream}
@@ -13,7 +15,8 @@ use Rattle.sv_pipes.specs.declared.parts.Part.{Part}
 use Rattle.sv_pipes.specs.declared.parts.Part.TheVariants as part
 use Rattle.sv_streams.specs.declared.owner.Owner.{Owner}
 
--- the output of a run whose process was started; a book of it is a list of these, in the order in which the runs began
+-- the output of a run whose process was started; a book of it is a list of these, in the order in
+-- which the runs began
 pub record StreamRecord : Type 0 where
   -- the run's number
   pub number : ℕ
@@ -105,13 +108,16 @@ joins Err bytes s = record s { err_bytes = s.err_bytes ++ bytes }
 abbrev pub parts_more : ℕ → List ℕ → List ℕ → List Part
 parts_more zero stream bytes = logged_part bytes
 parts_more (suc most) stream bytes =
-    let limit = suc most in grouped (drop (length (decided_of limit stream)) (decided_of limit (stream ++ bytes)))
+    let limit =
+    suc most in grouped
+    (drop (length (decided_of limit stream)) (decided_of limit (stream ++ bytes)))
 
 -- what is new at its end
 abbrev pub parts_last : ℕ → List ℕ → List Part
 parts_last zero stream = []
 parts_last (suc most) stream =
-    let limit = suc most in grouped (drop (length (decided_of limit stream)) (closed_of limit stream))
+    let limit =
+    suc most in grouped (drop (length (decided_of limit stream)) (closed_of limit stream))
 
 -- so of the channels of a run
 abbrev pub more_on : Stream → List ℕ → StreamRecord → List Part

@@ -1,6 +1,8 @@
 //! What is kept of a run of which a pipe is open.
 ghost use Rattle.std.specs.Prelude.{◌≡◌, ℕ, IfOk, OnOk};
-ghost use Rattle.sv_streams.specs.StreamBook.{StreamRecord, channel_of, ends, has_ended, is_over, is_whole, joins, last_on, more_on, new_run, owner_of, parts_at_end, parts_by, parts_by_end, takes};
+ghost use Rattle.sv_streams.specs.StreamBook.{StreamRecord, channel_of, ends, has_ended, is_over};
+ghost use Rattle.sv_streams.specs.StreamBook.{is_whole, joins, last_on, more_on, new_run, owner_of};
+ghost use Rattle.sv_streams.specs.StreamBook.{parts_at_end, parts_by, parts_by_end, takes};
 
 use crate::channel::Channel;
 use crate::owner::Owner;

@@ -1,6 +1,7 @@
 //! The output of runs.
 ghost use Rattle.std.specs.Prelude.{◌≡◌, List, [], IfOk, OnOk};
-ghost use Rattle.sv_streams.specs.StreamBook.{StreamRecord, begun, channel_in, fed, last_parts, new_parts, owner_in, pipe_ended};
+ghost use Rattle.sv_streams.specs.StreamBook.{StreamRecord, begun, channel_in, fed, last_parts};
+ghost use Rattle.sv_streams.specs.StreamBook.{new_parts, owner_in, pipe_ended};
 
 use crate::open_run::OpenRun;
 use crate::owner::Owner;

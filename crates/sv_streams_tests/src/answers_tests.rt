@@ -3,7 +3,7 @@
 use std::alloc::Global;
 use std::process::Abort;
 use sv_answers::{
-    FileReply, Heard, Reading, Sent, hear, is_several, no_parts, parts_asked, read_back, say,
+    FileReply, Heard, LogRead, Sent, hear, is_several, no_parts, parts_asked, read_back, say,
     subject_of,
 };
 use sv_base::bytes::Bytes;
@@ -229,8 +229,8 @@ const BACKS: [Back; 7] = [
 ];
 
 /// What was to be read.
-fn reading(back: &Back) -> Reading {
-    Reading {
+fn reading(back: &Back) -> LogRead {
+    LogRead {
         file: Text::fixed("/m"),
         span: Span {
             start: 0,

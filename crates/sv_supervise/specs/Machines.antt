@@ -8,7 +8,8 @@ use Rattle.sv_supervise.specs.declared.engine.Core.{Core}
 
 -- which inputs are accepted, what comes next, which orders are given, and whether the halt was
 abbrev pub core_rules : Rules Model
-core_rules = record { accepts = accepts; next = next; orders = orders; halted = λ m. (now m).course.halted }
+core_rules =
+    record { accepts = accepts; next = next; orders = orders; halted = λ m. (now m).course.halted }
 
 -- it stands for what its machine stands for
 abbrev pub stands_for : Core → Model → Type 0

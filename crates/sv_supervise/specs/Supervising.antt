@@ -16,7 +16,10 @@ use Rattle.sv_out.specs.Files.{Files}
 use Rattle.sv_out.specs.Written.{AppendsFront}
 use Rattle.sv_outcome.specs.Outcomes.{Tells}
 use Rattle.sv_outcome.specs.declared.outcome.Outcome.{Outcome}
-use Rattle.sv_outcome.specs.declared.outcome.Outcome.TheVariants.{Usage, NoFile, Refused, Unreadable, NoMemory, Unwritten, Halted, WorldFailed, InputEnded, Full, Misplaced}
+use Rattle.sv_outcome.specs.declared.outcome.Outcome.TheVariants.{Usage, NoFile, Refused}
+use Rattle.sv_outcome.specs.declared.outcome.Outcome.TheVariants.{Unreadable, NoMemory, Unwritten}
+use Rattle.sv_outcome.specs.declared.outcome.Outcome.TheVariants.{Halted, WorldFailed, InputEnded}
+use Rattle.sv_outcome.specs.declared.outcome.Outcome.TheVariants.{Full, Misplaced}
 use Rattle.sv_record.specs.Begun.{begun}
 use Rattle.sv_record.specs.Header.{header_text}
 use Rattle.sv_record.specs.Lines.{texts_of}
@@ -31,7 +34,8 @@ lines_of is_kept = if is_kept then Kept else Quiet
 -- the header of a daemon that begins so, which is empty where no journal is kept
 abbrev pub header_of : JournalLines → Beginning → Host → List ℕ
 header_of lines beginning host =
-    begun lines (header_text host beginning.sizes.items beginning.loaded.main beginning.loaded.included)
+    begun lines
+    (header_text host beginning.sizes.items beginning.loaded.main beginning.loaded.included)
 
 -- the state of its machine
 abbrev pub machine_of : Beginning → Host → Model
@@ -44,19 +48,22 @@ pub record IsStill (old new : Told) : Type 0 where
   pub handed : new.handed ≡ old.handed
 
 -- the header was written, and the loop came to this end
-pub record Serves (lines : JournalLines) (beginning : Beginning) (host : Host) (old new : Told) (end : End) : Type 0 where
+pub record Serves (lines : JournalLines) (beginning : Beginning) (host : Host) (old new : Told)
+    (end : End) : Type 0 where
   pub mid : Told
   pub still : IsStill old mid
   pub header : Appends old.journal mid.journal (header_of lines beginning host)
   pub stops : Stops core_rules (texts_of lines) 0 (machine_of beginning host) mid new end
 
 -- the header was written, and nothing else was done
-pub record IsIdle (lines : JournalLines) (beginning : Beginning) (host : Host) (old new : Told) : Type 0 where
+pub record IsIdle (lines : JournalLines) (beginning : Beginning) (host : Host) (old new : Told)
+    : Type 0 where
   pub still : IsStill old new
   pub header : Appends old.journal new.journal (header_of lines beginning host)
 
 -- a part of the header was written, and nothing else was done
-pub record IsCutShort (lines : JournalLines) (beginning : Beginning) (host : Host) (old new : Told) : Type 0 where
+pub record IsCutShort (lines : JournalLines) (beginning : Beginning) (host : Host) (old new : Told)
+    : Type 0 where
   pub still : IsStill old new
   pub header : AppendsFront old.journal new.journal (header_of lines beginning host)
 
@@ -77,14 +84,16 @@ RunsTo lines beginning host old new (NoFile name) = ⊥
 RunsTo lines beginning host old new (Refused text) = ⊥
 RunsTo lines beginning host old new (Unreadable name) = ⊥
 RunsTo lines beginning host old new NoMemory =
-    (new ≡ old) ⊎ (IsIdle lines beginning host old new ⊎ Serves lines beginning host old new end_is.NoMemory)
+    (new ≡ old)
+    ⊎ (IsIdle lines beginning host old new ⊎ Serves lines beginning host old new end_is.NoMemory)
 RunsTo lines beginning host old new Unwritten =
     IsCutShort lines beginning host old new ⊎ Serves lines beginning host old new end_is.Unwritten
 RunsTo lines beginning host old new Halted = Serves lines beginning host old new end_is.Halted
 RunsTo lines beginning host old new WorldFailed = Serves lines beginning host old new end_is.Broken
 RunsTo lines beginning host old new InputEnded = Serves lines beginning host old new end_is.Ended
 RunsTo lines beginning host old new Full = Serves lines beginning host old new end_is.Full
-RunsTo lines beginning host old new (Misplaced number) = Serves lines beginning host old new (end_is.Misplaced number)
+RunsTo lines beginning host old new (Misplaced number) =
+    Serves lines beginning host old new (end_is.Misplaced number)
 
 -- the words say this, and these files hold what the daemon begins with
 pub record Reads (words : List (List ℕ)) (host : Host) (files : Files) : Type 0 where
@@ -94,12 +103,14 @@ pub record Reads (words : List (List ℕ)) (host : Host) (files : Files) : Type 
   pub begins : BeginsWith files arguments.file host (Ok beginning)
 
 -- it was read, and what was done then came to this
-pub record Runs (words : List (List ℕ)) (host : Host) (files : Files) (old new : Told) (outcome : Outcome) : Type 0 where
+pub record Runs (words : List (List ℕ)) (host : Host) (files : Files) (old new : Told)
+    (outcome : Outcome) : Type 0 where
   pub reads : Reads words host files
   pub runs : RunsTo (lines_of reads.arguments.journal) reads.beginning host old new outcome
 
 -- the words are taken, but what the daemon begins with can't be read, and nothing else was done
-pub record CantBegin (words : List (List ℕ)) (host : Host) (files : Files) (old new : Told) (outcome : Outcome) : Type 0 where
+pub record CantBegin (words : List (List ℕ)) (host : Host) (files : Files) (old new : Told)
+    (outcome : Outcome) : Type 0 where
   pub arguments : Arguments
   pub said : arguments_of words ≡ Some arguments
   pub because : BeginsWith files arguments.file host (Err outcome)
@@ -115,17 +126,20 @@ abbrev pub ComesTo : List (List ℕ) → Host → Files → Told → Told → Ou
 ComesTo words host files old new Usage = IsMisused words old new
 ComesTo words host files old new (NoFile name) = CantBegin words host files old new (NoFile name)
 ComesTo words host files old new (Refused text) = CantBegin words host files old new (Refused text)
-ComesTo words host files old new (Unreadable name) = CantBegin words host files old new (Unreadable name)
+ComesTo words host files old new (Unreadable name) =
+    CantBegin words host files old new (Unreadable name)
 ComesTo words host files old new NoMemory = (new ≡ old) ⊎ Runs words host files old new NoMemory
 ComesTo words host files old new Unwritten = Runs words host files old new Unwritten
 ComesTo words host files old new Halted = Runs words host files old new Halted
 ComesTo words host files old new WorldFailed = Runs words host files old new WorldFailed
 ComesTo words host files old new InputEnded = Runs words host files old new InputEnded
 ComesTo words host files old new Full = Runs words host files old new Full
-ComesTo words host files old new (Misplaced number) = Runs words host files old new (Misplaced number)
+ComesTo words host files old new (Misplaced number) =
+    Runs words host files old new (Misplaced number)
 
 -- what became of the daemon, and was told on its output with this status
-pub record Supervises (words : List (List ℕ)) (host : Host) (files : Files) (old new : Told) (written written_now : Option (List ℕ)) (faults faults_now status : ℕ) : Type 0 where
+pub record Supervises (words : List (List ℕ)) (host : Host) (files : Files) (old new : Told)
+    (written written_now : Option (List ℕ)) (faults faults_now status : ℕ) : Type 0 where
   pub outcome : Outcome
   pub comes : ComesTo words host files old new outcome
   pub tells : Tells outcome written written_now faults faults_now status

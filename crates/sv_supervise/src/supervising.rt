@@ -5,7 +5,8 @@ ghost use Rattle.sv_files.specs.Sizes.{rise};
 ghost use Rattle.sv_out.specs.Faults.{Rose};
 ghost use Rattle.sv_daemon.specs.Telling.{told};
 ghost use Rattle.sv_supervise.specs.Completeness.{IsAccepted, IsComplete, NoneRose};
-ghost use Rattle.sv_supervise.specs.Supervising.{ComesTo, FailsFor, RunsTo, Supervises, lines_of, outcome_of};
+ghost use Rattle.sv_supervise.specs.Supervising.{ComesTo, FailsFor, RunsTo, Supervises, lines_of};
+ghost use Rattle.sv_supervise.specs.Supervising.{outcome_of};
 
 use crate::engine::Core;
 use std::alloc::Global;

@@ -1,5 +1,6 @@
 -- What the journal of a daemon says, and what comes of it where it is replayed.
-use Rattle.std.specs.Prelude.{◌≡◌, ◌≤◌, ℕ, List, [], ◌∷◌, ◌++◌, Bool, true, ◌&&◌, Option, Some, map, length, nat_lt, if◌then◌else◌}
+use Rattle.std.specs.Prelude.{◌≡◌, ◌≤◌, ℕ, List, [], ◌∷◌, ◌++◌, Bool, true, ◌&&◌, Option, Some, map}
+use Rattle.std.specs.Prelude.{length, nat_lt, if◌then◌else◌}
 use Rattle.std.specs.Io.KnownBytes.{Appends}
 use Rattle.sv_base.specs.declared.config.Host.{Host}
 use Rattle.sv_beginning.specs.declared.beginning.Beginning.{Beginning}
@@ -33,12 +34,15 @@ names_rise (entry ∷ entries) = is_first entry.0 entries && names_rise entries
 abbrev pub entries_of : Model → List Input → List Entry
 entries_of m [] = []
 entries_of m (i ∷ is) =
-    if accepts m i then Told i ∷ (map Given (orders m i) ++ entries_of (next m i) is) else entries_of m is
+    if accepts m i then Told i ∷ (map Given (orders m i) ++ entries_of (next m i) is)
+    else entries_of m is
 
 -- the lines of the journal of a daemon that began so and was given these inputs
 abbrev pub daemon_lines : Beginning → Host → List Input → List Line
 daemon_lines beginning host inputs =
-    journal_lines (Long host (told_sizes beginning.sizes.items) beginning.loaded.main beginning.loaded.included)
+    journal_lines
+    (Long host (told_sizes beginning.sizes.items) beginning.loaded.main
+    beginning.loaded.included)
     (entries_of (machine_of beginning host) inputs)
 
 -- the lines can stand in a journal, which isn't too long
@@ -46,9 +50,10 @@ pub record IsWithinLimits (lines : List Line) : Type 0 where
   pub fit : AllFit lines
   pub short : length (journal_text lines) ≤ journal_limit
 
--- the journal holds these lines, whose inputs are these; it is a good one, and where it is replayed, the lines of the deeds of
--- these inputs are written
-pub record IsRerun (journal : Option (List ℕ)) (beginning : Beginning) (host : Host) (inputs : List Input) : Type 0 where
+-- the journal holds these lines, whose inputs are these; it is a good one, and where it is
+-- replayed, the lines of the deeds of these inputs are written
+pub record IsRerun (journal : Option (List ℕ)) (beginning : Beginning) (host : Host)
+    (inputs : List Input) : Type 0 where
   pub said : journal ≡ Some (journal_text (daemon_lines beginning host inputs))
   pub inputs_are : inputs_in (entries_of (machine_of beginning host) inputs) ≡ inputs
   pub good : HoldsGoodJournal journal

@@ -1,19 +1,23 @@
--- The client's conversation, as a function of the command or of the lines, and of the answers: the calls that are made, the
--- text that is printed, and the status.
-use Rattle.std.specs.Prelude.{◌==◌, ◌||◌, ◌∷◌, ◌++◌, ℕ, List, [], Bool, true, false, Option, Some, None, codes, length, filter, nat_lt, if◌then◌else◌}
+-- The client's conversation, as a function of the command or of the lines, and of the answers: the
+-- calls that are made, the text that is printed, and the status.
+use Rattle.std.specs.Prelude.{◌==◌, ◌||◌, ◌∷◌, ◌++◌, ℕ, List, [], Bool, true, false, Option, Some}
+use Rattle.std.specs.Prelude.{None, codes, length, filter, nat_lt, if◌then◌else◌}
 use Rattle.std.specs.List.{slice_split}
 use Rattle.std.specs.Str.{bytes_eq, is_utf8}
+use Rattle.sv_base.specs.Ascii.{line_feed, space}
 use Rattle.sv_commands.specs.Commands.{Asked, steps_of}
 use Rattle.sv_commands.specs.declared.status.Status.{Status}
 use Rattle.sv_commands.specs.declared.status.Status.TheVariants.{Done, Refused}
 use Rattle.sv_talk.specs.Answers.{Answer, told_of}
 use Rattle.sv_talk.specs.Courses.{settled}
 use Rattle.sv_talk.specs.declared.course.Course.{Course}
-use Rattle.sv_talk.specs.declared.course.Course.TheVariants.{On, Broken, Quit, Lost, NoMemory, Unprinted}
+use Rattle.sv_talk.specs.declared.course.Course.TheVariants.{On, Broken, Quit, Lost, NoMemory}
+use Rattle.sv_talk.specs.declared.course.Course.TheVariants.{Unprinted}
 use Rattle.sv_talk.specs.declared.told.Told.{Told}
 use Rattle.sv_xmlcall.specs.Trees.{CallTree}
 
--- what is said from some place on: the calls, the text, how it ends, and the answers that are left then
+-- what is said from some place on: the calls, the text, how it ends, and the answers that are left
+-- then
 pub record Said : Type 0 where
   pub calls : List CallTree
   pub text : List ℕ
@@ -54,17 +58,18 @@ asks call told next (answer ∷ answers) =
 -- the calls of a command, which has this status so far
 abbrev pub steps_said : List ℕ → List Asked → Status → Talk
 steps_said url [] status = stops status
-steps_said url (step ∷ steps) status = asks step.call (told_of url step.line status) (steps_said url steps)
+steps_said url (step ∷ steps) status =
+    asks step.call (told_of url step.line status) (steps_said url steps)
 
 -- a line that is no command
 abbrev pub unknown_line : List ℕ → List ℕ
-unknown_line words = codes "*** Unknown syntax: " ++ words ++ 10 ∷ []
+unknown_line words = codes "*** Unknown syntax: " ++ words ++ line_feed ∷ []
 
 -- words with a space between each two
 abbrev pub joined : List (List ℕ) → List ℕ
 joined [] = []
 joined (word ∷ []) = word
-joined (word ∷ other ∷ words) = word ++ 32 ∷ joined (other ∷ words)
+joined (word ∷ other ∷ words) = word ++ space ∷ joined (other ∷ words)
 
 -- the steps of a command, or that the words are none
 abbrev pub said_by : List ℕ → List (List ℕ) → Option (List Asked) → Talk
@@ -81,7 +86,7 @@ after said next = having said.calls said.text (goes_on (settled said.course) nex
 
 -- the byte is a space
 abbrev pub is_space : ℕ → Bool
-is_space byte = byte == 32
+is_space byte = byte == space
 
 -- the text isn't empty
 abbrev pub is_some_text : List ℕ → Bool
@@ -137,7 +142,8 @@ prompted next status = printing prompt (next status)
 -- the lines, the first of which has its prompt
 abbrev pub heard_said : List ℕ → InputEnd → List (List ℕ) → Status → Talk
 heard_said url end [] status = end_said end status
-heard_said url end (line ∷ lines) status = line_said url line status (prompted (heard_said url end lines))
+heard_said url end (line ∷ lines) status =
+    line_said url line status (prompted (heard_said url end lines))
 
 -- bytes after which no line feed stands are a line where the input ended with them
 abbrev pub last_line : InputEnd → List ℕ → List (List ℕ)
@@ -149,7 +155,8 @@ last_line Failing bytes = []
 abbrev pub lines_from : InputEnd → List ℕ → List ℕ → List (List ℕ)
 lines_from end held [] = last_line end held
 lines_from end held (byte ∷ bytes) =
-    if byte == 10 then held ∷ lines_from end [] bytes else lines_from end (held ++ byte ∷ []) bytes
+    if byte == line_feed then held ∷ lines_from end [] bytes
+    else lines_from end (held ++ byte ∷ []) bytes
 
 -- the conversation over the lines of these bytes
 abbrev pub lines_said : List ℕ → InputEnd → List ℕ → Talk

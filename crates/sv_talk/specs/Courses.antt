@@ -3,7 +3,8 @@ use Rattle.std.specs.Prelude.{ℕ}
 use Rattle.sv_commands.specs.Statuses as status
 use Rattle.sv_commands.specs.declared.status.Status.TheVariants.{Unanswered}
 use Rattle.sv_talk.specs.declared.course.Course.{Course}
-use Rattle.sv_talk.specs.declared.course.Course.TheVariants.{On, Broken, Quit, Lost, NoMemory, Unprinted}
+use Rattle.sv_talk.specs.declared.course.Course.TheVariants.{On, Broken, Quit, Lost, NoMemory}
+use Rattle.sv_talk.specs.declared.course.Course.TheVariants.{Unprinted}
 
 -- the status of the program
 abbrev pub number : Course → ℕ

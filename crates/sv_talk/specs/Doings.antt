@@ -8,7 +8,8 @@ use Rattle.sv_commands.specs.declared.status.Status.{Status}
 use Rattle.sv_talk.specs.Answers.{Answer}
 use Rattle.sv_talk.specs.Conversation.{Talk, asks, goes_on, having, printing}
 use Rattle.sv_talk.specs.declared.course.Course.{Course}
-use Rattle.sv_talk.specs.declared.course.Course.TheVariants.{On, Broken, Quit, Lost, NoMemory, Unprinted}
+use Rattle.sv_talk.specs.declared.course.Course.TheVariants.{On, Broken, Quit, Lost, NoMemory}
+use Rattle.sv_talk.specs.declared.course.Course.TheVariants.{Unprinted}
 use Rattle.sv_talk.specs.declared.server.Server.{Server}
 use Rattle.sv_talk.specs.declared.told.Told.{Told}
 use Rattle.sv_out.specs.Written.{AppendsFront}
@@ -32,18 +33,23 @@ AreMade server (call ∷ calls) (answer ∷ answers) exchanges =
     × AreMade server calls answers more × (exchanges ≡ first ++ more)
 
 -- a dial tells the exchanges of calls after those before
-pub record Adds (server : Server) (before : List Exchange) (after : Option (List Exchange)) (calls : List CallTree)
+pub record Adds (server : Server) (before : List Exchange) (after : Option (List Exchange))
+    (calls : List CallTree)
     (answers : List Answer) : Type 0 where
   pub exchanges : List Exchange
   pub told : after ≡ Some (before ++ exchanges)
   pub made : AreMade server calls answers exchanges
 
 -- the same, of a dial that tells its exchanges
-abbrev pub Tells : Server → Option (List Exchange) → Option (List Exchange) → List CallTree → List Answer → Type 0
-Tells server before after calls answers = ForSome before (λ told. Adds server told after calls answers)
+abbrev pub Tells : Server → Option (List Exchange) → Option (List Exchange) → List CallTree
+    → List Answer → Type 0
+Tells server before after calls answers =
+    ForSome before (λ told. Adds server told after calls answers)
 
--- of a conversation so much was done that this one is left: the calls were made, the text was printed
-pub record Goes (server : Server) (before after : Option (List Exchange)) (old new : Option (List ℕ)) (talk left : Talk) : Type 0 where
+-- of a conversation so much was done that this one is left: the calls were made, the text was
+-- printed
+pub record Goes (server : Server) (before after : Option (List Exchange))
+    (old new : Option (List ℕ)) (talk left : Talk) : Type 0 where
   pub answers : List Answer
   pub calls : List CallTree
   pub text : List ℕ
@@ -61,17 +67,20 @@ pub record Breaks (old new : Option (List ℕ)) (talk : Talk) : Type 0 where
   pub same : (more : List Answer) → talk (answers ++ more) ≡ having calls text (left more)
 
 -- the calls up to that place were made; the last may be one in which memory was refused
-pub record Fails (server : Server) (before after : Option (List Exchange)) (old new : Option (List ℕ)) (talk : Talk) : Type 0 where
+pub record Fails (server : Server) (before after : Option (List Exchange))
+    (old new : Option (List ℕ)) (talk : Talk) : Type 0 where
   pub breaks : Breaks old new talk
   pub tells : Tells server before after breaks.calls breaks.answers
 
--- what a conversation came to: it is gone through and goes on by its status or ends; or memory was refused or a write failed
--- at some place of it
-abbrev pub Comes : Server → Option (List Exchange) → Option (List Exchange) → Option (List ℕ) → Option (List ℕ)
+-- what a conversation came to: it is gone through and goes on by its status or ends; or memory was
+-- refused or a write failed at some place of it
+abbrev pub Comes : Server → Option (List Exchange) → Option (List Exchange) → Option (List ℕ)
+    → Option (List ℕ)
     → Talk → (Status → Talk) → Course → Type 0
 Comes server before after old new talk next NoMemory = Fails server before after old new talk
 Comes server before after old new talk next Unprinted = Fails server before after old new talk
-Comes server before after old new talk next course = Goes server before after old new talk (goes_on course next)
+Comes server before after old new talk next course =
+    Goes server before after old new talk (goes_on course next)
 
 -- a text was printed, and it came to this course; or a prefix of it was, where a write failed
 abbrev pub Says : Option (List ℕ) → Option (List ℕ) → List ℕ → Course → Course → Type 0
@@ -87,7 +96,8 @@ Prints old new text course result =
 -- what was printed of the answer to a call
 abbrev pub Shows : Answer → Option (List ℕ) → Option (List ℕ) → (Answer → Told) → Course → Type 0
 Shows answer old new told result =
-    (server : Server) (call : CallTree) (before after : Option (List Exchange)) (next : Status → Talk)
+    (server : Server) (call : CallTree) (before after : Option (List Exchange))
+    (next : Status → Talk)
     → ForSome before (λ exchanges.
     Calls exchanges after server.place (request_of server.client call) answer)
     → Comes server before after old new (asks call told next) next result

@@ -8,7 +8,8 @@ ghost use Rattle.sv_commands.specs.declared.status.Status.TheVariants.{Done, Ref
 ghost use Rattle.sv_out.specs.declared.connection.Exchange.{Exchange};
 ghost use Rattle.sv_talk.specs.declared.server.Server.{Server};
 ghost use Rattle.sv_out.specs.Faults.{RisesWhere};
-ghost use Rattle.sv_talk.specs.Conversation.{Talk, asks, command_said, joined, printing, steps_said, stops, unknown_line};
+ghost use Rattle.sv_talk.specs.Conversation.{Talk, asks, command_said, joined, printing};
+ghost use Rattle.sv_talk.specs.Conversation.{steps_said, stops, unknown_line};
 ghost use Rattle.sv_talk.specs.Answers.{told_of};
 ghost use Rattle.sv_talk.specs.Courses.{IsLost, IsUnprinted};
 ghost use Rattle.sv_talk.specs.Doings.{Comes, Shows};

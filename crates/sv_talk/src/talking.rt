@@ -1,10 +1,12 @@
 //! The conversation over the lines of an input.
-ghost use Rattle.std.specs.Prelude.{◌≡◌, ◌≤◌, ◌<◌, ◌++◌, ◌∷◌, ◌⊎◌, List, ℕ, IfOk, OnErr, length, take, min};
+ghost use Rattle.std.specs.Prelude.{◌≡◌, ◌≤◌, ◌<◌, ◌++◌, ◌∷◌, ◌⊎◌, List, ℕ, IfOk, OnErr, length};
+ghost use Rattle.std.specs.Prelude.{take, min};
 ghost use Rattle.std.specs.Io.KnownBytes.{Consumes, IsAtEnd, Keeps};
 ghost use Rattle.sv_ask.specs.Asking.{RisesFor};
 ghost use Rattle.sv_commands.specs.declared.status.Status.{Status};
 ghost use Rattle.sv_out.specs.Faults.{HasCause, RisesWhere, Rose};
-ghost use Rattle.sv_talk.specs.Conversation.{InputEnd, Talk, heard_said, last_line, line_said, lines_from, prompted, stops, words_said};
+ghost use Rattle.sv_talk.specs.Conversation.{InputEnd, Talk, heard_said, last_line, line_said};
+ghost use Rattle.sv_talk.specs.Conversation.{lines_from, prompted, stops, words_said};
 ghost use Rattle.sv_talk.specs.Conversation.InputEnd.{Whole};
 ghost use Rattle.sv_talk.specs.Courses.{IsLost, IsUnprinted};
 ghost use Rattle.sv_talk.specs.Doings.{Comes};

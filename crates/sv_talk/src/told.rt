@@ -4,7 +4,8 @@ ghost use Rattle.sv_commands.specs.Lines.{reply_shown};
 ghost use Rattle.sv_xmlcall.specs.Trees.{reply_view};
 ghost use Rattle.sv_ask.specs.Asking as ask;
 ghost use Rattle.sv_talk.specs.Courses.{IsLost, IsSayable};
-ghost use Rattle.sv_talk.specs.Answers.{IsKnown, bad_reply, shown_or_bad, status_line, told_of, with_url};
+ghost use Rattle.sv_talk.specs.Answers.{IsKnown, bad_reply, shown_or_bad, status_line, told_of};
+ghost use Rattle.sv_talk.specs.Answers.{with_url};
 ghost use Rattle.sv_talk.specs.declared.course.Course.TheVariants as course;
 
 use crate::course::Course;

@@ -37,23 +37,30 @@ answer_of_spawn (spawns.Pid pid) = answers.Pid pid
 answer_of_spawn (spawns.Refused refusal) = answer_of_refusal refusal
 answer_of_spawn spawns.NoThread = answers.Refused (codes "no thread")
 
--- what a question of a file came to is the answer; where a call of the shelf failed there is none, and the order failed
+-- what a question of a file came to is the answer; where a call of the shelf failed there is none,
+-- and the order failed
 abbrev pub KeepsFile : FileAnswer → Option Answer → Option Answer → Handed → Type 0
-KeepsFile (files.Read bytes) old new result = (new ≡ Some (answers.Read bytes)) × (result ≡ handed.Done)
+KeepsFile (files.Read bytes) old new result =
+    (new ≡ Some (answers.Read bytes)) × (result ≡ handed.Done)
 KeepsFile files.Done old new result = (new ≡ Some answers.Done) × (result ≡ handed.Done)
 KeepsFile files.Missing old new result = (new ≡ Some answers.Missing) × (result ≡ handed.Done)
-KeepsFile (files.Names names) old new result = (new ≡ Some (answers.Names names)) × (result ≡ handed.Done)
-KeepsFile (files.Size size) old new result = (new ≡ Some (answers.Size size)) × (result ≡ handed.Done)
+KeepsFile (files.Names names) old new result =
+    (new ≡ Some (answers.Names names)) × (result ≡ handed.Done)
+KeepsFile (files.Size size) old new result =
+    (new ≡ Some (answers.Size size)) × (result ≡ handed.Done)
 KeepsFile files.Failed old new result = (new ≡ old) × (result ≡ handed.Failed)
 
 module _ {E : Type 0} where
   -- the answer to a spawn is what it came to
-  abbrev pub AnswersSpawn : Result SpawnAnswer E → Option Answer → Option Answer → Result Handed E → Type 0
-  AnswersSpawn (Ok given) old new result = (new ≡ Some (answer_of_spawn given)) × (result ≡ Ok handed.Done)
+  abbrev pub AnswersSpawn : Result SpawnAnswer E → Option Answer → Option Answer → Result Handed E
+      → Type 0
+  AnswersSpawn (Ok given) old new result =
+      (new ≡ Some (answer_of_spawn given)) × (result ≡ Ok handed.Done)
   AnswersSpawn (Err error) old new result = (new ≡ old) × IsErr result
 
   -- the answer to a question of a file is what it came to
-  abbrev pub AnswersFile : Result FileAnswer E → Option Answer → Option Answer → Result Handed E → Type 0
+  abbrev pub AnswersFile : Result FileAnswer E → Option Answer → Option Answer → Result Handed E
+      → Type 0
   AnswersFile (Ok given) old new (Ok handed) = KeepsFile given old new handed
   AnswersFile (Ok given) old new (Err error) = ⊥
   AnswersFile (Err error) old new result = (new ≡ old) × IsErr result

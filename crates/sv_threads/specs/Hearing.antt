@@ -1,5 +1,6 @@
 -- How notes become inputs.
-use Rattle.std.specs.Prelude.{◌≡◌, ◌==◌, ◌+◌, ◌-◌, ◌^◌, ◌++◌, ◌∷◌, ℕ, Bool, true, false, List, [], MatchOption, Option, None, Some, Result, Ok, Err, remove}
+use Rattle.std.specs.Prelude.{◌≡◌, ◌==◌, ◌+◌, ◌-◌, ◌^◌, ◌++◌, ◌∷◌, ℕ, Bool, true, false, List, []}
+use Rattle.std.specs.Prelude.{MatchOption, Option, None, Some, Result, Ok, Err, remove}
 use Rattle.std.specs.List.{list_all}
 use Rattle.std.specs.Option.{ForSome}
 use Rattle.sv_jobs.specs.declared.notes.Note.{Note}
@@ -13,7 +14,8 @@ use Rattle.sv_run_orders.specs.Lives as runs
 use Rattle.sv_run_orders.specs.Noting as runs_noting
 use Rattle.sv_run_orders.specs.declared.live_runs.LiveRuns.{LiveRuns}
 
--- a note as an input at a moment, after so many links; what was written, and out of memory, are none
+-- a note as an input at a moment, after so many links; what was written, and out of memory, are
+-- none
 abbrev pub stamped : ℕ → ℕ → Note → Option Input
 stamped at count notes.Tick = Some (inputs.Tick at)
 stamped at count (notes.Exit run how) = Some (inputs.Exit at run how)
@@ -70,7 +72,8 @@ abbrev pub are_quiet : ℕ → List (ℕ × Note) → Bool
 are_quiet count heard = list_all (λ (x : ℕ × Note). is_quiet count x.1) heard
 
 -- the next note that isn't passed over was taken, and is this input
-pub record Hears (next : Option ℕ) (count : ℕ) (taken taken_after : List (ℕ × Note)) (input : Input) : Type 0 where
+pub record Hears (next : Option ℕ) (count : ℕ) (taken taken_after : List (ℕ × Note))
+    (input : Input) : Type 0 where
   pub quiet : List (ℕ × Note)
   pub seat : ℕ
   pub note : Note
@@ -110,7 +113,8 @@ pub record CountsNone {K : Type 0} (old new : LiveLinks K) : Type 0 where
   pub lost : new.lost ≡ old.lost
 
 -- what taking a note in leaves of the links
-abbrev pub KeepsLinks : {K E : Type 0} → Result (Option Input) E → LiveLinks K → LiveLinks K → Type 0
+abbrev pub KeepsLinks : {K E : Type 0} → Result (Option Input) E → LiveLinks K → LiveLinks K
+    → Type 0
 KeepsLinks (Ok (Some input)) old new = CountsLink input old new
 KeepsLinks (Ok None) old new = new ≡ old
 KeepsLinks (Err error) old new = CountsNone old new
@@ -132,7 +136,8 @@ module _ {P K : Type 0} where
       × (links_new ≡ links_old)
   Settles (notes.Sent link) old new links_old links_new =
       MatchOption (links.place_of link.0 links_old.lives.items) (links_new.lives ≡ links_old.lives)
-      (λ place. links.ChangesAt place links_noting.Settles links_old.lives.items links_new.lives.items)
+      (λ place. links.ChangesAt place links_noting.Settles links_old.lives.items
+      links_new.lives.items)
       × (new ≡ old)
   Settles (notes.LinkEnd link) old new links_old links_new =
       MatchOption (links.place_of link.0 links_old.lives.items) (links_new.lives ≡ links_old.lives)
@@ -141,15 +146,18 @@ module _ {P K : Type 0} where
   Settles note old new links_old links_new = (new ≡ old) × (links_new ≡ links_old)
 
   -- what these notes change, one after the other
-  abbrev pub SettleAll : List (ℕ × Note) → LiveRuns P → LiveRuns P → LiveLinks K → LiveLinks K → Type 0
+  abbrev pub SettleAll : List (ℕ × Note) → LiveRuns P → LiveRuns P → LiveLinks K → LiveLinks K
+      → Type 0
   SettleAll [] old new links_old links_new = (new ≡ old) × (links_new ≡ links_old)
   SettleAll (x ∷ heard) old new links_old links_new =
       (between : LiveRuns P) × (links_between : LiveLinks K)
       × Settles x.1 old between links_old links_between
       × SettleAll heard between new links_between links_new
 
-  -- the notes that were taken, and nothing else, changed what is known of runs and of links whose jobs were started
-  pub record SettlesTaken (taken taken_after : List (ℕ × Note)) (old new : LiveRuns P) (links_old links_new : LiveLinks K) : Type 0 where
+  -- the notes that were taken, and nothing else, changed what is known of runs and of links whose
+  -- jobs were started
+  pub record SettlesTaken (taken taken_after : List (ℕ × Note)) (old new : LiveRuns P)
+      (links_old links_new : LiveLinks K) : Type 0 where
     pub heard : List (ℕ × Note)
     pub settled : LiveLinks K
     pub grew : taken_after ≡ taken ++ heard

@@ -10,14 +10,17 @@ use Rattle.sv_outside.specs.declared.jobs.JobWord.{JobWord}
 
 module _ {K E : Type 0} where
   -- bytes are sent, once the job was started
-  abbrev pub ThenSends : Result Bool E → LinkId → List ℕ → LiveLinks K → LiveLinks K → Result Handed E → Type 0
+  abbrev pub ThenSends : Result Bool E → LinkId → List ℕ → LiveLinks K → LiveLinks K
+      → Result Handed E → Type 0
   ThenSends (Ok started) link bytes middle new result =
       Sends link.0 bytes middle.lost.items middle.lives.items new.lives.items result
       × (new ≡ record middle { lives = new.lives })
   ThenSends (Err error) link bytes middle new result = (new ≡ middle) × IsErr result
 
-  -- a Send that is a link's first order starts its job; it comes back only where the gate's count rose
-  pub record StartsAndSends (link : LinkId) (bytes : List ℕ) (old new : LiveLinks K) (gate gate_after : Option (List JobWord) × ℕ) (result : Result Handed E) : Type 0 where
+  -- a Send that is a link's first order starts its job; it comes back only where the gate's count
+  -- rose
+  pub record StartsAndSends (link : LinkId) (bytes : List ℕ) (old new : LiveLinks K)
+      (gate gate_after : Option (List JobWord) × ℕ) (result : Result Handed E) : Type 0 where
     pub middle : LiveLinks K
     pub given : Result Bool E
     pub starts : Starts link old middle gate.0 gate_after.0 given
@@ -25,15 +28,18 @@ module _ {K E : Type 0} where
     pub sends : ThenSends given link bytes middle new result
 
   -- more is asked for, once the job was started
-  abbrev pub ThenAsks : Result Bool E → LinkId → LiveLinks K → LiveLinks K → Result Handed E → Type 0
+  abbrev pub ThenAsks : Result Bool E → LinkId → LiveLinks K → LiveLinks K → Result Handed E
+      → Type 0
   ThenAsks (Ok started) link middle new (Ok handed) =
       Asks link.0 middle.lost.items middle.lives.items new.lives.items handed
       × (new ≡ record middle { lives = new.lives })
   ThenAsks (Ok started) link middle new (Err error) = ⊥
   ThenAsks (Err error) link middle new result = (new ≡ middle) × IsErr result
 
-  -- a More that is a link's first order starts its job; it comes back only where the gate's count rose
-  pub record StartsAndAsks (link : LinkId) (old new : LiveLinks K) (gate gate_after : Option (List JobWord) × ℕ) (result : Result Handed E) : Type 0 where
+  -- a More that is a link's first order starts its job; it comes back only where the gate's count
+  -- rose
+  pub record StartsAndAsks (link : LinkId) (old new : LiveLinks K)
+      (gate gate_after : Option (List JobWord) × ℕ) (result : Result Handed E) : Type 0 where
     pub middle : LiveLinks K
     pub given : Result Bool E
     pub starts : Starts link old middle gate.0 gate_after.0 given

@@ -19,7 +19,8 @@ TakesLink Unix link old new =
     ((seat : ℕ) × (taken new.unix ≡ taken old.unix ++ (seat, link) ∷ [])) × (new.inet ≡ old.inet)
 
 -- the link got the next number, and an open of it is told with the moment of the clock
-pub record Opened (K : Type 0) (side : Side) (next : Option ℕ) (old new : LiveLinks K) (input : Input) : Type 0 where
+pub record Opened (K : Type 0) (side : Side) (next : Option ℕ) (old new : LiveLinks K)
+    (input : Input) : Type 0 where
   pub object : K
   pub link : LinkId
   pub at : ℕ
@@ -28,7 +29,8 @@ pub record Opened (K : Type 0) (side : Side) (next : Option ℕ) (old new : Live
   pub told : input ≡ inputs.Open at link side
 
 -- nothing is told where all numbers are given, and where memory was refused
-abbrev pub OpensAt : {K E : Type 0} → Side → Option ℕ → LiveLinks K → LiveLinks K → Result (Option Input) E → Type 0
+abbrev pub OpensAt : {K E : Type 0} → Side → Option ℕ → LiveLinks K → LiveLinks K
+    → Result (Option Input) E → Type 0
 OpensAt {K} side next old new (Ok (Some input)) = Opened K side next old new input
 OpensAt side next old new (Ok None) = (old.count ≡ 2 ^ 32 - 1) × (new ≡ old)
 OpensAt side next old new (Err error) =
@@ -41,7 +43,8 @@ IsSilent (Ok None) = Unit {0}
 IsSilent (Err error) = Unit {0}
 
 -- the link that was taken is the one that got the number
-pub record AcceptsLink (K : Type 0) (side : Side) (before after : Accepted K) (old new : LiveLinks K) : Type 0 where
+pub record AcceptsLink (K : Type 0) (side : Side) (before after : Accepted K)
+    (old new : LiveLinks K) : Type 0 where
   pub object : K
   pub link : LinkId
   pub takes : TakesLink side object before after
@@ -53,7 +56,8 @@ pub record LetsLinkGo (K : Type 0) (side : Side) (before after : Accepted K) : T
   pub takes : TakesLink side object before after
 
 -- the next link of its side is taken in, or let go where nothing is told
-abbrev pub AcceptsAt : {K E : Type 0} → Side → Accepted K → Accepted K → LiveLinks K → LiveLinks K → Result (Option Input) E → Type 0
+abbrev pub AcceptsAt : {K E : Type 0} → Side → Accepted K → Accepted K → LiveLinks K → LiveLinks K
+    → Result (Option Input) E → Type 0
 AcceptsAt {K} side before after old new (Ok (Some input)) = AcceptsLink K side before after old new
 AcceptsAt {K} side before after old new (Ok None) = LetsLinkGo K side before after
 AcceptsAt {K} side before after old new (Err error) = LetsLinkGo K side before after

@@ -9,23 +9,28 @@ use Rattle.sv_outside.specs.declared.jobs.JobWord.{JobWord}
 use Rattle.sv_outside.specs.declared.jobs.JobWord.TheVariants.{Console, Links, Ticker}
 
 -- one job of this word was handed over: it was kept, or came back where the count of faults rose
-pub record Hands (word : JobWord) (kept : Option (List JobWord)) (faults : ℕ) (kept_after : Option (List JobWord)) (faults_after : ℕ) : Type 0 where
+pub record Hands (word : JobWord) (kept : Option (List JobWord)) (faults : ℕ)
+    (kept_after : Option (List JobWord)) (faults_after : ℕ) : Type 0 where
   pub is_kept : Bool
   pub told : kept_after ≡ kept_more word is_kept kept
   pub cause : RisesWhere faults faults_after (is_kept ≡ false)
 
 -- the job of a server was handed over, where there is one
 abbrev pub HandsLinks : Side → Bool → Option (List JobWord) → ℕ → Option (List JobWord) → ℕ → Type 0
-HandsLinks side false kept faults kept_after faults_after = (kept_after ≡ kept) × (faults_after ≡ faults)
-HandsLinks side true kept faults kept_after faults_after = Hands (Links side) kept faults kept_after faults_after
+HandsLinks side false kept faults kept_after faults_after =
+    (kept_after ≡ kept) × (faults_after ≡ faults)
+HandsLinks side true kept faults kept_after faults_after =
+    Hands (Links side) kept faults kept_after faults_after
 
 -- what a gate kept so far, and its count of faults
 pub record Stage : Type 0 where
   pub kept : Option (List JobWord)
   pub faults : ℕ
 
--- the job of the console, that of the ticker, and those of the servers were handed over, in this order, each once
-pub record Starts (inet unix : Bool) (kept : Option (List JobWord)) (faults : ℕ) (kept_after : Option (List JobWord)) (faults_after : ℕ) : Type 0 where
+-- the job of the console, that of the ticker, and those of the servers were handed over, in this
+-- order, each once
+pub record Starts (inet unix : Bool) (kept : Option (List JobWord)) (faults : ℕ)
+    (kept_after : Option (List JobWord)) (faults_after : ℕ) : Type 0 where
   pub first : Stage
   pub second : Stage
   pub third : Stage

@@ -1,6 +1,7 @@
 //! The answers to questions, as inputs.
 ghost use Rattle.std.specs.Prelude.{◌≡◌};
-ghost use Rattle.sv_threads.specs.Answers.{AnswersFile, AnswersSpawn, KeepsFile, answer_of_refusal, answer_of_spawn, input_of_answer};
+ghost use Rattle.sv_threads.specs.Answers.{AnswersFile, AnswersSpawn, KeepsFile, answer_of_refusal};
+ghost use Rattle.sv_threads.specs.Answers.{answer_of_spawn, input_of_answer};
 
 use std::alloc::AllocError;
 use sv_base::{Bytes, Pid, Text};

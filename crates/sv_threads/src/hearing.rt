@@ -1,7 +1,8 @@
 //! How notes become inputs, and what they change on the loop's side.
 ghost use Rattle.std.specs.Prelude.{◌≡◌, IfOk, OnErr};
 ghost use Rattle.sv_lane.specs.Ends.{taken};
-ghost use Rattle.sv_threads.specs.Hearing.{Hears, HearsNote, KeepsLinks, Refuses, Settles, SettlesTaken, count_after_call};
+ghost use Rattle.sv_threads.specs.Hearing.{Hears, HearsNote, KeepsLinks, Refuses, Settles};
+ghost use Rattle.sv_threads.specs.Hearing.{SettlesTaken, count_after_call};
 ghost use Rattle.sv_threads.specs.Opening.{IsSilent};
 
 use crate::opening::open;

@@ -13,7 +13,8 @@ deadlines (Fork' earliest count _ first _ second) = deadlines first ++ deadlines
 abbrev pub IsRight : Tree → Type 0
 IsRight (Leaf deadline) = Unit {0}
 IsRight (Fork' earliest count _ first _ second) =
-    (earliest ≡ earliest_of (deadlines first ++ deadlines second)) × (count ≡ length (deadlines first))
+    (earliest ≡ earliest_of (deadlines first ++ deadlines second))
+    × (count ≡ length (deadlines first))
     × IsRight first × IsRight second
 
 -- the deadlines of no children, or those in a tree

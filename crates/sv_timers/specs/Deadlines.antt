@@ -1,5 +1,6 @@
 -- The deadlines of children, at most one each, in start order.
-use Rattle.std.specs.Prelude.{ℕ, ◌+◌, List, [], ◌∷◌, Bool, false, Option, None, Some, min, nat_le, if◌then◌else◌}
+use Rattle.std.specs.Prelude.{ℕ, ◌+◌, List, [], ◌∷◌, Bool, false, Option, None, Some, min, nat_le}
+use Rattle.std.specs.Prelude.{if◌then◌else◌}
 use Rattle.sv_base.specs.declared.ids.ChildId.{ChildId}
 
 -- the earlier of the two; one that isn't there is no deadline
@@ -18,7 +19,8 @@ abbrev pub is_due : Option ℕ → ℕ → Bool
 is_due None now = false
 is_due (Some at) now = nat_le at now
 
--- the children that are due, in start order; the first of these deadlines is the one of the child with this number
+-- the children that are due, in start order; the first of these deadlines is the one of the child
+-- with this number
 abbrev pub due_from : ℕ → ℕ → List (Option ℕ) → List ChildId
 due_from first now [] = []
 due_from first now (deadline ∷ deadlines) =

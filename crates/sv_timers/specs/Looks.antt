@@ -3,8 +3,10 @@ use Rattle.std.specs.Prelude.{◌≡◌, ◌+◌, ◌≤◌, ◌++◌, ℕ, List
 use Rattle.sv_base.specs.declared.ids.ChildId.{ChildId}
 use Rattle.sv_timers.specs.declared.looked.Looked.{Looked}
 
--- these children were looked at, in this order, where there was room for them; and none was looked at twice
-pub record LooksAt {A : Type 0} (room : A → ℕ) (looked : A → List ChildId) (looks : A → ℕ) (old new : A)
+-- these children were looked at, in this order, where there was room for them; and none was looked
+-- at twice
+pub record LooksAt {A : Type 0} (room : A → ℕ) (looked : A → List ChildId) (looks : A → ℕ)
+    (old new : A)
     (children : List ChildId) : Type 0 where
   pub same_room : room new ≡ room old
   pub given : length (looked old) + length children ≤ room old → looked new ≡ looked old ++ children

@@ -1,5 +1,6 @@
 -- The next child that is due, from a place of the start order on.
-use Rattle.std.specs.Prelude.{◌≡◌, ◌≤◌, ◌<◌, ◌+◌, ℕ, List, [], ◌∷◌, Option, None, Some, Bool, false, ◌&&◌, nat_eq, nat_le, if◌then◌else◌, drop, length, slice_get}
+use Rattle.std.specs.Prelude.{◌≡◌, ◌≤◌, ◌<◌, ◌+◌, ℕ, List, [], ◌∷◌, Option, None, Some, Bool, false}
+use Rattle.std.specs.Prelude.{◌&&◌, nat_eq, nat_le, if◌then◌else◌, drop, length, slice_get}
 use Rattle.sv_base.specs.declared.ids.ChildId.{ChildId}
 use Rattle.sv_timers.specs.Deadlines.{due_from}
 use Rattle.sv_timers.specs.Looks.{looked_of, room_of}
@@ -36,10 +37,12 @@ abbrev pub rest_past : Option Rest → ℕ → Option Rest
 rest_past None place = None
 rest_past (Some rest) place = if nat_le rest.from place then None else Some rest
 
--- this is the place in a list, after those that were told, of the first child from a place of the start order on
+-- this is the place in a list, after those that were told, of the first child from a place of the
+-- start order on
 pub record IsFirst (children : List ChildId) (told from place : ℕ) : Type 0 where
   pub child : ChildId
   pub there : slice_get children place ≡ Some child
   pub past : from ≤ child.0
   pub first : next_in from (drop told children) ≡ Some child
-  pub left : (later : ℕ) → child.0 < later → next_in later (drop (place + 1) children) ≡ next_in later (drop told children)
+  pub left : (later : ℕ) → child.0 < later
+      → next_in later (drop (place + 1) children) ≡ next_in later (drop told children)

@@ -1,5 +1,6 @@
 //! The list of a settle, of which what is left is told one by one.
-ghost use Rattle.std.specs.Prelude.{◌≡◌, ◌≤◌, ℕ, List, Option, IfOk, IsTrue, MatchOption, None, Some, drop, length, slice_set};
+ghost use Rattle.std.specs.Prelude.{◌≡◌, ◌≤◌, ℕ, List, Option, IfOk, IsTrue, MatchOption, None};
+ghost use Rattle.std.specs.Prelude.{Some, drop, length, slice_set};
 ghost use Rattle.sv_timers.specs.Deadlines.{due_from};
 ghost use Rattle.sv_timers.specs.NextDue.{IsFirst, IsList, next_due, next_in, rest_past, tells};
 

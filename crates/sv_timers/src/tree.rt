@@ -1,5 +1,6 @@
 //! The deadlines of children in a row as a tree, in which each fork knows the earliest below it.
-ghost use Rattle.std.specs.Prelude.{◌≡◌, ◌≤◌, ◌<◌, ◌+◌, ◌^◌, None, IfOk, IsTrue, length, replicate, slice_set};
+ghost use Rattle.std.specs.Prelude.{◌≡◌, ◌≤◌, ◌<◌, ◌+◌, ◌^◌, None, IfOk, IsTrue, length, replicate};
+ghost use Rattle.std.specs.Prelude.{slice_set};
 ghost use Rattle.sv_timers.specs.Deadlines.{earliest_of, earlier, is_due, due_from};
 ghost use Rattle.sv_timers.specs.DeadlineTree.{deadlines, IsRight};
 ghost use Rattle.sv_timers.specs.Looks.{LooksAt};

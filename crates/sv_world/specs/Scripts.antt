@@ -1,5 +1,6 @@
 -- A world in memory: its script, the calls that are to fail, and what became of them.
-use Rattle.std.specs.Prelude.{◌&&◌, ℕ, List, Bool, Option, Some, drop, take, length, nat_lt, if◌then◌else◌}
+use Rattle.std.specs.Prelude.{◌&&◌, ℕ, List, Bool, Option, Some, drop, take, length, nat_lt}
+use Rattle.std.specs.Prelude.{if◌then◌else◌}
 use Rattle.sv_out.specs.Faults.{counted}
 use Rattle.sv_out.specs.Plans.{CallPlan}
 use Rattle.sv_out.specs.declared.input.Input.{Input}
@@ -26,11 +27,13 @@ to_fail world n = nat_lt n (length (orders_handed world)) && tell_failure n (inp
 -- the count of faults after the next order was handed over
 abbrev pub faults_after : ScriptWorld → ℕ
 faults_after world =
-    if tell_failure (length (orders_handed world)) (inputs_left world) then counted world.faults else world.faults
+    if tell_failure (length (orders_handed world)) (inputs_left world) then counted world.faults
+    else world.faults
 
 -- which calls for an input are to fail, and how many were made
 abbrev pub world_plan : ScriptWorld → CallPlan
-world_plan world = record { failing = world.failing.items; calls = world.calls; faults = world.breaks }
+world_plan world =
+    record { failing = world.failing.items; calls = world.calls; faults = world.breaks }
 
 -- as the trait tells them
 abbrev pub told_given : ScriptWorld → Option (List Input)

@@ -1,5 +1,6 @@
 -- What goes between the daemon and a world, call by call.
-use Rattle.std.specs.Prelude.{◌≡◌, ◌<◌, ◌⊎◌, ◌++◌, ◌∷◌, ◌==◌, ℕ, List, [], Bool, true, false, Option, Result, Ok, Err, option_map}
+use Rattle.std.specs.Prelude.{◌≡◌, ◌<◌, ◌⊎◌, ◌++◌, ◌∷◌, ◌==◌, ℕ, List, [], Bool, true, false}
+use Rattle.std.specs.Prelude.{Option, Result, Ok, Err, option_map}
 use Rattle.std.specs.List.{list_any}
 use Rattle.std.specs.Option.{ForSome}
 use Rattle.sv_out.specs.Faults.{Rose}
@@ -18,7 +19,8 @@ given_more (Err fault) inputs = inputs
 abbrev pub handed_more : Order → List Order → List Order
 handed_more order orders = orders ++ order ∷ []
 
--- the first input that is left is given, and nothing is taken where none is; the end comes only where none is left
+-- the first input that is left is given, and nothing is taken where none is; the end comes only
+-- where none is left
 abbrev pub Takes : Option (List Input) → Option (List Input) → Result Input NextFault → Type 0
 Takes old new (Ok input) = old ≡ option_map (λ inputs. input ∷ inputs) new
 Takes old new (Err Failed) = new ≡ old
@@ -36,7 +38,8 @@ IsBroken (Err OutOfMemory) = ⊥
 abbrev pub WasToFail : (ℕ → Bool) → ℕ → Input → Type 0
 WasToFail failed number input = (n : ℕ) → input ≡ input_is.Failed n → n < number → failed n ≡ true
 
--- an order that may be told to have failed could be so before, or was handed over now and the count of faults rose
+-- an order that may be told to have failed could be so before, or was handed over now and the count
+-- of faults rose
 abbrev pub MayFail : (ℕ → Bool) → ℕ → ℕ → ℕ → ℕ → Type 0
 MayFail failed number faults_before faults_now n =
     (failed n ≡ true) ⊎ ((n ≡ number) × Rose faults_before faults_now)

@@ -120,11 +120,15 @@ fn tells_failure(number: u64, input: &Input) -> bool
 }
 
 impl World for ScriptWorld {
-    ghost use Rattle.std.specs.Prelude.{◌+◌, ◌%◌, ◌^◌, ℕ, false, true, Err, IfOk, OnErr, OnOk, option_map};
+    ghost use Rattle.std.specs.Prelude.{◌+◌, ◌%◌, ◌^◌, ℕ, false, true, Err, IfOk, OnErr, OnOk};
+    ghost use Rattle.std.specs.Prelude.{option_map};
     ghost use Rattle.sv_out.specs.Faults.{RisesWhere};
     ghost use Rattle.sv_out.specs.Plans.{GoesAsPlanned, is_to_fail};
-    ghost use Rattle.sv_world.specs.Worlds.{IsBroken, MayFail, Takes, WasToFail, given_more, handed_more};
-    ghost use Rattle.sv_world.specs.Scripts.{faults_after, inputs_left, orders_so_far, to_fail, told_given, told_handed, told_left, world_breaks, world_faults, world_plan};
+    ghost use Rattle.sv_world.specs.Worlds.{IsBroken, MayFail, Takes, WasToFail, given_more};
+    ghost use Rattle.sv_world.specs.Worlds.{handed_more};
+    ghost use Rattle.sv_world.specs.Scripts.{faults_after, inputs_left, orders_so_far, to_fail};
+    ghost use Rattle.sv_world.specs.Scripts.{told_given, told_handed, told_left, world_breaks};
+    ghost use Rattle.sv_world.specs.Scripts.{world_faults, world_plan};
 
     ghost given = { told_given };
 

@@ -1,5 +1,6 @@
 //! The world, as the daemon sees it.
-ghost use Rattle.std.specs.Prelude.{◌≡◌, ◌≤◌, ◌+◌, ◌%◌, ◌^◌, ℕ, List, Bool, true, Option, IfOk, OnErr, OnOk, option_map};
+ghost use Rattle.std.specs.Prelude.{◌≡◌, ◌≤◌, ◌+◌, ◌%◌, ◌^◌, ℕ, List, Bool, true, Option, IfOk};
+ghost use Rattle.std.specs.Prelude.{OnErr, OnOk, option_map};
 ghost use Rattle.sv_out.specs.Faults.{RisesWhere};
 
 use std::alloc::{AllocError, Global};
@@ -40,7 +41,8 @@ impl From<AllocError> for NextFault {
 pub trait World {
     ghost use Rattle.sv_out.specs.declared.input.Input.{Input};
     ghost use Rattle.sv_out.specs.declared.order.Order.{Order};
-    ghost use Rattle.sv_world.specs.Worlds.{IsBroken, MayFail, Takes, WasToFail, given_more, handed_more};
+    ghost use Rattle.sv_world.specs.Worlds.{IsBroken, MayFail, Takes, WasToFail, given_more};
+    ghost use Rattle.sv_world.specs.Worlds.{handed_more};
 
     ghost given: { Self → Option (List Input) };
 

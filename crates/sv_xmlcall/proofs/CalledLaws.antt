@@ -1,5 +1,5 @@
 -- What the readers answer is the call, or the reply, that the bytes are.
-use Rattle.std.proofs.Common.{◌≡◌, ℕ, List, length, Result, Ok, Err, Option, Some, None, ap, ◌∙◌, arith}
+use Rattle.std.proofs.Common.{◌≡◌, ℕ, List, length, Result, Ok, Err, Some, ap, ◌∙◌, arith}
 use Rattle.sv_xmlcall.specs.Called.{call_of, reply_of, called, replied, AnswersCalled, AnswersReplied}
 use Rattle.sv_xmlcall.specs.Answers.{ReadsCall, ReadsReply}
 use Rattle.sv_xmlcall.specs.Given.{IsWithin}

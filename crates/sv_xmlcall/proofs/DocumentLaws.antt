@@ -3,18 +3,18 @@ use Rattle.std.proofs.Common.{◌≡◌, ℕ, suc, Bool, true, false, ◌&&◌, 
 use Rattle.std.proofs.lemmas.Bool.{cases_Bool}
 use Rattle.sv_xmlcall.specs.Trees.{Trees, no_tree}
 use Rattle.sv_xmlcall.specs.Spelled.{Spelled, ACall, is_white}
-use Rattle.sv_xmlcall.specs.Characters.{allows, after}
+use Rattle.sv_letters.specs.Letters.{allows, after}
 use Rattle.sv_xmlcall.specs.Tags.{tag_at}
 use Rattle.sv_xmlcall.specs.Atoms.{tag_behind, close_at, close_behind, closing_at}
 use Rattle.sv_xmlcall.specs.Reading.{◌>>=◌, text_at, shut_at, name_at, method_at, prolog_from}
 use Rattle.sv_xmlcall.specs.Documents.{document_of, document_at, head_at, ended_by, begun_of, begun_at, param_of, param_at, answer_of, answer_at, end_at, Comes}
 use Rattle.sv_xmlcall.specs.Answers.{FaultIs, faulted, ReadsParams, ReadsFurther}
-use Rattle.sv_xmlcall.specs.Machine.{the_limits, Document, OfCall, OfReply, InParam, InReply, InFault, InMethod, Verdict, Read, NotRead, TooMany, Place, AtStart, AtDeclared, AtMethod, AtCalled, AtParams, AtParamEnd, AtParamsEnd, AtResponse, AtReplyParam, AtDone, AtValue, AtTextEnd, At, Chars, Prolog, at, begin_of, enter, leave, run, start, on_step, unless_many}
+use Rattle.sv_xmlcall.specs.Machine.{the_limits, Document, OfCall, OfReply, InParam, InReply, InFault, InMethod, Verdict, Read, NotRead, TooMany, Expecting, AtStart, AtDeclared, AtMethod, AtCalled, AtParams, AtParamEnd, AtParamsEnd, AtResponse, AtReplyParam, AtDone, AtValue, AtTextEnd, At, Chars, Prolog, at, begin_of, enter, leave, run, start, on_step, unless_many}
 use Rattle.sv_xmlcall.specs.Running.{Halts, Closes}
 use Rattle.sv_xmlcall.specs.Outcome.{Stops}
-use Rattle.sv_xmlcall.specs.declared.letters.Letters.TheVariants.{Any}
-use Rattle.sv_xmlcall.specs.declared.letters.Awaits.{Awaits}
-use Rattle.sv_xmlcall.specs.declared.letters.Awaits.TheVariants.{Character}
+use Rattle.sv_letters.specs.declared.letters.Letters.TheVariants.{OfText}
+use Rattle.sv_letters.specs.declared.letters.Awaits.{Awaits}
+use Rattle.sv_letters.specs.declared.letters.Awaits.TheVariants.{Character}
 use Rattle.sv_xmlcall.specs.declared.tag.Tag.{Tag}
 use Rattle.sv_xmlcall.specs.declared.tag.Tag.TheVariants as tag
 use Rattle.sv_xmlcall.specs.declared.stop.Stop.{Stop}
@@ -48,13 +48,13 @@ run_prolog : (document : Document) (question : Bool) (awaits : Awaits) (bs : Lis
 run_prolog document question awaits [] = refl
 run_prolog document question awaits (b ∷ bs) = elim (cases_Bool (question && eqb b 62)) [
   | inl e ↦ rw e refl
-  | inr e ↦ elim (cases_Bool (allows Any awaits b)) [
-    | inl f ↦ rw (e, f) (run_prolog document (eqb b 63) (after Any awaits b) bs)
+  | inr e ↦ elim (cases_Bool (allows OfText awaits b)) [
+    | inl f ↦ rw (e, f) (run_prolog document (eqb b 63) (after OfText awaits b) bs)
     | inr f ↦ rw (e, f) refl
   ]
 ]
 
-abbrev inside : Document → Place
+abbrev inside : Document → Expecting
 inside OfCall = AtMethod
 inside OfReply = AtResponse
 
@@ -62,7 +62,7 @@ abbrev pub on_document : Document → Result (List ℕ) ℕ → Verdict
 on_document document (Ok rest) = run the_limits (at (At (inside document)) [] 0) rest
 on_document document (Err left) = unless_many the_limits 0 (NotRead left)
 
-abbrev Behind : Place → Tag → ℕ → List ℕ → Verdict
+abbrev Behind : Expecting → Tag → ℕ → List ℕ → Verdict
 Behind place t count rest =
     on_step (enter the_limits place t [] count) (λ s. run the_limits s rest) (unless_many the_limits count (NotRead (suc (length rest))))
 
@@ -316,11 +316,11 @@ pub param_some : (method : List ℕ) (before : Trees) (count : ℕ) (bs rest : L
 param_some method before count bs rest one e s = sym e ∙ run_param method before count bs ∙ ap (on_param method before count) s
 
 -- a closing tag that is read, and one that isn't
-pub closing_goes : (place : Place) (t : Tag) (count : ℕ) (bs rest : List ℕ) → Closes place t → closing_at (t ∷ []) bs ≡ Ok rest
+pub closing_goes : (place : Expecting) (t : Tag) (count : ℕ) (bs rest : List ℕ) → Closes place t → closing_at (t ∷ []) bs ≡ Ok rest
     → run the_limits (at (At place) [] count) bs ≡ run the_limits (leave the_limits place [] count) rest
 closing_goes place t count bs rest c e = run_closing place t [] count bs c ∙ ap (left_by place [] count) e
 
-pub closing_halts : (place : Place) (t : Tag) (count : ℕ) (bs : List ℕ) (one : Verdict) (stop : Stop) → Closes place t → one ≡ run the_limits (at (At place) [] count) bs
+pub closing_halts : (place : Expecting) (t : Tag) (count : ℕ) (bs : List ℕ) (one : Verdict) (stop : Stop) → Closes place t → one ≡ run the_limits (at (At place) [] count) bs
     → Stops stop (closing_at (t ∷ []) bs) → Halts stop count one
 closing_halts place t count bs one stop c e s =
     halts_with (left_by place [] count) count one (closing_at (t ∷ []) bs) stop (λ left. refl) (e ∙ run_closing place t [] count bs c) s

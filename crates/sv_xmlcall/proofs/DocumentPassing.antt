@@ -4,29 +4,29 @@ use Rattle.std.proofs.lemmas.Bool.{cases_Bool, cases_lt, and_parts, lt-ltb, le-l
 use lib.Utf8.{scalars, encodes, encode}
 use Rattle.sv_xmlcall.specs.Tags.{spelling}
 use Rattle.sv_xmlcall.specs.Spelled.{Spelled, ACall, AReply, fault_of}
-use Rattle.sv_xmlcall.specs.Characters.{allows, after, are_letters}
+use Rattle.sv_letters.specs.Letters.{allows, after, are_letters}
 use Rattle.sv_xmlcall.specs.Trees.{Tree, Trees, no_tree, Reply, Returns, Faults}
 use Rattle.sv_xmlcall.specs.Sizes.{nested, nested_values, size}
 use Rattle.sv_xmlcall.specs.Spells.{Letter, character_of, text_of, Ending, IsEnding, printed_end, printed_value, value_of}
 use Rattle.sv_xmlcall.specs.SpelledTexts.{HeadText, NoDeclaration, Declared, printed_head, IsHead, ParamText, IsParam, printed_param, AreParams, printed_each, values_of, ParamsText, Without, NoParams, Params, ArePossible, printed_params, params_of, CallText, IsCall, printed_call, AnswerText, Answer, Fault, IsFault, IsAnswer, printed_answer, ReplyText, IsReply, printed_reply}
-use Rattle.sv_xmlcall.specs.Machine.{Limits, Document, OfCall, OfReply, Place, AtStart, AtDeclared, AtMethod, AtCalled, AtParams, AtParamEnd, AtParamsEnd, AtResponse, AtReplyParam, AtReplyParamEnd, AtReplyParamsEnd, AtFaultEnd, AtResponseEnd, AtDone, AtValue, AtTextEnd, InMethod, InParam, InReply, InFault, State, Read, At, Close, Prolog, at, run, after_fault, kept, start, is_empty, unless_many, whole_fault}
-use Rattle.sv_xmlcall.specs.declared.letters.Letters.TheVariants.{Any}
-use Rattle.sv_xmlcall.specs.declared.letters.Awaits.{Awaits}
-use Rattle.sv_xmlcall.specs.declared.letters.Awaits.TheVariants.{Character}
+use Rattle.sv_xmlcall.specs.Machine.{Limits, Document, OfCall, OfReply, Expecting, AtStart, AtDeclared, AtMethod, AtCalled, AtParams, AtParamEnd, AtParamsEnd, AtResponse, AtReplyParam, AtReplyParamEnd, AtReplyParamsEnd, AtFaultEnd, AtResponseEnd, AtDone, AtValue, AtTextEnd, InMethod, InParam, InReply, InFault, State, Read, At, Close, Prolog, at, run, after_fault, kept, start, is_empty, unless_many, whole_fault}
+use Rattle.sv_letters.specs.declared.letters.Letters.TheVariants.{OfText}
+use Rattle.sv_letters.specs.declared.letters.Awaits.{Awaits}
+use Rattle.sv_letters.specs.declared.letters.Awaits.TheVariants.{Character}
 use Rattle.sv_xmlcall.specs.declared.tag.Tag.TheVariants as tag
-use Rattle.sv_xmlcall.proofs.LetterLaws.{accept_char}
+use Rattle.sv_letters.proofs.LetterLaws.{accept_char}
 use Rattle.sv_xmlcall.proofs.Passing.{Passes, ◌▷◌, nothing, to_state, white, shuts, ends, in_text, text_pass, whole_is}
 use Rattle.sv_xmlcall.proofs.ValuePassing.{count_behind, count_behind_values, held, held_values, gate_value, value_pass}
 use Rattle.sv_xmlcall.proofs.HeldLaws.{count_min, held_is}
 
-accept_all : (cs : List ℕ) → scalars cs ≡ true → are_letters Any Character (encodes cs) ≡ true
+accept_all : (cs : List ℕ) → scalars cs ≡ true → are_letters OfText Character (encodes cs) ≡ true
 accept_all [] s = refl
 accept_all (c ∷ cs) s =
     let p = and_parts _ _ s in
-    accept_char Any c p.0 refl (encodes cs) ∙ accept_all cs p.1
+    accept_char OfText refl c p.0 refl (encodes cs) ∙ accept_all cs p.1
 
-accept_utf8 : (bs : List ℕ) → IsUtf8 bs → are_letters Any Character bs ≡ true
-accept_utf8 bs u = subst (λ (x : List ℕ). are_letters Any Character x ≡ true) u.1.1 (accept_all u.0 u.1.0)
+accept_utf8 : (bs : List ℕ) → IsUtf8 bs → are_letters OfText Character bs ≡ true
+accept_utf8 bs u = subst (λ (x : List ℕ). are_letters OfText Character x ≡ true) u.1.1 (accept_all u.0 u.1.0)
 
 -- a question mark before the bytes, where one was read
 abbrev pub marked : Bool → List ℕ → List ℕ
@@ -58,12 +58,12 @@ last_mark question [] = question
 last_mark question (b ∷ bs) = last_mark (eqb b 63) bs
 
 declared_pass : (limits : Limits) (document : Document) (question : Bool) (awaits : Awaits) (count : ℕ) (bs : List ℕ)
-    → are_letters Any awaits bs ≡ true → NoEnd (marked question bs)
+    → are_letters OfText awaits bs ≡ true → NoEnd (marked question bs)
     → Passes limits (at (Prolog document question awaits) [] count) bs (at (Prolog document (last_mark question bs) Character) [] count)
 declared_pass limits document question awaits count [] a n = to_state nothing (ap (λ (w : Awaits). at (Prolog document question w) [] count) (whole_is awaits a))
 declared_pass limits document question awaits count (b ∷ bs) a n =
-    let p = and_parts (allows Any awaits b) (are_letters Any (after Any awaits b) bs) a in
-    let more = declared_pass limits document (eqb b 63) (after Any awaits b) count bs p.1 (unmarked b bs (marked_on question b bs n)) in
+    let p = and_parts (allows OfText awaits b) (are_letters OfText (after OfText awaits b) bs) a in
+    let more = declared_pass limits document (eqb b 63) (after OfText awaits b) count bs p.1 (unmarked b bs (marked_on question b bs n)) in
     record { goes = λ rest. rw (no_end question b bs n, p.0) (more.goes rest) }
 
 question_pass : (limits : Limits) (document : Document) (question : Bool) (count : ℕ)
@@ -71,7 +71,7 @@ question_pass : (limits : Limits) (document : Document) (question : Bool) (count
 question_pass limits document true count = record { goes = λ rest. refl }
 question_pass limits document false count = record { goes = λ rest. refl }
 
-abbrev pub head_place : HeadText → Document → Place
+abbrev pub head_place : HeadText → Document → Expecting
 head_place (NoDeclaration before) document = AtStart document
 head_place (Declared before declared after) document = AtDeclared document
 
@@ -139,7 +139,7 @@ each_pass limits method before count (param ∷ params) p fits =
     param_pass limits method before count param p.0 (omega arith)
     ▷ each_pass limits method (kept limits (count_behind limits (value_of param.value) count) before (held limits (value_of param.value) count)) (count_behind limits (value_of param.value) count) params p.1 (omega arith)
 
-abbrev place_behind : Limits → List ℕ → ParamsText → Place
+abbrev place_behind : Limits → List ℕ → ParamsText → Expecting
 place_behind limits method Without = AtCalled method
 place_behind limits method (NoParams before) = AtParamsEnd method no_tree
 place_behind limits method (Params before params ending) = AtParamsEnd method (held_values limits (values_of params) no_tree 0)

@@ -1,61 +1,30 @@
 -- Which call or reply was read.
-use Rattle.std.proofs.Common.{◌≡◌, ℕ, zero, suc, ◌<◌, ◌≤◌, Bool, true, false, ◌&&◌, eqb, leb, ltb, List, [], ◌∷◌, ◌++◌, length, inl, inr, refl, sym, ap, ◌∙◌, subst, arith, append_assoc, codes, if◌then◌else◌}
+use Rattle.std.proofs.Common.{◌≡◌, ℕ, zero, suc, ◌<◌, ◌≤◌, Bool, true, false, ◌&&◌, eqb, leb, ltb, List, [], ◌∷◌, ◌++◌, length, inl, inr, refl, sym, ap, ◌∙◌, subst, arith, append_assoc, codes}
 use Rattle.std.proofs.lemmas.Bool.{cases_Bool, and_parts, eqb-true, ltb-false, leb-true}
 use Rattle.sv_xmlcall.specs.Tags.{spelling}
-use Rattle.sv_xmlcall.specs.Characters.{allows, after, after_continuation, are_letters, is_whole}
+use Rattle.sv_letters.specs.Letters.{allows, after, are_letters, is_whole}
 use Rattle.sv_xmlcall.specs.Spelled.{Spelled, is_white}
 use Rattle.sv_xmlcall.specs.Trees.{Trees}
 use Rattle.sv_xmlcall.specs.Spells.{IsWhite, Ending, IsEnding, printed_end, printed_value, value_of}
 use Rattle.sv_xmlcall.specs.SpelledTexts.{HeadText, NoDeclaration, Declared, printed_head, IsHead, ParamText, AreParams, printed_each, values_of}
-use Rattle.sv_xmlcall.specs.Machine.{Limits, Document, OfCall, OfReply, begin_of, Place, AtStart, AtDeclared, AtMethod, AtParams, AtParamEnd, AtParamsEnd, AtResponse, AtDone, AtValue, InParam, Read, TooMany, At, Prolog, at, run, enter, kept, start, tags_of}
-use Rattle.sv_xmlcall.specs.declared.letters.Letters.TheVariants.{Any}
-use Rattle.sv_xmlcall.specs.declared.letters.Awaits.{Awaits}
-use Rattle.sv_xmlcall.specs.declared.letters.Awaits.TheVariants.{Character, Private, Continuation}
+use Rattle.sv_xmlcall.specs.Machine.{Limits, Document, OfCall, OfReply, begin_of, Expecting, AtStart, AtDeclared, AtMethod, AtParams, AtParamEnd, AtParamsEnd, AtResponse, AtDone, AtValue, InParam, Read, TooMany, At, Prolog, at, run, enter, kept, start, tags_of}
+use Rattle.sv_letters.specs.declared.letters.Letters.TheVariants.{OfText}
+use Rattle.sv_letters.specs.declared.letters.Awaits.{Awaits}
+use Rattle.sv_letters.specs.declared.letters.Awaits.TheVariants.{Character, Private, Continuation}
 use Rattle.sv_xmlcall.specs.declared.tag.Tag.{Tag}
 use Rattle.sv_xmlcall.specs.declared.tag.Tag.TheVariants as tag
-use Rattle.sv_xmlcall.proofs.LetterLaws.{letters_utf8}
+use Rattle.sv_letters.proofs.LetterLaws.{letters_utf8, IsOpen, after_open}
 use Rattle.sv_xmlcall.proofs.ValuePassing.{count_behind, count_behind_values, held, held_values}
 use Rattle.sv_xmlcall.proofs.DocumentPassing.{NoEnd, marked}
 use Rattle.sv_xmlcall.proofs.TagsBack.{Continues, not_read, IsOneOf, ahead, close_back, only_one, end_back}
 use Rattle.sv_xmlcall.proofs.ValuesBack.{value_shorter}
 use Rattle.sv_xmlcall.proofs.NestedBack.{value_back, ahead_shorter, behind_shorter}
 
--- the bytes of a character after its first one are no ASCII
-abbrev pub IsSane : Awaits → Type 0
-IsSane Character = Unit {0}
-IsSane Private = Unit {0}
-IsSane (Continuation low high more) = 128 ≤ low
-
-sane_more : (more : ℕ) → IsSane (after_continuation more)
-sane_more zero = tt
-sane_more (suc more) = omega arith
-
-at_least : (b : Bool) (n : ℕ) → 128 ≤ n → 128 ≤ (if b then n else 128)
-at_least true n h = h
-at_least false n h = omega arith
-
-sane_lead : (b : ℕ) → IsSane (after Any Character b)
-sane_lead b = elim (cases_Bool (ltb b 128)) [
-  | inl l ↦ rw l tt
-  | inr l ↦ elim (cases_Bool (ltb b 224)) [
-    | inl t ↦ rw (l, t) (omega arith)
-    | inr t ↦ elim (cases_Bool (ltb b 240)) [
-      | inl f ↦ rw (l, t, f) (at_least (eqb b 224) 160 (omega arith))
-      | inr f ↦ rw (l, t, f) (at_least (eqb b 240) 144 (omega arith))
-    ]
-  ]
-]
-
-pub sane_after : (awaits : Awaits) (b : ℕ) → IsSane awaits → IsSane (after Any awaits b)
-sane_after Character b s = sane_lead b
-sane_after Private b s = omega arith
-sane_after (Continuation low high more) b s = sane_more more
-
-pub mark_between : (awaits : Awaits) → IsSane awaits → allows Any awaits 63 ≡ true → awaits ≡ Character
+pub mark_between : (awaits : Awaits) → IsOpen awaits → allows OfText awaits 63 ≡ true → awaits ≡ Character
 mark_between Character s a = refl
 mark_between Private s a = cc a
 mark_between (Continuation low high more) s a =
-    let p = and_parts (leb low 63) (leb 63 high) a in let l = leb-true low 63 p.0 in absurd (omega arith)
+    let p = and_parts (leb low 63) (leb 63 high) a in let l = leb-true low 63 p.0 in let above = s.0 in absurd (omega arith)
 
 pub no_end_more : (x : ℕ) (bs : List ℕ) → NoEnd bs → ((back : List ℕ) → x ≡ 63 → bs ≡ 62 ∷ back → ⊥) → NoEnd (x ∷ bs)
 no_end_more x bs n f = λ front back e. go x bs n f front back e
@@ -73,7 +42,7 @@ no_end_more x bs n f = λ front back e. go x bs n f front back e
 -- the declaration was read after its `<?xml`
 pub record PrologBack (limits : Limits) (document : Document) (question : Bool) (awaits : Awaits) (count : ℕ) (bs : List ℕ) (spelled : Spelled) : Type 0 where
   pub declared : List ℕ
-  pub letters : are_letters Any awaits declared ≡ true
+  pub letters : are_letters OfText awaits declared ≡ true
   pub free : NoEnd declared
   pub rest : List ℕ
   pub parts : marked question bs ≡ declared ++ 63 ∷ 62 ∷ rest
@@ -102,7 +71,7 @@ mark_more : (limits : Limits) (document : Document) (question : Bool) (awaits : 
     → awaits ≡ Character → PrologBack limits document true Character count bs spelled → PrologBack limits document question awaits count (63 ∷ bs) spelled
 mark_more limits document false awaits count bs spelled is p = record {
   declared = p.declared;
-  letters = ap (λ (w : Awaits). are_letters Any w p.declared) is ∙ p.letters;
+  letters = ap (λ (w : Awaits). are_letters OfText w p.declared) is ∙ p.letters;
   free = p.free;
   rest = p.rest;
   parts = p.parts;
@@ -110,7 +79,7 @@ mark_more limits document false awaits count bs spelled is p = record {
 }
 mark_more limits document true awaits count bs spelled is p = record {
   declared = 63 ∷ p.declared;
-  letters = ap (λ (w : Awaits). are_letters Any w (63 ∷ p.declared)) is ∙ p.letters;
+  letters = ap (λ (w : Awaits). are_letters OfText w (63 ∷ p.declared)) is ∙ p.letters;
   free = no_end_more 63 p.declared p.free (λ back e d. starts_marked bs p.declared p.rest p.parts back d);
   rest = p.rest;
   parts = ap (λ (x : List ℕ). 63 ∷ x) p.parts;
@@ -119,8 +88,8 @@ mark_more limits document true awaits count bs spelled is p = record {
 
 -- one byte more of the declaration, which is none
 byte_more : (limits : Limits) (document : Document) (question : Bool) (awaits : Awaits) (count b : ℕ) (bs : List ℕ) (spelled : Spelled)
-    → (question ≡ true → awaits ≡ Character) → (question && eqb b 62) ≡ false → eqb b 63 ≡ false → allows Any awaits b ≡ true
-    → PrologBack limits document false (after Any awaits b) count bs spelled → PrologBack limits document question awaits count (b ∷ bs) spelled
+    → (question ≡ true → awaits ≡ Character) → (question && eqb b 62) ≡ false → eqb b 63 ≡ false → allows OfText awaits b ≡ true
+    → PrologBack limits document false (after OfText awaits b) count bs spelled → PrologBack limits document question awaits count (b ∷ bs) spelled
 byte_more limits document false awaits count b bs spelled q n m a p = record {
   declared = b ∷ p.declared;
   letters = rw (a, p.letters) refl;
@@ -134,18 +103,18 @@ byte_more limits document false awaits count b bs spelled q n m a p = record {
     not_mark b m e = let f : true ≡ false = sym (ap (λ (x : ℕ). eqb x 63) e) ∙ m in cc f
 byte_more limits document true awaits count b bs spelled q n m a p =
     let is = q refl in
-    let a' : allows Any Character b ≡ true = sym (ap (λ (w : Awaits). allows Any w b) is) ∙ a in
-    let l : are_letters Any (after Any Character b) p.declared ≡ true = sym (ap (λ (w : Awaits). are_letters Any (after Any w b) p.declared) is) ∙ p.letters in
+    let a' : allows OfText Character b ≡ true = sym (ap (λ (w : Awaits). allows OfText w b) is) ∙ a in
+    let l : are_letters OfText (after OfText Character b) p.declared ≡ true = sym (ap (λ (w : Awaits). are_letters OfText (after OfText w b) p.declared) is) ∙ p.letters in
     record {
       declared = 63 ∷ b ∷ p.declared;
-      letters = ap (λ (w : Awaits). are_letters Any w (63 ∷ b ∷ p.declared)) is ∙ both b p.declared a' l;
+      letters = ap (λ (w : Awaits). are_letters OfText w (63 ∷ b ∷ p.declared)) is ∙ both b p.declared a' l;
       free = no_end_more 63 (b ∷ p.declared) (no_end_more b p.declared p.free (λ back e d. not_mark b m e)) (λ back e d. not_close b n (head_is b p.declared back d));
       rest = p.rest;
       parts = ap (λ (x : List ℕ). 63 ∷ b ∷ x) p.parts;
       goes = p.goes;
     }
   where
-    both : (b : ℕ) (d : List ℕ) → allows Any Character b ≡ true → are_letters Any (after Any Character b) d ≡ true → are_letters Any Character (63 ∷ b ∷ d) ≡ true
+    both : (b : ℕ) (d : List ℕ) → allows OfText Character b ≡ true → are_letters OfText (after OfText Character b) d ≡ true → are_letters OfText Character (63 ∷ b ∷ d) ≡ true
     both b d e f = rw (e, f) refl
 
     not_mark : (b : ℕ) → eqb b 63 ≡ false → b ≡ 63 → ⊥
@@ -167,35 +136,35 @@ prolog_end limits document false awaits count b bs spelled q t is e = true_false
 prolog_end limits document true awaits count b bs spelled q t is e =
     record { declared = []; letters = ap is_whole (q refl); free = empty_free; rest = bs; parts = ap (λ (x : ℕ). 63 ∷ x ∷ bs) is; goes = e }
 
-pub prolog_back : (limits : Limits) (document : Document) (question : Bool) (awaits : Awaits) (count : ℕ) (bs : List ℕ) (spelled : Spelled) → IsSane awaits → (question ≡ true → awaits ≡ Character)
+pub prolog_back : (limits : Limits) (document : Document) (question : Bool) (awaits : Awaits) (count : ℕ) (bs : List ℕ) (spelled : Spelled) → IsOpen awaits → (question ≡ true → awaits ≡ Character)
     → run limits (at (Prolog document question awaits) [] count) bs ≡ Read spelled → PrologBack limits document question awaits count bs spelled
 prolog_back limits document question awaits count [] spelled s q e = absurd (not_read limits count 0 spelled e)
 prolog_back limits document question awaits count (b ∷ bs) spelled s q e = elim (cases_Bool (question && eqb b 62)) [
   | inl c ↦
       let p = and_parts question (eqb b 62) c in
       prolog_end limits document question awaits count b bs spelled q p.0 (eqb-true b 62 p.1) (rw c at e)
-  | inr c ↦ elim (cases_Bool (allows Any awaits b)) [
+  | inr c ↦ elim (cases_Bool (allows OfText awaits b)) [
     | inl a ↦ elim (cases_Bool (eqb b 63)) [
       | inl m ↦
           let is = eqb-true b 63 m in
-          let between = mark_between awaits s (subst (λ (x : ℕ). allows Any awaits x ≡ true) is a) in
-          let f : run limits (at (Prolog document (eqb b 63) (after Any awaits b)) [] count) bs ≡ Read spelled = rw (c, a) at e in
-          let g : run limits (at (Prolog document true (after Any awaits 63)) [] count) bs ≡ Read spelled = subst (λ (x : ℕ). run limits (at (Prolog document (eqb x 63) (after Any awaits x)) [] count) bs ≡ Read spelled) is f in
-          let h : run limits (at (Prolog document true Character) [] count) bs ≡ Read spelled = subst (λ (w : Awaits). run limits (at (Prolog document true (after Any w 63)) [] count) bs ≡ Read spelled) between g in
+          let between = mark_between awaits s (subst (λ (x : ℕ). allows OfText awaits x ≡ true) is a) in
+          let f : run limits (at (Prolog document (eqb b 63) (after OfText awaits b)) [] count) bs ≡ Read spelled = rw (c, a) at e in
+          let g : run limits (at (Prolog document true (after OfText awaits 63)) [] count) bs ≡ Read spelled = subst (λ (x : ℕ). run limits (at (Prolog document (eqb x 63) (after OfText awaits x)) [] count) bs ≡ Read spelled) is f in
+          let h : run limits (at (Prolog document true Character) [] count) bs ≡ Read spelled = subst (λ (w : Awaits). run limits (at (Prolog document true (after OfText w 63)) [] count) bs ≡ Read spelled) between g in
           subst (λ (x : ℕ). PrologBack limits document question awaits count (x ∷ bs) spelled) (sym is)
           (mark_more limits document question awaits count bs spelled between (prolog_back limits document true Character count bs spelled tt (λ t. refl) h))
       | inr m ↦
-          let f : run limits (at (Prolog document (eqb b 63) (after Any awaits b)) [] count) bs ≡ Read spelled = rw (c, a) at e in
-          let g = subst (λ (x : Bool). run limits (at (Prolog document x (after Any awaits b)) [] count) bs ≡ Read spelled) m f in
+          let f : run limits (at (Prolog document (eqb b 63) (after OfText awaits b)) [] count) bs ≡ Read spelled = rw (c, a) at e in
+          let g = subst (λ (x : Bool). run limits (at (Prolog document x (after OfText awaits b)) [] count) bs ≡ Read spelled) m f in
           byte_more limits document question awaits count b bs spelled q c m a
-          (prolog_back limits document false (after Any awaits b) count bs spelled (sane_after awaits b s) (λ t. true_false (sym t)) g)
+          (prolog_back limits document false (after OfText awaits b) count bs spelled (after_open OfText awaits b) (λ t. true_false (sym t)) g)
     ]
     | inr a ↦ absurd (not_read limits count (suc (length bs)) spelled (rw (c, a) at e))
   ]
 ]
 
 -- what stands before the outermost element, and its tag, were read
-abbrev pub after_begin : Document → Place
+abbrev pub after_begin : Document → Expecting
 after_begin OfCall = AtMethod
 after_begin OfReply = AtResponse
 
@@ -225,7 +194,7 @@ declared_head limits document gap rest bs spelled w p e =
     let is : a.t ≡ begin_of document = only_one a.t (begin_of document) (tags_of (AtDeclared document)) refl a.one_of in
     record {
       head = Declared gap d.declared a.gap;
-      right = (w, letters_utf8 Any d.declared d.letters, λ front back f. d.free front back (f ∙ append_assoc front (codes "?>") back), a.white);
+      right = (w, letters_utf8 OfText refl d.declared d.letters, λ front back f. d.free front back (f ∙ append_assoc front (codes "?>") back), a.white);
       rest = a.rest;
       parts = p ∙ declared_parts gap (spelling tag.Declaration) d.declared rest a.gap (spelling (begin_of document)) a.rest
           (d.parts ∙ ap (λ (x : List ℕ). d.declared ++ 63 ∷ 62 ∷ x) (a.parts ∙ ap (λ (x : Tag). a.gap ++ spelling x ++ a.rest) is));

@@ -4,7 +4,7 @@ use Rattle.std.proofs.lemmas.Bool.{cases_Bool, cases_lt, eqb-true}
 use Rattle.sv_xmlcall.specs.Tags.{spelling, word_at, or_later, tag_from, tag_at}
 use Rattle.sv_xmlcall.specs.Spelled.{is_white}
 use Rattle.sv_xmlcall.specs.Spells.{IsWhite}
-use Rattle.sv_xmlcall.specs.Machine.{Limits, Place, Frame, Step, NotRead, At, Within, Close, at, enter, leave, tags_of, words_of, run, on_step, unless_many}
+use Rattle.sv_xmlcall.specs.Machine.{Limits, Expecting, Frame, Step, NotRead, At, Within, Close, at, enter, leave, tags_of, words_of, run, on_step, unless_many}
 use Rattle.sv_xmlcall.specs.Running.{IsOpen}
 use Rattle.sv_xmlcall.specs.declared.tag.Tag.{Tag}
 use Rattle.sv_xmlcall.proofs.Words.{follow}
@@ -130,18 +130,18 @@ tag_broken [] least bs left e = inl (sym (no_tag_is least left e))
 tag_broken (t ∷ tags) least bs left e = later_broken t tags least bs left (word_at (spelling t) bs) (λ l f. tag_broken tags l bs left f) refl e
 
 -- some tag may stand at a place
-abbrev pub SomeTag : Place → Type 0
+abbrev pub SomeTag : Expecting → Type 0
 SomeTag place = (t : Tag) × IsOneOf t (tags_of place)
 
 -- what holds of each prefix of a tag of a place
-abbrev pub FrontsOf : Place → (List ℕ → Type 0) → Type 0
+abbrev pub FrontsOf : Expecting → (List ℕ → Type 0) → Type 0
 FrontsOf place P = (t : Tag) → IsOneOf t (tags_of place) → (g : List ℕ) → IsFront g (spelling t) → P g
 
-abbrev pub Behind : Limits → Place → List Frame → ℕ → List ℕ → ℕ → (List ℕ → Type 0) → Type 0
+abbrev pub Behind : Limits → Expecting → List Frame → ℕ → List ℕ → ℕ → (List ℕ → Type 0) → Type 0
 Behind limits place frames count bs left P = (t : Tag) (rest : List ℕ) → IsOneOf t (tags_of place) → bs ≡ spelling t ++ rest
     → Halts limits (enter limits place t frames count) count rest left → Good (λ g. P (spelling t ++ g)) rest left
 
-within_case : (limits : Limits) (place : Place) (frames : List Frame) (count : ℕ) (bs : List ℕ) (left : ℕ) (P : List ℕ → Type 0) → SomeTag place
+within_case : (limits : Limits) (place : Expecting) (frames : List Frame) (count : ℕ) (bs : List ℕ) (left : ℕ) (P : List ℕ → Type 0) → SomeTag place
     → FrontsOf place P → Behind limits place frames count bs left P → (r : Result (Tag × List ℕ) ℕ) → tag_at (tags_of place) bs ≡ r
     → follow limits place frames count r ≡ NotRead left → Good P bs left
 within_case limits place frames count bs left P some fail more (Ok r) q e =
@@ -156,16 +156,16 @@ within_case limits place frames count bs left P some fail more (Err l) q e =
     broken_case (inr b) = record { front = b.word.front; bad = b.word.bad; parts = b.word.parts; size = b.word.size; good = fail b.t b.one_of b.word.front (part_front b.word.front (spelling b.t) b.word.part) }
 
 -- within a tag of which nothing is read
-pub within_front : (limits : Limits) (place : Place) (frames : List Frame) (count : ℕ) (bs : List ℕ) (left : ℕ) (P : List ℕ → Type 0) → SomeTag place
+pub within_front : (limits : Limits) (place : Expecting) (frames : List Frame) (count : ℕ) (bs : List ℕ) (left : ℕ) (P : List ℕ → Type 0) → SomeTag place
     → FrontsOf place P → Behind limits place frames count bs left P
     → run limits (at (Within place (words_of (tags_of place))) frames count) bs ≡ NotRead left → Good P bs left
 within_front limits place frames count bs left P some fail more e =
     within_case limits place frames count bs left P some fail more (tag_at (tags_of place) bs) refl (sym (run_tag limits place frames count bs) ∙ e)
 
-abbrev pub GapFronts : Place → (List ℕ → Type 0) → Type 0
+abbrev pub GapFronts : Expecting → (List ℕ → Type 0) → Type 0
 GapFronts place P = (gap : List ℕ) → IsWhite gap → (t : Tag) → IsOneOf t (tags_of place) → (g : List ℕ) → IsFront g (spelling t) → P (gap ++ g)
 
-abbrev pub GapBehind : Limits → Place → List Frame → ℕ → List ℕ → ℕ → (List ℕ → Type 0) → Type 0
+abbrev pub GapBehind : Limits → Expecting → List Frame → ℕ → List ℕ → ℕ → (List ℕ → Type 0) → Type 0
 GapBehind limits place frames count bs left P = (gap : List ℕ) → IsWhite gap → (t : Tag) (rest : List ℕ) → IsOneOf t (tags_of place) → bs ≡ gap ++ spelling t ++ rest
     → Halts limits (enter limits place t frames count) count rest left → Good (λ g. P (gap ++ spelling t ++ g)) rest left
 
@@ -173,7 +173,7 @@ white_on : (b : ℕ) (gap : List ℕ) → is_white b ≡ true → IsWhite gap �
 white_on b gap w g = rw (w, g) refl
 
 -- before a tag
-pub ahead_front : (limits : Limits) (place : Place) (frames : List Frame) (count : ℕ) (bs : List ℕ) (left : ℕ) (P : List ℕ → Type 0) → IsOpen place → SomeTag place
+pub ahead_front : (limits : Limits) (place : Expecting) (frames : List Frame) (count : ℕ) (bs : List ℕ) (left : ℕ) (P : List ℕ → Type 0) → IsOpen place → SomeTag place
     → GapFronts place P → GapBehind limits place frames count bs left P
     → run limits (at (At place) frames count) bs ≡ NotRead left → Good P bs left
 ahead_front limits place frames count [] left P o some fail more e =
@@ -191,12 +191,12 @@ ahead_front limits place frames count (b ∷ bs) left P o some fail more e = eli
       (λ t rest i p f. more [] refl t rest i p f) (rw w at e)
 ]
 
-abbrev pub ShutBehind : Limits → Place → List Frame → ℕ → List ℕ → ℕ → (List ℕ → Type 0) → Type 0
+abbrev pub ShutBehind : Limits → Expecting → List Frame → ℕ → List ℕ → ℕ → (List ℕ → Type 0) → Type 0
 ShutBehind limits place frames count bs left P = (inside : List ℕ) → IsWhite inside → (rest : List ℕ) → bs ≡ inside ++ codes ">" ++ rest
     → run limits (leave limits place frames count) rest ≡ NotRead left → Good (λ g. P (inside ++ codes ">" ++ g)) rest left
 
 -- at the end of a closing tag
-pub close_front : (limits : Limits) (place : Place) (frames : List Frame) (count : ℕ) (bs : List ℕ) (left : ℕ) (P : List ℕ → Type 0)
+pub close_front : (limits : Limits) (place : Expecting) (frames : List Frame) (count : ℕ) (bs : List ℕ) (left : ℕ) (P : List ℕ → Type 0)
     → ((inside : List ℕ) → IsWhite inside → P inside) → ShutBehind limits place frames count bs left P
     → run limits (at (Close place) frames count) bs ≡ NotRead left → Good P bs left
 close_front limits place frames count [] left P fail more e = good_here P [] left (unless_left limits count 0 left e).1 (fail [] refl)

@@ -1,7 +1,6 @@
 -- laws of one definition each: of words, texts, forms, values and documents
 mod Words
 mod Runs
-mod LetterLaws
 mod Texts
 mod SimpleLaws
 mod WriteLaws

@@ -1,11 +1,12 @@
 -- Bytes of a log as a text are UTF-8.
 use Rattle.std.proofs.Common.{◌≡◌, ℕ, zero, suc, ◌+◌, ◌-◌, ◌<◌, ◌≤◌, true, List, [], ◌∷◌, length, inl, inr, refl, sym, ap, ◌∙◌, arith, subst, IsUtf8, ◌++◌, append-nil}
 use Rattle.std.proofs.lemmas.Bool.{cases_Bool, cases_lt, lt-ltb, le-ltb}
-use Rattle.sv_xmlcall.specs.Characters.{allows, after, is_whole, are_letters, length_from, character_length, log_from, log_text}
-use Rattle.sv_xmlcall.specs.declared.letters.Letters.TheVariants.{OfXml}
-use Rattle.sv_xmlcall.specs.declared.letters.Awaits.{Awaits}
-use Rattle.sv_xmlcall.specs.declared.letters.Awaits.TheVariants.{Character, Private, Continuation}
-use Rattle.sv_xmlcall.proofs.LetterLaws.{letters_utf8}
+use Rattle.sv_xmlcall.specs.Characters.{length_from, character_length, log_from, log_text}
+use Rattle.sv_letters.specs.Letters.{allows, after, is_whole, are_letters}
+use Rattle.sv_letters.specs.declared.letters.Letters.TheVariants.{OfXml}
+use Rattle.sv_letters.specs.declared.letters.Awaits.{Awaits}
+use Rattle.sv_letters.specs.declared.letters.Awaits.TheVariants.{Character, Private, Continuation}
+use Rattle.sv_letters.proofs.LetterLaws.{letters_utf8}
 
 whole_is : (awaits : Awaits) → is_whole awaits ≡ true → awaits ≡ Character
 whole_is Character e = refl
@@ -76,7 +77,7 @@ log_letters zero awaits (b ∷ bs) c = subst (λ (x : Awaits). are_letters OfXml
 ])
 
 pub log_utf8 : (bs : List ℕ) → IsUtf8 (log_text bs)
-log_utf8 bs = letters_utf8 OfXml (log_text bs) (log_letters 0 Character bs refl)
+log_utf8 bs = letters_utf8 OfXml refl (log_text bs) (log_letters 0 Character bs refl)
 
 no_more : (left : ℕ) → log_from left [] ≡ []
 no_more zero = refl

@@ -4,12 +4,12 @@ use Rattle.std.proofs.lemmas.Bool.{cases_Bool}
 use Rattle.sv_xmlcall.specs.Tags.{spelling, tag_at}
 use Rattle.sv_xmlcall.specs.Atoms.{skip_white}
 use Rattle.sv_xmlcall.specs.Spelled.{is_white}
-use Rattle.sv_xmlcall.specs.Characters.{allows, after}
+use Rattle.sv_letters.specs.Letters.{allows, after}
 use Rattle.sv_xmlcall.specs.Openings.{begins, opened, deepest, behind_mark, outside, amount_in, depth_in}
 use Rattle.sv_xmlcall.specs.Machine.{Limits, the_limits, Document, OfCall, OfReply, begin_of, AtStart, AtDeclared, AtMethod, AtResponse, Control, At, Prolog, Verdict, NotRead, at, run, start, enter, tags_of, unless_many}
-use Rattle.sv_xmlcall.specs.declared.letters.Letters.TheVariants.{Any}
-use Rattle.sv_xmlcall.specs.declared.letters.Awaits.{Awaits}
-use Rattle.sv_xmlcall.specs.declared.letters.Awaits.TheVariants.{Character}
+use Rattle.sv_letters.specs.declared.letters.Letters.TheVariants.{OfText}
+use Rattle.sv_letters.specs.declared.letters.Awaits.{Awaits}
+use Rattle.sv_letters.specs.declared.letters.Awaits.TheVariants.{Character}
 use Rattle.sv_xmlcall.specs.declared.tag.Tag.{Tag}
 use Rattle.sv_xmlcall.specs.declared.tag.Tag.TheVariants as tag
 use Rattle.sv_xmlcall.proofs.Words.{follow}
@@ -79,12 +79,12 @@ prolog_weighed n document question awaits (b ∷ bs) l = elim (cases_Bool (quest
       weighed_behind (marked_depth question) (marked_amount question) (deepest 0) opened _ _ _ _ (b ∷ []) bs (ended (far n) document question awaits b bs c) (ended the_limits document question awaits b bs c)
       (λ g. ap (deepest 0) (mark_ends question b g c)) (λ g. ap opened (mark_ends question b g c))
       (weighed_text n (At (AtDeclared document)) bs (measured (length bs) n (At (AtDeclared document)) [] 0 0 bs (le_refl (length bs)) (omega arith, omega arith) (refl, refl)))
-  | inr c ↦ elim (cases_Bool (allows Any awaits b)) [
+  | inr c ↦ elim (cases_Bool (allows OfText awaits b)) [
     | inl a ↦
         weighed_behind (marked_depth question) (marked_amount question) (marked_depth (eqb b 63)) (marked_amount (eqb b 63)) _ _ _ _ (b ∷ []) bs
         (goes_on (far n) document question awaits b bs c a) (goes_on the_limits document question awaits b bs c a)
         (λ g. ap (deepest 0) (mark_goes question b g c)) (λ g. ap opened (mark_goes question b g c))
-        (prolog_weighed n document (eqb b 63) (after Any awaits b) bs (omega arith))
+        (prolog_weighed n document (eqb b 63) (after OfText awaits b) bs (omega arith))
     | inr a ↦
         rw (c, a) (weighed_here n (marked_depth question) (marked_amount question) (NotRead (suc (length bs))) (b ∷ bs) [] (b ∷ bs) refl refl refl (inl refl))
   ]
@@ -100,8 +100,8 @@ prolog_weighed n document question awaits (b ∷ bs) l = elim (cases_Bool (quest
         → run limits (at (Prolog document question awaits) [] 0) (b ∷ bs) ≡ run limits (at (At (AtDeclared document)) [] 0) bs
     ended limits document question awaits b bs c = rw c refl
 
-    goes_on : (limits : Limits) (document : Document) (question : Bool) (awaits : Awaits) (b : ℕ) (bs : List ℕ) → (question && eqb b 62) ≡ false → allows Any awaits b ≡ true
-        → run limits (at (Prolog document question awaits) [] 0) (b ∷ bs) ≡ run limits (at (Prolog document (eqb b 63) (after Any awaits b)) [] 0) bs
+    goes_on : (limits : Limits) (document : Document) (question : Bool) (awaits : Awaits) (b : ℕ) (bs : List ℕ) → (question && eqb b 62) ≡ false → allows OfText awaits b ≡ true
+        → run limits (at (Prolog document question awaits) [] 0) (b ∷ bs) ≡ run limits (at (Prolog document (eqb b 63) (after OfText awaits b)) [] 0) bs
     goes_on limits document question awaits b bs c a = rw (c, a) refl
 
 -- no declaration begins at the front of these bytes

@@ -1,8 +1,8 @@
 -- What is read within the limits, beside what is read without: after each tag of each place.
 use Rattle.std.proofs.Common.{ℕ, suc, ◌≤◌, Bool, true, false, List, [], ◌∷◌, ◌++◌, length, ℤ, inl, inr, refl, sym, ap, ◌∙◌, arith}
 use Rattle.sv_xmlcall.specs.Trees.{Tree, Trees, Members, text, structure, no_tree, no_member, Reply}
-use Rattle.sv_xmlcall.specs.Machine.{OfCall, OfReply, Frame, InParam, InReply, InFault, Content, InMethod, InName, InString, InDouble, InDate, InBase, InBare, Place, AtStart, AtDeclared, AtMethod, AtCalled, AtParams, AtParamEnd, AtParamsEnd, AtResponse, AtReplyParam, AtReplyParamEnd, AtReplyParamsEnd, AtFaultEnd, AtResponseEnd, AtDone, AtValue, AtForm, AtFormEnd, AtData, AtItems, AtArrayEnd, AtMembers, AtName, AtMemberEnd, AtTextEnd, AtIntegerEnd, AtTruthEnd, AtEntity, Fresh, At, Close, Chars, Hash, Digits, TruthDigit, tags_of}
-use Rattle.sv_xmlcall.specs.declared.letters.Awaits.TheVariants.{Character}
+use Rattle.sv_xmlcall.specs.Machine.{OfCall, OfReply, Frame, InParam, InReply, InFault, Content, InMethod, InName, InString, InDouble, InDate, InBase, InBare, Expecting, AtStart, AtDeclared, AtMethod, AtCalled, AtParams, AtParamEnd, AtParamsEnd, AtResponse, AtReplyParam, AtReplyParamEnd, AtReplyParamsEnd, AtFaultEnd, AtResponseEnd, AtDone, AtValue, AtForm, AtFormEnd, AtData, AtItems, AtArrayEnd, AtMembers, AtName, AtMemberEnd, AtTextEnd, AtIntegerEnd, AtTruthEnd, AtEntity, Fresh, At, Close, Chars, Hash, Digits, TruthDigit, tags_of}
+use Rattle.sv_letters.specs.declared.letters.Awaits.TheVariants.{Character}
 use Rattle.sv_xmlcall.specs.declared.tag.Tag.{Tag}
 use Rattle.sv_xmlcall.specs.declared.tag.Tag.TheVariants as tag
 use Rattle.sv_xmlcall.proofs.TagsBack.{IsOneOf}
@@ -158,7 +158,7 @@ entity_entered n content bytes frames count around rest s again t (inr (inr (inr
 entity_entered n content bytes frames count around rest s again t (inr (inr (inr (inr (inr (inr o)))))) = absurd o
 
 -- at whatever place a tag is read
-pub tag_entered : (n : ℕ) (place : Place) (frames : List Frame) (count around : ℕ) (rest : List ℕ) → suc (length frames) ≤ n → count ≤ n → in_place place frames around → Again (spot n place frames count around rest)
+pub tag_entered : (n : ℕ) (place : Expecting) (frames : List Frame) (count around : ℕ) (rest : List ℕ) → suc (length frames) ≤ n → count ≤ n → in_place place frames around → Again (spot n place frames count around rest)
     → (t : Tag) → IsOneOf t (tags_of place) → Entered (spot n place frames count around rest) t
 tag_entered n (AtStart document) frames count around rest l c s again t i = absurd s
 tag_entered n (AtDone spelled) frames count around rest l c s again t i = absurd i

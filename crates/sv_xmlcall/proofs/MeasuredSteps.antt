@@ -4,11 +4,11 @@ use Rattle.std.specs.Char.{is_ascii_digit}
 use Rattle.std.proofs.lemmas.Bool.{cases_Bool, and_parts}
 use Rattle.sv_xmlcall.specs.Tags.{tag_at}
 use Rattle.sv_xmlcall.specs.Spelled.{is_white, signed}
-use Rattle.sv_xmlcall.specs.Characters.{is_allowed, allows, after}
-use Rattle.sv_xmlcall.specs.Machine.{Limits, the_limits, Frame, Content, InBare, Place, AtForm, AtTextEnd, AtEntity, AtIntegerEnd, AtTruthEnd, Sign, Fresh, Signed, Counted, Control, At, Within, Close, Chars, Hash, Numeral, Opened, Digits, TruthDigit, Prolog, Stuck, State, Step, Go, NotRead, Verdict, leave, next_of, run, unless_many, may_end, is_between, is_digit, is_hex_digit, longer, most_of, tags_of, words_of}
-use Rattle.sv_xmlcall.specs.declared.letters.Letters.TheVariants.{OfXml}
-use Rattle.sv_xmlcall.specs.declared.letters.Awaits.{Awaits}
-use Rattle.sv_xmlcall.specs.declared.letters.Awaits.TheVariants.{Character}
+use Rattle.sv_letters.specs.Letters.{is_allowed, allows, after}
+use Rattle.sv_xmlcall.specs.Machine.{Limits, the_limits, Frame, Content, InBare, Expecting, AtForm, AtTextEnd, AtEntity, AtIntegerEnd, AtTruthEnd, Sign, Fresh, Signed, Counted, Control, At, Within, Close, Chars, Hash, Numeral, Opened, Digits, TruthDigit, Prolog, Stuck, State, Step, Go, NotRead, Verdict, leave, next_of, run, unless_many, may_end, is_between, is_digit, is_hex_digit, longer, most_of, tags_of, words_of}
+use Rattle.sv_letters.specs.declared.letters.Letters.TheVariants.{OfXml}
+use Rattle.sv_letters.specs.declared.letters.Awaits.{Awaits}
+use Rattle.sv_letters.specs.declared.letters.Awaits.TheVariants.{Character}
 use Rattle.sv_xmlcall.specs.declared.tag.Tag.{Tag}
 use Rattle.sv_xmlcall.proofs.Words.{follow}
 use Rattle.sv_xmlcall.proofs.TagsBack.{tag_back, run_tag}
@@ -31,13 +31,13 @@ Room n frames count bs = (length frames + length bs ≤ n) × (count + length bs
 pub white_free : (b : ℕ) → is_white b ≡ true → eqb b 60 ≡ false
 white_free b w = other_than is_white b 60 refl w
 
-broken_tag : (n : ℕ) (place : Place) (frames : List Frame) (count around : ℕ) (bs : List ℕ) (left : ℕ) → count ≤ n → (left ≡ length bs) ⊎ TagBroken (tags_of place) bs left
+broken_tag : (n : ℕ) (place : Expecting) (frames : List Frame) (count around : ℕ) (bs : List ℕ) (left : ℕ) → count ≤ n → (left ≡ length bs) ⊎ TagBroken (tags_of place) bs left
     → Measured (unless_many (far n) count (NotRead left)) (unless_many the_limits (capped count) (NotRead left)) around count bs
 broken_tag n place frames count around bs left c (inl l) = measured_here n around count (NotRead left) bs c (inl (ap NotRead l))
 broken_tag n place frames count around bs left c (inr b) =
     measured_calm n around count (NotRead left) bs b.word.front b.word.bad c b.word.parts (part_calm b.t b.word.front b.word.part) (inl (ap NotRead (sym b.word.size)))
 
-tag_of : (n : ℕ) (place : Place) (frames : List Frame) (count around : ℕ) (bs : List ℕ) (r : Result (Tag × List ℕ) ℕ) → Room n frames count bs → in_place place frames around → Shorter n frames count bs → tag_at (tags_of place) bs ≡ r
+tag_of : (n : ℕ) (place : Expecting) (frames : List Frame) (count around : ℕ) (bs : List ℕ) (r : Result (Tag × List ℕ) ℕ) → Room n frames count bs → in_place place frames around → Shorter n frames count bs → tag_at (tags_of place) bs ≡ r
     → 1 ≤ length bs → Measured (follow (far n) place frames count r) (follow the_limits place frames (capped count) r) around count bs
 tag_of n place frames count around bs (Ok r) room s again q some =
     let f = tag_back (tags_of place) (length bs) bs r q in
@@ -54,14 +54,14 @@ tag_of n place frames count around bs (Err left) room s again q some =
     broken_tag n place frames count around bs left (omega arith) (tag_broken (tags_of place) (length bs) bs left q)
 
 -- in a tag of which nothing is read
-tag_measured : (n : ℕ) (place : Place) (frames : List Frame) (count around b : ℕ) (bs : List ℕ) → Room n frames count (b ∷ bs) → in_place place frames around → Shorter n frames count (b ∷ bs)
+tag_measured : (n : ℕ) (place : Expecting) (frames : List Frame) (count around b : ℕ) (bs : List ℕ) → Room n frames count (b ∷ bs) → in_place place frames around → Shorter n frames count (b ∷ bs)
     → Judged n (Within place (words_of (tags_of place))) frames count around (b ∷ bs)
 tag_measured n place frames count around b bs room s again =
     measured_to _ _ _ _ around count (b ∷ bs) (run_tag (far n) place frames count (b ∷ bs)) (run_tag the_limits place frames (capped count) (b ∷ bs))
     (tag_of n place frames count around (b ∷ bs) (tag_at (tags_of place) (b ∷ bs)) room s again refl (omega arith))
 
 -- before a tag
-place_measured : (n : ℕ) (place : Place) (frames : List Frame) (count around b : ℕ) (bs : List ℕ) → Room n frames count (b ∷ bs) → in_place place frames around → Shorter n frames count (b ∷ bs)
+place_measured : (n : ℕ) (place : Expecting) (frames : List Frame) (count around b : ℕ) (bs : List ℕ) → Room n frames count (b ∷ bs) → in_place place frames around → Shorter n frames count (b ∷ bs)
     → Judged n (At place) frames count around (b ∷ bs)
 place_measured n place frames count around b bs room s again = elim (cases_Bool (is_white b)) [
   | inl w ↦ judged_step n (At place) (At place) frames count around b bs (white_free b w) (λ limits count. rw w refl) (again (At place) frames count around bs (omega arith) (omega arith) (omega arith) s)
@@ -69,7 +69,7 @@ place_measured n place frames count around b bs room s again = elim (cases_Bool 
 ]
 
 -- at the end of a closing tag
-close_measured : (n : ℕ) (place : Place) (frames : List Frame) (count around b : ℕ) (bs : List ℕ) → Room n frames count (b ∷ bs) → closing place frames around → Shorter n frames count (b ∷ bs)
+close_measured : (n : ℕ) (place : Expecting) (frames : List Frame) (count around b : ℕ) (bs : List ℕ) → Room n frames count (b ∷ bs) → closing place frames around → Shorter n frames count (b ∷ bs)
     → Judged n (Close place) frames count around (b ∷ bs)
 close_measured n place frames count around b bs room s again = elim (cases_Bool (is_white b)) [
   | inl w ↦ judged_step n (Close place) (Close place) frames count around b bs (white_free b w) (λ limits count. rw w refl) (again (Close place) frames count around bs (omega arith) (omega arith) (omega arith) s)
@@ -85,7 +85,7 @@ close_measured n place frames count around b bs room s again = elim (cases_Bool 
   ]
 ]
   where
-    left_step : (limits : Limits) (place : Place) (frames : List Frame) (count b : ℕ) → is_white b ≡ false → eqb b 62 ≡ true → next_of limits (Close place) frames count b ≡ Go (leave limits place frames count)
+    left_step : (limits : Limits) (place : Expecting) (frames : List Frame) (count b : ℕ) → is_white b ≡ false → eqb b 62 ≡ true → next_of limits (Close place) frames count b ≡ Go (leave limits place frames count)
     left_step limits place frames count b w c = rw (w, c) refl
 
 -- in a text

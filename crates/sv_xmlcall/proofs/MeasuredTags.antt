@@ -6,7 +6,7 @@ use Rattle.sv_xmlcall.specs.Trees.{Tree, Trees, Members, text, other, structure,
 use Rattle.sv_xmlcall.specs.Trees.{integer as integer_tree, truth as truth_tree}
 use Rattle.sv_xmlcall.specs.Spelled.{ACall, AReply, snoc, snoc_member, fault_of}
 use Rattle.sv_xmlcall.specs.Openings.{opened, deepest}
-use Rattle.sv_xmlcall.specs.Machine.{Limits, the_limits, Frame, InParam, InReply, InFault, InArray, InMember, Content, InMethod, InName, InString, InDouble, InDate, InBase, InBare, Place, AtStart, AtDeclared, AtMethod, AtCalled, AtParams, AtParamEnd, AtParamsEnd, AtResponse, AtReplyParam, AtReplyParamEnd, AtReplyParamsEnd, AtFaultEnd, AtResponseEnd, AtDone, AtValue, AtForm, AtFormEnd, AtData, AtItems, AtArrayEnd, AtMembers, AtName, AtMemberEnd, AtTextEnd, AtIntegerEnd, AtTruthEnd, AtEntity, Control, At, Within, Close, Chars, Hash, Numeral, Opened, Digits, TruthDigit, Prolog, Stuck, State, Step, Go, Deep, Verdict, TooDeep, at, goes, enter, leave, run, kept, kept_member, whole_fault, after_fault, after_value, counted, open_value, empty_value, tags_of, words_of}
+use Rattle.sv_xmlcall.specs.Machine.{Limits, the_limits, Frame, InParam, InReply, InFault, InArray, InMember, Content, InMethod, InName, InString, InDouble, InDate, InBase, InBare, Expecting, AtStart, AtDeclared, AtMethod, AtCalled, AtParams, AtParamEnd, AtParamsEnd, AtResponse, AtReplyParam, AtReplyParamEnd, AtReplyParamsEnd, AtFaultEnd, AtResponseEnd, AtDone, AtValue, AtForm, AtFormEnd, AtData, AtItems, AtArrayEnd, AtMembers, AtName, AtMemberEnd, AtTextEnd, AtIntegerEnd, AtTruthEnd, AtEntity, Control, At, Within, Close, Chars, Hash, Numeral, Opened, Digits, TruthDigit, Prolog, Stuck, State, Step, Go, Deep, Verdict, TooDeep, at, goes, enter, leave, run, kept, kept_member, whole_fault, after_fault, after_value, counted, open_value, empty_value, tags_of, words_of}
 use Rattle.sv_xmlcall.specs.declared.tag.Tag.{Tag}
 use Rattle.sv_xmlcall.specs.declared.tag.Tag.TheVariants as tag
 use Rattle.sv_xmlcall.proofs.TagsBack.{IsOneOf}
@@ -37,7 +37,7 @@ in_content InMethod frames around = Outside frames around
 in_content (InName before) frames around = Inside frames around
 in_content any frames around = Inside frames around
 
-abbrev pub in_place : Place → List Frame → ℕ → Type 0
+abbrev pub in_place : Expecting → List Frame → ℕ → Type 0
 in_place (AtStart document) frames around = ⊥
 in_place AtValue frames around = Beside frames around
 in_place (AtDeclared document) frames around = Outside frames around
@@ -66,7 +66,7 @@ in_place (AtTruthEnd b) frames around = Inside frames around
 in_place (AtTextEnd content bytes) frames around = in_content content frames around
 in_place (AtEntity content bytes) frames around = in_content content frames around
 
-abbrev pub closing : Place → List Frame → ℕ → Type 0
+abbrev pub closing : Expecting → List Frame → ℕ → Type 0
 closing (AtForm white) frames around = Beside frames around
 closing (AtFormEnd value) frames around = Beside frames around
 closing (AtTextEnd InBare bytes) frames around = Beside frames around
@@ -202,7 +202,7 @@ beyond_value n value (InMember before name ∷ below) count around s = record {
 beyond_to : (n : ℕ) (control : Control) (frames : List Frame) (count around : ℕ) → Stands control frames around → Beyond n (at control frames count) (at control frames (capped count)) frames count around
 beyond_to n control frames count around s = record { control = control; frames2 = frames; far_is = refl; near_is = refl; few = omega arith; stands = s }
 
-abbrev Left : ℕ → Place → List Frame → ℕ → ℕ → Type 0
+abbrev Left : ℕ → Expecting → List Frame → ℕ → ℕ → Type 0
 Left n place frames count around = Beyond n (leave (far n) place frames count) (leave the_limits place frames (capped count)) frames count around
 
 text_left : (n : ℕ) (content : Content) (bytes : List ℕ) (frames : List Frame) (count around : ℕ) → closing (AtTextEnd content bytes) frames around → Left n (AtTextEnd content bytes) frames count around
@@ -222,7 +222,7 @@ text_left n InBase bytes frames count around s = beyond_to n (At (AtFormEnd (oth
 text_left n InBare bytes frames count around s = beyond_value n (text bytes) frames count around s
 
 -- after the end of a closing tag
-pub left_behind : (n : ℕ) (place : Place) (frames : List Frame) (count around : ℕ) → closing place frames around → Left n place frames count around
+pub left_behind : (n : ℕ) (place : Expecting) (frames : List Frame) (count around : ℕ) → closing place frames around → Left n place frames count around
 left_behind n (AtStart document) frames count around s = absurd s
 left_behind n AtValue frames count around s = absurd s
 left_behind n (AtEntity content bytes) frames count around s = absurd s
@@ -254,13 +254,13 @@ left_behind n (AtTextEnd content bytes) frames count around s = text_left n cont
 -- before a tag and what follows it
 pub record Spot : Type 0 where
   pub size : ℕ
-  pub place : Place
+  pub place : Expecting
   pub frames : List Frame
   pub count : ℕ
   pub around : ℕ
   pub rest : List ℕ
 
-abbrev pub spot : ℕ → Place → List Frame → ℕ → ℕ → List ℕ → Spot
+abbrev pub spot : ℕ → Expecting → List Frame → ℕ → ℕ → List ℕ → Spot
 spot size place frames count around rest = record { size = size; place = place; frames = frames; count = count; around = around; rest = rest }
 
 abbrev pub step_far : Spot → Tag → Step

@@ -6,10 +6,10 @@ use Rattle.std.proofs.lemmas.Bool.{cases_Bool, cases_lt, cases_eq, eqb-true, leb
 use lib.Utf8.{encode}
 use Rattle.sv_xmlcall.specs.Tags.{spelling}
 use Rattle.sv_xmlcall.specs.Spelled.{signed}
-use Rattle.sv_xmlcall.specs.Characters.{is_allowed}
+use Rattle.sv_letters.specs.Letters.{is_allowed}
 use Rattle.sv_xmlcall.specs.Spells.{IsWhite, Ampersand, Less, Greater, Quote, Apostrophe, Letter, Plain, Named, Numbered, character_of, printed_letter, number_sign, IsLetter, AreLetters, printed_text, text_of, printed_shut, Mark, NoMark, Plus, Minus, printed_mark, is_minus}
-use Rattle.sv_xmlcall.specs.Machine.{Limits, AtTextEnd, AtEntity, AtIntegerEnd, Content, InMethod, InName, InString, InDouble, InDate, InBase, InBare, Frame, NotRead, Within, Hash, Numeral, Digits, Sign, Fresh, Signed, Counted, at, enter, leave, tags_of, words_of, run, base_of, most_of, is_digit, longer, end_of, may_end, is_empty, unless_many}
-use Rattle.sv_xmlcall.specs.declared.letters.Awaits.TheVariants.{Character}
+use Rattle.sv_xmlcall.specs.Machine.{Limits, AtTextEnd, AtEntity, AtIntegerEnd, Content, InMethod, InName, Frame, NotRead, Within, Hash, Numeral, Digits, Sign, Fresh, Signed, Counted, at, enter, leave, tags_of, words_of, run, base_of, most_of, is_digit, longer, end_of, may_end, is_empty, unless_many}
+use Rattle.sv_letters.specs.declared.letters.Awaits.TheVariants.{Character}
 use Rattle.sv_xmlcall.specs.declared.tag.Tag.{Tag}
 use Rattle.sv_xmlcall.specs.declared.tag.Tag.TheVariants as tag
 use Rattle.sv_xmlcall.proofs.Passing.{in_text}

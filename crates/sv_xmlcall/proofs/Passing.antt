@@ -9,15 +9,15 @@ use Rattle.std.proofs.lemmas.Str.{encode_ascii}
 use lib.Utf8.{encode, scalar_cases}
 use Rattle.sv_xmlcall.specs.Tags.{spelling}
 use Rattle.sv_xmlcall.specs.Spelled.{is_white}
-use Rattle.sv_xmlcall.specs.Characters.{is_allowed, allows, after, are_letters, is_whole}
-use Rattle.sv_xmlcall.specs.Spells.{IsWhite, Entity, Ampersand, Less, Greater, Quote, Apostrophe, Letter, Plain, Named, Numbered, character_of, printed_letter, printed_entity, entity_character, number_sign, IsLetter, AreLetters, printed_text, text_of, Ending, IsEnding, printed_shut, printed_end}
-use Rattle.sv_xmlcall.specs.Machine.{Limits, Place, Content, InBare, Frame, State, TooDeep, At, Close, Chars, Hash, Numeral, Opened, Digits, Counted, Sign, at, run, leave, base_of, most_of, is_digit, longer}
+use Rattle.sv_letters.specs.Letters.{is_allowed, allows, after, are_letters, is_whole}
+use Rattle.sv_xmlcall.specs.Spells.{IsWhite, Entity, Ampersand, Letter, Plain, Named, Numbered, character_of, printed_letter, printed_entity, entity_character, number_sign, IsLetter, AreLetters, printed_text, text_of, Ending, IsEnding, printed_shut, printed_end}
+use Rattle.sv_xmlcall.specs.Machine.{Limits, Expecting, Content, InBare, Frame, State, TooDeep, At, Close, Chars, Hash, Numeral, Opened, Digits, Counted, Sign, at, run, leave, base_of, most_of, is_digit, longer}
 use Rattle.sv_xmlcall.specs.Machine.{digit_value as value_of_digit}
-use Rattle.sv_xmlcall.specs.declared.letters.Letters.TheVariants.{OfXml}
-use Rattle.sv_xmlcall.specs.declared.letters.Awaits.{Awaits}
-use Rattle.sv_xmlcall.specs.declared.letters.Awaits.TheVariants.{Character, Private, Continuation}
+use Rattle.sv_letters.specs.declared.letters.Letters.TheVariants.{OfXml}
+use Rattle.sv_letters.specs.declared.letters.Awaits.{Awaits}
+use Rattle.sv_letters.specs.declared.letters.Awaits.TheVariants.{Character, Private, Continuation}
 use Rattle.sv_xmlcall.specs.declared.tag.Tag.{Tag}
-use Rattle.sv_xmlcall.proofs.LetterLaws.{accept_char}
+use Rattle.sv_letters.proofs.LetterLaws.{accept_char}
 use Rattle.sv_xmlcall.proofs.Texts.{allowed_scalar}
 
 -- these bytes lead from one state to another
@@ -47,7 +47,7 @@ pub to_state : {limits : Limits} {s t u : State} {a : List ℕ} → Passes limit
 to_state {limits} {s} {t} {u} {a} p e = subst (λ (x : State). Passes limits s a x) e p
 
 -- white space before a tag
-pub white : (limits : Limits) (place : Place) (frames : List Frame) (count : ℕ) (gap : List ℕ) → IsWhite gap
+pub white : (limits : Limits) (place : Expecting) (frames : List Frame) (count : ℕ) (gap : List ℕ) → IsWhite gap
     → Passes limits (at (At place) frames count) gap (at (At place) frames count)
 white limits place frames count [] w = nothing
 white limits place frames count (b ∷ bs) w =
@@ -64,7 +64,7 @@ white_opened limits kept frames count (b ∷ bs) w =
     (ap (λ (k : List ℕ). at (Opened k) frames count) (append_assoc kept (b ∷ []) bs))
 
 -- the end of a closing tag
-pub shut : (limits : Limits) (place : Place) (frames : List Frame) (count : ℕ) (inside : List ℕ) → IsWhite inside
+pub shut : (limits : Limits) (place : Expecting) (frames : List Frame) (count : ℕ) (inside : List ℕ) → IsWhite inside
     → Passes limits (at (Close place) frames count) (inside ++ codes ">") (leave limits place frames count)
 shut limits place frames count [] w = record { goes = λ rest. refl }
 shut limits place frames count (b ∷ bs) w =
@@ -72,7 +72,7 @@ shut limits place frames count (b ∷ bs) w =
     record { goes = λ rest. rw p.0 ((shut limits place frames count bs p.1).goes rest) }
 
 -- a closing tag after a text
-pub shuts : (limits : Limits) (before : State) (t : Tag) (place : Place) (frames : List Frame) (count : ℕ) (inside : List ℕ)
+pub shuts : (limits : Limits) (before : State) (t : Tag) (place : Expecting) (frames : List Frame) (count : ℕ) (inside : List ℕ)
     → Passes limits before (spelling t) (at (Close place) frames count) → IsWhite inside
     → Passes limits before (printed_shut t inside) (leave limits place frames count)
 shuts limits before t place frames count inside p w = record {
@@ -82,7 +82,7 @@ shuts limits before t place frames count inside p w = record {
 }
 
 -- a closing tag after white space
-pub ends : (limits : Limits) (t : Tag) (place : Place) (frames : List Frame) (count : ℕ) (ending : Ending)
+pub ends : (limits : Limits) (t : Tag) (place : Expecting) (frames : List Frame) (count : ℕ) (ending : Ending)
     → Passes limits (at (At place) frames count) (spelling t) (at (Close place) frames count) → IsEnding ending
     → Passes limits (at (At place) frames count) (printed_end t ending) (leave limits place frames count)
 ends limits t place frames count ending p w =
@@ -138,7 +138,7 @@ free_char c a b = elim (cases_lt c 128) [
 
 letters_of_char : (c : ℕ) → is_allowed c ≡ true → are_letters OfXml Character (encode c) ≡ true
 letters_of_char c e =
-    subst (λ (x : List ℕ). are_letters OfXml Character x ≡ true) (append-nil (encode c)) (accept_char OfXml c (allowed_scalar c e) e [])
+    subst (λ (x : List ℕ). are_letters OfXml Character x ≡ true) (append-nil (encode c)) (accept_char OfXml refl c (allowed_scalar c e) e [])
 
 plain_pass : (limits : Limits) (content : Content) (kept : List ℕ) (frames : List Frame) (count : ℕ) (c : ℕ) → IsLetter (Plain c)
     → Passes limits (in_text content kept frames count) (encode_utf8 c) (in_text content (kept ++ encode_utf8 c) frames count)

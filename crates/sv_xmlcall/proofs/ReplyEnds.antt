@@ -5,7 +5,7 @@ use Rattle.sv_xmlcall.specs.Trees.{Tree, Reply, Returns}
 use Rattle.sv_xmlcall.specs.Spelled.{AReply, fault_of}
 use Rattle.sv_xmlcall.specs.Atoms.{closing_at}
 use Rattle.sv_xmlcall.specs.Reading.{◌>>=◌}
-use Rattle.sv_xmlcall.specs.Documents.{param_end_at, fault_end_at, end_at, value_end_at, faulty_at, Comes}
+use Rattle.sv_xmlcall.specs.Documents.{param_end_at, fault_end_at, end_at, value_end_at, faulty_at}
 use Rattle.sv_xmlcall.specs.Machine.{the_limits, Frame, InFault, Verdict, Read, NotRead, AtReplyParamEnd, AtReplyParamsEnd, AtFaultEnd, AtResponseEnd, AtDone, At, Stuck, at, after_value, after_fault, run, unless_many, whole_fault}
 use Rattle.sv_xmlcall.specs.Running.{Halts}
 use Rattle.sv_xmlcall.specs.Outcome.{Stops}

@@ -7,7 +7,7 @@ use Rattle.sv_xmlcall.specs.Trees.{Tree, Reply, Returns}
 use Rattle.sv_xmlcall.specs.Spells.{IsWhite, Ending, IsEnding, printed_end, printed_value, value_of, ValueText, IsValue}
 use Rattle.sv_xmlcall.specs.SpelledTexts.{HeadText, printed_head, IsHead, ParamText, IsParam, printed_param, AnswerText, Answer, Fault, IsAnswer, printed_answer, answer_of, ReplyText, IsReply, printed_reply}
 use Rattle.sv_xmlcall.specs.Beginnings.{FaultText, IsFaultText, printed_fault, BeginsReply}
-use Rattle.sv_xmlcall.specs.Machine.{Limits, Place, Frame, Control, State, Step, Go, Bad, Deep, AtReplyParamsEnd, AtFaultEnd, AtResponseEnd, AtDone, NotRead, TooMany, At, Within, Close, Stuck, at, run, next_of, next, on_step, unless_many, enter, leave, within, going_on, words_of, tags_of, after_fault, whole_fault}
+use Rattle.sv_xmlcall.specs.Machine.{Limits, Expecting, Frame, Control, State, Step, Go, Bad, Deep, AtReplyParamsEnd, AtFaultEnd, AtResponseEnd, AtDone, NotRead, TooMany, At, Within, Close, Stuck, at, run, next_of, next, on_step, unless_many, enter, leave, within, going_on, words_of, tags_of, after_fault, whole_fault}
 use Rattle.sv_xmlcall.specs.declared.tag.Tag.{Tag}
 use Rattle.sv_xmlcall.specs.declared.tag.Tag.TheVariants as tag
 use Rattle.sv_xmlcall.proofs.ValuePassing.{count_behind, held}
@@ -21,7 +21,7 @@ use Rattle.sv_xmlcall.proofs.NestedFronts.{on_two}
 use Rattle.sv_xmlcall.proofs.CallFronts.{done_front}
 
 -- a place after which no value is opened
-abbrev IsLast : Place → Type 0
+abbrev IsLast : Expecting → Type 0
 IsLast (AtFaultEnd reply) = Unit {0}
 IsLast (AtResponseEnd reply) = Unit {0}
 IsLast (AtDone spelled) = Unit {0}
@@ -40,19 +40,19 @@ Counts count (Go s) = IsEnd s.control × (s.count ≡ count)
 Counts count Bad = Unit {0}
 Counts count Deep = Unit {0}
 
-enter_counts : (limits : Limits) (place : Place) (t : Tag) (frames : List Frame) (count : ℕ) → IsLast place → Counts count (enter limits place t frames count)
+enter_counts : (limits : Limits) (place : Expecting) (t : Tag) (frames : List Frame) (count : ℕ) → IsLast place → Counts count (enter limits place t frames count)
 enter_counts limits (AtFaultEnd reply) t frames count l = (tt, refl)
 enter_counts limits (AtResponseEnd reply) t frames count l = (tt, refl)
 enter_counts limits (AtDone spelled) t frames count l = (tt, refl)
 enter_counts limits place t frames count l = absurd l
 
-leave_counts : (limits : Limits) (place : Place) (frames : List Frame) (count : ℕ) → IsLast place → Counts count (Go (leave limits place frames count))
+leave_counts : (limits : Limits) (place : Expecting) (frames : List Frame) (count : ℕ) → IsLast place → Counts count (Go (leave limits place frames count))
 leave_counts limits (AtFaultEnd reply) frames count l = (tt, refl)
 leave_counts limits (AtResponseEnd reply) frames count l = (tt, refl)
 leave_counts limits (AtDone spelled) frames count l = (tt, refl)
 leave_counts limits place frames count l = absurd l
 
-within_counts : (limits : Limits) (place : Place) (words : List (List ℕ × Tag)) (frames : List Frame) (count : ℕ) → IsLast place → Counts count (within limits place words frames count)
+within_counts : (limits : Limits) (place : Expecting) (words : List (List ℕ × Tag)) (frames : List Frame) (count : ℕ) → IsLast place → Counts count (within limits place words frames count)
 within_counts limits place [] frames count l = tt
 within_counts limits place (([], t) ∷ words) frames count l = enter_counts limits place t frames count l
 within_counts limits place ((w ∷ ws, t) ∷ words) frames count l = (l, refl)

@@ -3,16 +3,16 @@ use Rattle.std.proofs.Common.{◌≡◌, ℕ, zero, suc, ◌-◌, Bool, true, fa
 use Rattle.std.proofs.lemmas.Bool.{false≢true, cases_Bool, and_parts, eqb-true}
 use Rattle.std.proofs.lemmas.List.{take_at}
 use Rattle.std.specs.List.{list_all}
-use Rattle.sv_xmlcall.specs.Characters.{allows, after, are_letters}
+use Rattle.sv_letters.specs.Letters.{allows, after, are_letters}
 use Rattle.sv_xmlcall.specs.Simple.{is_simple, begins_run, simple_run, behind_run, run_at, behind_at, is_wide, wide_run, awaits_behind, behind_wide}
 use Rattle.sv_xmlcall.specs.Reading.{piece_at, text_at}
 use Rattle.sv_xmlcall.specs.Outcome.{Stops}
 use Rattle.sv_xmlcall.specs.declared.stop.Stop.{Stop}
 use Rattle.sv_xmlcall.specs.declared.stop.Stop.TheVariants as stop
 use Rattle.sv_xmlcall.specs.Written.{escaped}
-use Rattle.sv_xmlcall.specs.declared.letters.Letters.TheVariants.{OfXml}
-use Rattle.sv_xmlcall.specs.declared.letters.Awaits.{Awaits}
-use Rattle.sv_xmlcall.specs.declared.letters.Awaits.TheVariants.{Character, Private, Continuation}
+use Rattle.sv_letters.specs.declared.letters.Letters.TheVariants.{OfXml}
+use Rattle.sv_letters.specs.declared.letters.Awaits.{Awaits}
+use Rattle.sv_letters.specs.declared.letters.Awaits.TheVariants.{Character, Private, Continuation}
 use Rattle.sv_xmlcall.proofs.Texts.{Open, Reaches, reaches_more, reaches_bad}
 
 not_true : (x : Bool) → not x ≡ true → x ≡ false

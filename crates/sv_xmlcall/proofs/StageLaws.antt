@@ -8,14 +8,14 @@ use Rattle.sv_xmlcall.specs.Spelled.{is_white, signed}
 use Rattle.sv_xmlcall.specs.Tags.{tag_at}
 use Rattle.sv_xmlcall.specs.Atoms.{skip_white, tag_behind, close_at, close_behind, closing_at}
 use Rattle.sv_xmlcall.specs.Reading.{◌>>=◌, piece_at, text_at, shut_at, content_at, size_from, size_at, integer_at, truth_at}
-use Rattle.sv_xmlcall.specs.Machine.{the_limits, Frame, Content, InName, InString, InDouble, InDate, InBase, InBare, State, Step, Go, Deep, Verdict, NotRead, TooDeep, Place, AtValue, AtForm, AtFormEnd, AtData, AtItems, AtArrayEnd, AtMembers, AtName, AtMemberEnd, AtTextEnd, AtIntegerEnd, AtTruthEnd, At, Within, Close, Chars, Digits, TruthDigit, Sign, Fresh, Signed, Counted, at, tags_of, words_of, end_of, end_of_integer, enter, after_text, run, on_step, unless_many, may_end, most_of}
+use Rattle.sv_xmlcall.specs.Machine.{the_limits, Frame, Content, InName, InString, InDouble, InDate, InBase, InBare, State, Step, Go, Deep, Verdict, NotRead, TooDeep, Expecting, AtValue, AtForm, AtFormEnd, AtData, AtItems, AtArrayEnd, AtMembers, AtName, AtMemberEnd, AtTextEnd, AtIntegerEnd, AtTruthEnd, At, Within, Close, Chars, Digits, TruthDigit, Sign, Fresh, Signed, Counted, at, tags_of, words_of, end_of, end_of_integer, enter, after_text, run, on_step, unless_many, may_end, most_of}
 use Rattle.sv_xmlcall.specs.Machine.{Opened as behind_value}
 use Rattle.sv_xmlcall.specs.Running.{Closes, Halts}
 use Rattle.sv_xmlcall.specs.Outcome.{Stops, Gives}
 use Rattle.sv_xmlcall.specs.declared.nested.Settled.{Settled}
 use Rattle.sv_xmlcall.specs.Stages.{Standing, Before, Opened, Formed, Data, Items, Further, Ended, Turning, On, Opening, Named, Whole, is_empty_tag, white_of, bare_at, forms, form_of, typed_at, behind_white, opened_at, formed_at, array_end_at, data_of, item_of, member_of, ended_at, stage_at}
 use Rattle.sv_xmlcall.specs.Turns.{stand, turned, Settles}
-use Rattle.sv_xmlcall.specs.declared.letters.Awaits.TheVariants.{Character}
+use Rattle.sv_letters.specs.declared.letters.Awaits.TheVariants.{Character}
 use Rattle.sv_xmlcall.specs.declared.tag.Tag.{Tag}
 use Rattle.sv_xmlcall.specs.declared.tag.Tag.TheVariants as tag
 use Rattle.sv_xmlcall.specs.declared.stop.Stop.{Stop}
@@ -164,7 +164,7 @@ abbrev pub on_turn : List Frame → ℕ → Result (Turning × List ℕ) ℕ →
 on_turn frames count (Ok r) = on_step (turned r.0 frames count) (λ s. run the_limits s r.1) (unless_many the_limits count (NotRead (suc (length r.1))))
 on_turn frames count (Err left) = unless_many the_limits count (NotRead left)
 
-abbrev Behind : Place → Tag → List Frame → ℕ → List ℕ → Verdict
+abbrev Behind : Expecting → Tag → List Frame → ℕ → List ℕ → Verdict
 Behind place t frames count rest =
     on_step (enter the_limits place t frames count) (λ s. run the_limits s rest) (unless_many the_limits count (NotRead (suc (length rest))))
 

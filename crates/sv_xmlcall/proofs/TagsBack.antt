@@ -4,7 +4,7 @@ use Rattle.std.proofs.lemmas.Bool.{cases_Bool, eqb-true}
 use Rattle.sv_xmlcall.specs.Tags.{spelling, word_at, or_later, tag_from, tag_at}
 use Rattle.sv_xmlcall.specs.Spelled.{Spelled, is_white}
 use Rattle.sv_xmlcall.specs.Spells.{IsWhite, Ending, IsEnding, printed_shut, printed_end}
-use Rattle.sv_xmlcall.specs.Machine.{Limits, Place, AtDone, AtStart, Frame, Step, Go, Bad, Deep, Read, NotRead, TooMany, TooDeep, At, Within, Close, Opened, at, goes, enter, leave, finished, tags_of, words_of, run, on_step, unless_many, open_value, empty_value, after_value, counted}
+use Rattle.sv_xmlcall.specs.Machine.{Limits, Expecting, AtDone, AtStart, Frame, Step, Go, Bad, Deep, Read, NotRead, TooMany, TooDeep, At, Within, Close, Opened, at, goes, enter, leave, finished, tags_of, words_of, run, on_step, unless_many, open_value, empty_value, after_value, counted}
 use Rattle.sv_xmlcall.specs.Trees.{text}
 use Rattle.sv_xmlcall.specs.Running.{IsOpen}
 use Rattle.sv_xmlcall.specs.declared.tag.Tag.{Tag}
@@ -43,7 +43,7 @@ IsOneOf t [] = ⊥
 IsOneOf t (u ∷ tags) = (t ≡ u) ⊎ IsOneOf t tags
 
 -- a tag of a place was read
-pub record Entered (limits : Limits) (place : Place) (frames : List Frame) (count : ℕ) (bs : List ℕ) (spelled : Spelled) : Type 0 where
+pub record Entered (limits : Limits) (place : Expecting) (frames : List Frame) (count : ℕ) (bs : List ℕ) (spelled : Spelled) : Type 0 where
   pub t : Tag
   pub one_of : IsOneOf t (tags_of place)
   pub rest : List ℕ
@@ -98,14 +98,14 @@ pub tag_back : (tags : List Tag) (least : ℕ) (bs : List ℕ) (r : Tag × List 
 tag_back [] least bs r e = not_tag least r e
 tag_back (t ∷ tags) least bs r e = later_back t tags least bs (word_at (spelling t) bs) r (λ l f. tag_back tags l bs r f) refl e
 
-pub run_tag : (limits : Limits) (place : Place) (frames : List Frame) (count : ℕ) (bs : List ℕ)
+pub run_tag : (limits : Limits) (place : Expecting) (frames : List Frame) (count : ℕ) (bs : List ℕ)
     → run limits (at (Within place (words_of (tags_of place))) frames count) bs ≡ follow limits place frames count (tag_at (tags_of place) bs)
 run_tag limits place frames count bs =
     let f = fit place in
     run_within limits place frames count bs (words_of (tags_of place)) f.full f.apart
     ∙ ap (follow limits place frames count) (sym (tag_words (tags_of place) (length bs) bs))
 
-follow_back : (limits : Limits) (place : Place) (frames : List Frame) (count : ℕ) (bs : List ℕ) (spelled : Spelled) (r : Result (Tag × List ℕ) ℕ)
+follow_back : (limits : Limits) (place : Expecting) (frames : List Frame) (count : ℕ) (bs : List ℕ) (spelled : Spelled) (r : Result (Tag × List ℕ) ℕ)
     → tag_at (tags_of place) bs ≡ r → follow limits place frames count r ≡ Read spelled → Entered limits place frames count bs spelled
 follow_back limits place frames count bs spelled (Ok r) t e =
     let f = tag_back (tags_of place) (length bs) bs r t in
@@ -113,18 +113,18 @@ follow_back limits place frames count bs spelled (Ok r) t e =
 follow_back limits place frames count bs spelled (Err left) t e = absurd (not_read limits count left spelled e)
 
 -- within a tag of which nothing is read
-pub entered : (limits : Limits) (place : Place) (frames : List Frame) (count : ℕ) (bs : List ℕ) (spelled : Spelled)
+pub entered : (limits : Limits) (place : Expecting) (frames : List Frame) (count : ℕ) (bs : List ℕ) (spelled : Spelled)
     → run limits (at (Within place (words_of (tags_of place))) frames count) bs ≡ Read spelled → Entered limits place frames count bs spelled
 entered limits place frames count bs spelled e =
     follow_back limits place frames count bs spelled (tag_at (tags_of place) bs) refl (sym (run_tag limits place frames count bs) ∙ e)
 
-pub open_end : (place : Place) → IsOpen place → finished (At place) ≡ NotRead 0
+pub open_end : (place : Expecting) → IsOpen place → finished (At place) ≡ NotRead 0
 open_end (AtDone spelled) o = absurd o
 open_end (AtStart document) o = refl
 open_end place o = refl
 
 -- white space and a tag of a place were read
-pub record Ahead (limits : Limits) (place : Place) (frames : List Frame) (count : ℕ) (bs : List ℕ) (spelled : Spelled) : Type 0 where
+pub record Ahead (limits : Limits) (place : Expecting) (frames : List Frame) (count : ℕ) (bs : List ℕ) (spelled : Spelled) : Type 0 where
   pub gap : List ℕ
   pub white : IsWhite gap
   pub t : Tag
@@ -134,7 +134,7 @@ pub record Ahead (limits : Limits) (place : Place) (frames : List Frame) (count 
   pub goes : Continues limits (enter limits place t frames count) rest spelled
 
 -- before a tag
-pub ahead : (limits : Limits) (place : Place) (frames : List Frame) (count : ℕ) (bs : List ℕ) (spelled : Spelled) → IsOpen place
+pub ahead : (limits : Limits) (place : Expecting) (frames : List Frame) (count : ℕ) (bs : List ℕ) (spelled : Spelled) → IsOpen place
     → run limits (at (At place) frames count) bs ≡ Read spelled → Ahead limits place frames count bs spelled
 ahead limits place frames count [] spelled o e =
     absurd (not_read limits count 0 spelled (ap (unless_many limits count) (sym (open_end place o)) ∙ e))
@@ -148,14 +148,14 @@ ahead limits place frames count (b ∷ bs) spelled o e = elim (cases_Bool (is_wh
 ]
 
 -- the end of a closing tag was read
-pub record Shut (limits : Limits) (place : Place) (frames : List Frame) (count : ℕ) (bs : List ℕ) (spelled : Spelled) : Type 0 where
+pub record Shut (limits : Limits) (place : Expecting) (frames : List Frame) (count : ℕ) (bs : List ℕ) (spelled : Spelled) : Type 0 where
   pub inside : List ℕ
   pub white : IsWhite inside
   pub rest : List ℕ
   pub parts : bs ≡ inside ++ codes ">" ++ rest
   pub goes : run limits (leave limits place frames count) rest ≡ Read spelled
 
-pub shut_back : (limits : Limits) (place : Place) (frames : List Frame) (count : ℕ) (bs : List ℕ) (spelled : Spelled)
+pub shut_back : (limits : Limits) (place : Expecting) (frames : List Frame) (count : ℕ) (bs : List ℕ) (spelled : Spelled)
     → run limits (at (Close place) frames count) bs ≡ Read spelled → Shut limits place frames count bs spelled
 shut_back limits place frames count [] spelled e = absurd (not_read limits count 0 spelled e)
 shut_back limits place frames count (b ∷ bs) spelled e = elim (cases_Bool (is_white b)) [
@@ -169,7 +169,7 @@ shut_back limits place frames count (b ∷ bs) spelled e = elim (cases_Bool (is_
 ]
 
 -- a closing tag was read, and this is left
-pub record Ended (limits : Limits) (place : Place) (t : Tag) (frames : List Frame) (count : ℕ) (bs : List ℕ) (spelled : Spelled) : Type 0 where
+pub record Ended (limits : Limits) (place : Expecting) (t : Tag) (frames : List Frame) (count : ℕ) (bs : List ℕ) (spelled : Spelled) : Type 0 where
   pub ending : Ending
   pub right : IsEnding ending
   pub rest : List ℕ
@@ -180,7 +180,7 @@ shut_parts : (s inside rest : List ℕ) → s ++ (inside ++ codes ">" ++ rest) �
 shut_parts s inside rest = simp append_assoc refl
 
 -- a closing tag after white space, of which the name was read
-pub close_back : (limits : Limits) (place : Place) (t : Tag) (frames : List Frame) (count : ℕ) (gap rest bs : List ℕ) (spelled : Spelled)
+pub close_back : (limits : Limits) (place : Expecting) (t : Tag) (frames : List Frame) (count : ℕ) (gap rest bs : List ℕ) (spelled : Spelled)
     → IsWhite gap → bs ≡ gap ++ spelling t ++ rest → run limits (at (Close place) frames count) rest ≡ Read spelled → Ended limits place t frames count bs spelled
 close_back limits place t frames count gap rest bs spelled w p e =
     let s = shut_back limits place frames count rest spelled e in
@@ -196,7 +196,7 @@ close_back limits place t frames count gap rest bs spelled w p e =
     close_parts gap s inside rest = simp append_assoc refl
 
 -- a place at which one closing tag stands alone
-pub record Alone (limits : Limits) (place : Place) (t : Tag) : Type 0 where
+pub record Alone (limits : Limits) (place : Expecting) (t : Tag) : Type 0 where
   pub only : tags_of place ≡ t ∷ []
   pub goes_on : IsOpen place
   pub shut : (frames : List Frame) (count : ℕ) → enter limits place t frames count ≡ goes (Close place) frames count
@@ -208,7 +208,7 @@ only_one t u tags e o = last (subst (λ (x : List Tag). IsOneOf t x) e o)
     last (inl e) = e
     last (inr e) = absurd e
 
-pub end_back : (limits : Limits) (place : Place) (t : Tag) (frames : List Frame) (count : ℕ) (bs : List ℕ) (spelled : Spelled) → Alone limits place t
+pub end_back : (limits : Limits) (place : Expecting) (t : Tag) (frames : List Frame) (count : ℕ) (bs : List ℕ) (spelled : Spelled) → Alone limits place t
     → run limits (at (At place) frames count) bs ≡ Read spelled → Ended limits place t frames count bs spelled
 end_back limits place t frames count bs spelled one e =
     let a = ahead limits place frames count bs spelled one.goes_on e in
@@ -219,14 +219,14 @@ end_back limits place t frames count bs spelled one e =
     close_back limits place t frames count a.gap a.rest bs spelled a.white (a.parts ∙ ap (λ (x : Tag). a.gap ++ spelling x ++ a.rest) is) go
 
 -- a closing tag right after a text was read
-pub record ShutBehind (limits : Limits) (place : Place) (t : Tag) (frames : List Frame) (count : ℕ) (bs : List ℕ) (spelled : Spelled) : Type 0 where
+pub record ShutBehind (limits : Limits) (place : Expecting) (t : Tag) (frames : List Frame) (count : ℕ) (bs : List ℕ) (spelled : Spelled) : Type 0 where
   pub inside : List ℕ
   pub white : IsWhite inside
   pub rest : List ℕ
   pub parts : bs ≡ printed_shut t inside ++ rest
   pub goes : run limits (leave limits place frames count) rest ≡ Read spelled
 
-pub shut_behind : (limits : Limits) (place : Place) (t : Tag) (frames : List Frame) (count : ℕ) (bs : List ℕ) (spelled : Spelled) → Alone limits place t
+pub shut_behind : (limits : Limits) (place : Expecting) (t : Tag) (frames : List Frame) (count : ℕ) (bs : List ℕ) (spelled : Spelled) → Alone limits place t
     → run limits (at (Within place (words_of (tags_of place))) frames count) bs ≡ Read spelled → ShutBehind limits place t frames count bs spelled
 shut_behind limits place t frames count bs spelled one e =
     let a = entered limits place frames count bs spelled e in

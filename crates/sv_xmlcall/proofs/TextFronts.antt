@@ -1,14 +1,15 @@
 -- Prefixes of texts: where reading is refused within a text, a number or a closing tag, the bytes before begin one.
-use Rattle.std.proofs.Common.{◌≡◌, ℕ, zero, suc, ◌≤◌, Bool, true, false, eqb, ltb, List, [], ◌∷◌, ◌++◌, length, inl, inr, refl, sym, ap, ◌∙◌, subst, arith, append_assoc, append-nil, codes, ◌⊎◌, if◌then◌else◌}
+use Rattle.std.proofs.Common.{◌≡◌, ℕ, zero, suc, true, false, eqb, List, [], ◌∷◌, ◌++◌, length, inl, inr, refl, sym, ap, ◌∙◌, subst, arith, append_assoc, append-nil, codes, ◌⊎◌}
 use Rattle.std.specs.List.{list_all}
-use Rattle.std.proofs.lemmas.Bool.{cases_Bool, cases_eq, eqb-true, le-leb}
+use Rattle.std.proofs.lemmas.Bool.{cases_Bool, eqb-true, le-leb}
 use Rattle.sv_xmlcall.specs.Tags.{spelling}
-use Rattle.sv_xmlcall.specs.Characters.{allows, after, after_continuation, are_letters, is_whole}
+use Rattle.sv_letters.specs.Letters.{allows, after, after_continuation, are_letters, is_whole}
 use Rattle.sv_xmlcall.specs.Spells.{IsWhite, Ending, IsEnding, printed_shut, printed_end}
-use Rattle.sv_xmlcall.specs.Machine.{Limits, Place, Content, Frame, Step, NotRead, At, Within, Close, Chars, at, enter, leave, tags_of, words_of, run, is_between, unless_many}
-use Rattle.sv_xmlcall.specs.declared.letters.Letters.TheVariants.{OfXml}
-use Rattle.sv_xmlcall.specs.declared.letters.Awaits.{Awaits}
-use Rattle.sv_xmlcall.specs.declared.letters.Awaits.TheVariants.{Character, Private, Continuation}
+use Rattle.sv_xmlcall.specs.Machine.{Limits, Expecting, Content, Frame, Step, NotRead, At, Within, Close, Chars, at, enter, leave, tags_of, words_of, run, is_between, unless_many}
+use Rattle.sv_letters.specs.declared.letters.Letters.TheVariants.{OfXml}
+use Rattle.sv_letters.specs.declared.letters.Awaits.{Awaits}
+use Rattle.sv_letters.specs.declared.letters.Awaits.TheVariants.{Character, Private, Continuation}
+use Rattle.sv_letters.proofs.LetterLaws.{IsOpen, after_open}
 use Rattle.sv_xmlcall.specs.declared.tag.Tag.{Tag}
 use Rattle.sv_xmlcall.proofs.Passing.{in_text, is_free, free_high}
 use Rattle.sv_xmlcall.proofs.TagsBack.{IsOneOf, Alone, only_one}
@@ -19,7 +20,7 @@ use Rattle.sv_xmlcall.proofs.Fronts.{IsFront, front_none, front_on, front_behind
 abbrev pub EndFronts : Tag → (List ℕ → Type 0) → Type 0
 EndFronts t P = (ending : Ending) → IsEnding ending → (g : List ℕ) → IsFront g (printed_end t ending) → P g
 
-abbrev pub EndBehind : Limits → Place → Tag → List Frame → ℕ → List ℕ → ℕ → (List ℕ → Type 0) → Type 0
+abbrev pub EndBehind : Limits → Expecting → Tag → List Frame → ℕ → List ℕ → ℕ → (List ℕ → Type 0) → Type 0
 EndBehind limits place t frames count bs left P = (ending : Ending) → IsEnding ending → (rest : List ℕ) → bs ≡ printed_end t ending ++ rest
     → run limits (leave limits place frames count) rest ≡ NotRead left → Good (λ g. P (printed_end t ending ++ g)) rest left
 
@@ -30,7 +31,7 @@ inside_parts : (gap s inside : List ℕ) → gap ++ s ++ inside ++ codes ">" ≡
 inside_parts gap s inside = simp append_assoc refl
 
 -- a closing tag after white space, of which the name was read
-pub closes_front : (limits : Limits) (place : Place) (t : Tag) (frames : List Frame) (count : ℕ) (gap rest bs : List ℕ) (left : ℕ) (P : List ℕ → Type 0)
+pub closes_front : (limits : Limits) (place : Expecting) (t : Tag) (frames : List Frame) (count : ℕ) (gap rest bs : List ℕ) (left : ℕ) (P : List ℕ → Type 0)
     → IsWhite gap → bs ≡ gap ++ spelling t ++ rest → EndFronts t P → EndBehind limits place t frames count bs left P
     → run limits (at (Close place) frames count) rest ≡ NotRead left → Good (λ g. P (gap ++ spelling t ++ g)) rest left
 closes_front limits place t frames count gap rest bs left P w p fail more e =
@@ -45,16 +46,16 @@ closes_front limits place t frames count gap rest bs left P w p fail more e =
 pub end_begins : (t : Tag) (gap g : List ℕ) → IsFront g (spelling t) → IsFront (gap ++ g) (printed_end t (record { before = gap; inside = [] }))
 end_begins t gap g f = front_behind gap g (printed_shut t []) (front_on g (spelling t ++ []) (codes ">") (front_on g (spelling t) [] f))
 
-alone_tag : (limits : Limits) (place : Place) (t : Tag) → Alone limits place t → IsOneOf t (tags_of place)
+alone_tag : (limits : Limits) (place : Expecting) (t : Tag) → Alone limits place t → IsOneOf t (tags_of place)
 alone_tag limits place t one = subst (λ (x : List Tag). IsOneOf t x) (sym one.only) (inl refl)
 
-alone_halts : (limits : Limits) (place : Place) (t u : Tag) (frames : List Frame) (count : ℕ) (rest : List ℕ) (left : ℕ) → Alone limits place t → u ≡ t
+alone_halts : (limits : Limits) (place : Expecting) (t u : Tag) (frames : List Frame) (count : ℕ) (rest : List ℕ) (left : ℕ) → Alone limits place t → u ≡ t
     → Halts limits (enter limits place u frames count) count rest left → run limits (at (Close place) frames count) rest ≡ NotRead left
 alone_halts limits place t u frames count rest left one is h =
     subst (λ (x : Step). Halts limits x count rest left) (one.shut frames count) (subst (λ (x : Tag). Halts limits (enter limits place x frames count) count rest left) is h)
 
 -- a closing tag that stands alone at its place
-pub end_front : (limits : Limits) (place : Place) (t : Tag) (frames : List Frame) (count : ℕ) (bs : List ℕ) (left : ℕ) (P : List ℕ → Type 0) → Alone limits place t
+pub end_front : (limits : Limits) (place : Expecting) (t : Tag) (frames : List Frame) (count : ℕ) (bs : List ℕ) (left : ℕ) (P : List ℕ → Type 0) → Alone limits place t
     → EndFronts t P → EndBehind limits place t frames count bs left P → run limits (at (At place) frames count) bs ≡ NotRead left → Good P bs left
 end_front limits place t frames count bs left P one fail more e =
     ahead_front limits place frames count bs left P one.goes_on (t, alone_tag limits place t one)
@@ -69,7 +70,7 @@ end_front limits place t frames count bs left P one fail more e =
 abbrev pub ShutFronts : Tag → (List ℕ → Type 0) → Type 0
 ShutFronts t P = (inside : List ℕ) → IsWhite inside → (g : List ℕ) → IsFront g (printed_shut t inside) → P g
 
-abbrev pub ShutBehind : Limits → Place → Tag → List Frame → ℕ → List ℕ → ℕ → (List ℕ → Type 0) → Type 0
+abbrev pub ShutBehind : Limits → Expecting → Tag → List Frame → ℕ → List ℕ → ℕ → (List ℕ → Type 0) → Type 0
 ShutBehind limits place t frames count bs left P = (inside : List ℕ) → IsWhite inside → (rest : List ℕ) → bs ≡ printed_shut t inside ++ rest
     → run limits (leave limits place frames count) rest ≡ NotRead left → Good (λ g. P (printed_shut t inside ++ g)) rest left
 
@@ -77,7 +78,7 @@ shut_parts : (s inside rest : List ℕ) → s ++ (inside ++ codes ">" ++ rest) �
 shut_parts s inside rest = simp append_assoc refl
 
 -- a closing tag right after a text
-pub shut_front : (limits : Limits) (place : Place) (t : Tag) (frames : List Frame) (count : ℕ) (bs : List ℕ) (left : ℕ) (P : List ℕ → Type 0) → Alone limits place t
+pub shut_front : (limits : Limits) (place : Expecting) (t : Tag) (frames : List Frame) (count : ℕ) (bs : List ℕ) (left : ℕ) (P : List ℕ → Type 0) → Alone limits place t
     → ShutFronts t P → ShutBehind limits place t frames count bs left P
     → run limits (at (Within place (words_of (tags_of place))) frames count) bs ≡ NotRead left → Good P bs left
 shut_front limits place t frames count bs left P one fail more e =
@@ -95,64 +96,6 @@ shut_front limits place t frames count bs left P one fail more e =
     (alone_halts limits place t u frames count rest left one is h)))
     e
 
--- the bytes of a character that may still come
-abbrev pub IsSane : Awaits → Type 0
-IsSane Character = Unit {0}
-IsSane Private = Unit {0}
-IsSane (Continuation low high more) = (128 ≤ low) × (low ≤ high) × (high ≤ 191)
-
-sane_more : (more : ℕ) → IsSane (after_continuation more)
-sane_more zero = tt
-sane_more (suc more) = (omega arith, omega arith, omega arith)
-
-sane_three : (b : ℕ) → IsSane (Continuation (if eqb b 224 then 160 else 128) (if eqb b 237 then 159 else 191) 1)
-sane_three b = elim (cases_eq b 224) [
-  | inl e ↦ rw e (omega arith, omega arith, omega arith)
-  | inr e ↦ elim (cases_Bool (eqb b 224)) [
-    | inl f ↦ let g = eqb-true b 224 f in absurd (e g)
-    | inr f ↦ elim (cases_Bool (eqb b 237)) [
-      | inl g ↦ rw (f, g) (omega arith, omega arith, omega arith)
-      | inr g ↦ rw (f, g) (omega arith, omega arith, omega arith)
-    ]
-  ]
-]
-
-sane_four : (b : ℕ) → IsSane (Continuation (if eqb b 240 then 144 else 128) (if eqb b 244 then 143 else 191) 2)
-sane_four b = elim (cases_eq b 240) [
-  | inl e ↦ rw e (omega arith, omega arith, omega arith)
-  | inr e ↦ elim (cases_Bool (eqb b 240)) [
-    | inl f ↦ let g = eqb-true b 240 f in absurd (e g)
-    | inr f ↦ elim (cases_Bool (eqb b 244)) [
-      | inl g ↦ rw (f, g) (omega arith, omega arith, omega arith)
-      | inr g ↦ rw (f, g) (omega arith, omega arith, omega arith)
-    ]
-  ]
-]
-
-sane_private : (b : Bool) → IsSane (Continuation 128 (if b then 189 else 191) 0)
-sane_private true = (omega arith, omega arith, omega arith)
-sane_private false = (omega arith, omega arith, omega arith)
-
-sane_lead : (b : ℕ) → IsSane (after OfXml Character b)
-sane_lead b = elim (cases_Bool (ltb b 128)) [
-  | inl l ↦ rw l tt
-  | inr l ↦ elim (cases_Bool (ltb b 224)) [
-    | inl t ↦ rw (l, t) (omega arith, omega arith, omega arith)
-    | inr t ↦ elim (cases_Bool (eqb b 239)) [
-      | inl p ↦ rw (l, t, p) tt
-      | inr p ↦ elim (cases_Bool (ltb b 240)) [
-        | inl f ↦ rw (l, t, p, f) (sane_three b)
-        | inr f ↦ rw (l, t, p, f) (sane_four b)
-      ]
-    ]
-  ]
-]
-
-sane_after : (awaits : Awaits) (b : ℕ) → IsSane awaits → IsSane (after OfXml awaits b)
-sane_after Character b s = sane_lead b
-sane_after Private b s = sane_private (eqb b 191)
-sane_after (Continuation low high more) b s = sane_more more
-
 -- the rest of a character
 record CharacterEnd (awaits : Awaits) : Type 0 where
   pub tail : List ℕ
@@ -163,7 +106,7 @@ rest_of : (more : ℕ) → CharacterEnd (after_continuation more)
 rest_of zero = record { tail = []; letters = refl; free = refl }
 rest_of (suc more) = let m = rest_of more in record { tail = 128 ∷ m.tail; letters = m.letters; free = m.free }
 
-character_end : (awaits : Awaits) → IsSane awaits → CharacterEnd awaits
+character_end : (awaits : Awaits) → IsOpen awaits → CharacterEnd awaits
 character_end Character s = record { tail = []; letters = refl; free = refl }
 character_end Private s = record { tail = 128 ∷ 128 ∷ []; letters = refl; free = refl }
 character_end (Continuation low high more) s =
@@ -191,12 +134,12 @@ plain_letters_on awaits b plain a l = rw (a, l) refl
 plain_free_on : (b : ℕ) (plain : List ℕ) → eqb b 60 ≡ false → eqb b 38 ≡ false → list_all is_free plain ≡ true → list_all is_free (b ∷ plain) ≡ true
 plain_free_on b plain f g h = rw (f, g, h) refl
 
-plain_here : (limits : Limits) (count : ℕ) (awaits : Awaits) (bs : List ℕ) (left : ℕ) (P : List ℕ → Type 0) → IsSane awaits → PlainFronts awaits P
+plain_here : (limits : Limits) (count : ℕ) (awaits : Awaits) (bs : List ℕ) (left : ℕ) (P : List ℕ → Type 0) → IsOpen awaits → PlainFronts awaits P
     → unless_many limits count (NotRead (length bs)) ≡ NotRead left → Good P bs left
 plain_here limits count awaits bs left P s fail e =
     let c = character_end awaits s in good_here P bs left (unless_left limits count (length bs) left e).1 (fail c.tail c.letters c.free [] (front_none c.tail))
 
-pub plain_front : (limits : Limits) (content : Content) (kept : List ℕ) (awaits : Awaits) (frames : List Frame) (count : ℕ) (bs : List ℕ) (left : ℕ) (P : List ℕ → Type 0) → IsSane awaits
+pub plain_front : (limits : Limits) (content : Content) (kept : List ℕ) (awaits : Awaits) (frames : List Frame) (count : ℕ) (bs : List ℕ) (left : ℕ) (P : List ℕ → Type 0) → IsOpen awaits
     → PlainFronts awaits P → PlainBehind limits content kept awaits frames count bs left P
     → run limits (at (Chars content kept awaits) frames count) bs ≡ NotRead left → Good P bs left
 plain_front limits content kept awaits frames count [] left P s fail more e = plain_here limits count awaits [] left P s fail e
@@ -213,7 +156,7 @@ plain_front limits content kept awaits frames count (b ∷ bs) left P s fail mor
     | inr g ↦ elim (cases_Bool (allows OfXml awaits b)) [
       | inl a ↦
           good_behind P (b ∷ []) bs (b ∷ bs) left refl
-          (plain_front limits content (kept ++ b ∷ []) (after OfXml awaits b) frames count bs left (λ x. P (b ∷ x)) (sane_after awaits b s)
+          (plain_front limits content (kept ++ b ∷ []) (after OfXml awaits b) frames count bs left (λ x. P (b ∷ x)) (after_open OfXml awaits b)
           (λ plain l h x i. fail (b ∷ plain) (plain_letters_on awaits b plain a l) (plain_free_on b plain f g h) (b ∷ x) (i.0, ap (λ (y : List ℕ). b ∷ y) i.1))
           (λ plain c rest l h p stop q. more (b ∷ plain) c rest (plain_letters_on awaits b plain a l) (plain_free_on b plain f g h) (ap (λ (y : List ℕ). b ∷ y) p) stop
           (subst (λ (x : List ℕ). run limits (in_text content x frames count) (c ∷ rest) ≡ NotRead left) (append_assoc kept (b ∷ []) plain) q))

@@ -3,15 +3,15 @@ use Rattle.std.proofs.Common.{◌≡◌, ℕ, zero, suc, ◌+◌, ◌<◌, ◌�
 use Rattle.std.proofs.lemmas.Bool.{cases_Bool, eqb-true}
 use Rattle.std.proofs.lemmas.Str.{encode_ascii}
 use Rattle.std.specs.Char.{encode_utf8}
-use Rattle.sv_xmlcall.specs.Characters.{is_allowed, allows, after}
+use Rattle.sv_letters.specs.Letters.{is_allowed, allows, after}
 use Rattle.sv_xmlcall.specs.Tags.{spelling, word_at, or_later, tag_from, tag_at}
 use Rattle.sv_xmlcall.specs.Reading.{◌>>=◌, numeral_at, numbered_at, entities, entity_of, entity_at, Piece, piece_at, on_piece, pieces_at, text_at}
 use Rattle.sv_xmlcall.specs.Machine.{the_limits, Frame, Content, Verdict, NotRead, AtTextEnd, AtEntity, Within, Chars, Hash, Numeral, at, tags_of, words_of, enter, run, on_step, unless_many, is_digit, longer, is_between, may_end}
 use Rattle.sv_xmlcall.specs.declared.tag.Tag.{Tag}
 use Rattle.sv_xmlcall.specs.declared.tag.Tag.TheVariants as tag
-use Rattle.sv_xmlcall.specs.declared.letters.Letters.TheVariants.{OfXml}
-use Rattle.sv_xmlcall.specs.declared.letters.Awaits.{Awaits}
-use Rattle.sv_xmlcall.specs.declared.letters.Awaits.TheVariants.{Character, Private, Continuation}
+use Rattle.sv_letters.specs.declared.letters.Letters.TheVariants.{OfXml}
+use Rattle.sv_letters.specs.declared.letters.Awaits.{Awaits}
+use Rattle.sv_letters.specs.declared.letters.Awaits.TheVariants.{Character, Private, Continuation}
 use Rattle.sv_xmlcall.proofs.Words.{follow}
 use Rattle.sv_xmlcall.proofs.Runs.{run_tag}
 

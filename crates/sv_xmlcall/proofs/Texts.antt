@@ -3,18 +3,18 @@ use Rattle.std.proofs.Common.{◌≡◌, ℕ, zero, suc, ◌<◌, ◌≤◌, Boo
 use Rattle.std.proofs.lemmas.Bool.{false≢true, cases_Bool, cases_lt, lt-ltb, le-ltb, le-leb, and_parts, eqb-true}
 use Rattle.std.specs.Char.{encode_utf8}
 use lib.Utf8.{scalar, low_scalar}
-use Rattle.sv_xmlcall.specs.Characters.{is_allowed, allows, after, is_whole, are_letters}
+use Rattle.sv_letters.specs.Letters.{is_allowed, allows, after, is_whole, are_letters}
 use Rattle.sv_xmlcall.specs.Tags.{tag_at}
 use Rattle.sv_xmlcall.specs.Spelled.{is_white}
 use Rattle.sv_xmlcall.specs.Stages.{white_of}
 use Rattle.sv_xmlcall.specs.Machine.{is_digit, longer, is_between}
 use Rattle.sv_xmlcall.specs.declared.tag.Tag.{Tag}
 use Rattle.sv_xmlcall.specs.declared.tag.Tag.TheVariants as tag
-use Rattle.sv_xmlcall.specs.declared.letters.Letters.TheVariants.{OfXml}
-use Rattle.sv_xmlcall.proofs.LetterLaws.{accept_char, letters_utf8}
+use Rattle.sv_letters.specs.declared.letters.Letters.TheVariants.{OfXml}
+use Rattle.sv_letters.proofs.LetterLaws.{accept_char, letters_utf8}
 use Rattle.sv_xmlcall.specs.Reading.{◌>>=◌, numeral_at, numbered_at, entities, entity_of, entity_at, Piece, piece_at, on_piece, pieces_at, text_at}
-use Rattle.sv_xmlcall.specs.declared.letters.Awaits.{Awaits}
-use Rattle.sv_xmlcall.specs.declared.letters.Awaits.TheVariants.{Character, Private, Continuation}
+use Rattle.sv_letters.specs.declared.letters.Awaits.{Awaits}
+use Rattle.sv_letters.specs.declared.letters.Awaits.TheVariants.{Character, Private, Continuation}
 
 abbrev Refused : ℕ → Result (ℕ × List ℕ) ℕ
 Refused n = Err n
@@ -168,7 +168,7 @@ with_entity value (Ok (c, rest)) value2 awaits2 rest2 a o e tail t =
     let v = pd.bytes in
     let w = pd.next in
     let al = a c rest refl in
-    let all = o (encode_utf8 c ++ tail) (accept_char OfXml c (allowed_scalar c al) al tail ∙ subst (λ (x : Awaits). are_letters OfXml x tail ≡ true) (sym w) t) in
+    let all = o (encode_utf8 c ++ tail) (accept_char OfXml refl c (allowed_scalar c al) al tail ∙ subst (λ (x : Awaits). are_letters OfXml x tail ≡ true) (sym w) t) in
     subst (λ (x : List ℕ). are_letters OfXml Character (x ++ tail) ≡ true) v (subst (λ (x : List ℕ). are_letters OfXml Character x ≡ true) (sym (append_assoc value (encode_utf8 c) tail)) all)
 with_entity value (Err left) value2 awaits2 rest2 a o e tail t = cc e
 
@@ -219,11 +219,14 @@ piece_end value awaits (b ∷ bs) value2 e = elim (cases_Bool ((eqb b 60) && is_
   ]
 ]
 
+pub xml_utf8 : (bs : List ℕ) → are_letters OfXml Character bs ≡ true → IsUtf8 bs
+xml_utf8 bs e = letters_utf8 OfXml refl bs e
+
 pub whole_utf8 : (value : List ℕ) (awaits : Awaits) (bs value2 : List ℕ) → Open value awaits → piece_at value awaits bs ≡ Ok (value2, None) → IsUtf8 value2
 whole_utf8 value awaits bs value2 o e =
     let f = piece_end value awaits bs value2 e in
     let all = (subst (λ (x : Awaits). Open value x) f.0 o) [] refl in
-    letters_utf8 OfXml value2 (subst (λ (x : List ℕ). are_letters OfXml Character x ≡ true) (append-nil value ∙ f.1) all)
+    xml_utf8 value2 (subst (λ (x : List ℕ). are_letters OfXml Character x ≡ true) (append-nil value ∙ f.1) all)
 
 whole_awaits : (awaits : Awaits) → is_whole awaits ≡ true → awaits ≡ Character
 whole_awaits Character e = refl

@@ -9,15 +9,15 @@ use Rattle.std.proofs.lemmas.List.Folds.{list_all-append}
 use lib.Utf8.{encode, encodes}
 use Rattle.sv_xmlcall.specs.Tags.{spelling}
 use Rattle.sv_xmlcall.specs.Spelled.{Spelled, signed}
-use Rattle.sv_xmlcall.specs.Characters.{is_allowed, allows, after, are_letters, is_whole}
+use Rattle.sv_letters.specs.Letters.{is_allowed, allows, after, are_letters, is_whole}
 use Rattle.sv_xmlcall.specs.Spells.{IsWhite, Ampersand, Less, Greater, Quote, Apostrophe, Letter, Plain, Named, Numbered, character_of, printed_letter, number_sign, IsLetter, AreLetters, printed_text, text_of, printed_shut, Mark, NoMark, Plus, Minus, printed_mark, is_minus}
-use Rattle.sv_xmlcall.specs.Machine.{Limits, AtTextEnd, AtEntity, AtIntegerEnd, Content, InMethod, InName, InString, InDouble, InDate, InBase, InBare, Frame, Read, Within, Chars, Hash, Numeral, Digits, Sign, Fresh, Signed, Counted, at, enter, leave, tags_of, words_of, run, base_of, most_of, is_digit, longer, end_of, may_end, is_between}
+use Rattle.sv_xmlcall.specs.Machine.{Limits, AtTextEnd, AtEntity, AtIntegerEnd, Content, InMethod, InName, Frame, Read, Within, Chars, Hash, Numeral, Digits, Sign, Fresh, Signed, Counted, at, enter, leave, tags_of, words_of, run, base_of, most_of, is_digit, longer, end_of, may_end, is_between}
 use Rattle.sv_xmlcall.specs.Machine.{digit_value as value_of_digit}
-use Rattle.sv_xmlcall.specs.declared.letters.Letters.TheVariants.{OfXml}
-use Rattle.sv_xmlcall.specs.declared.letters.Awaits.{Awaits}
-use Rattle.sv_xmlcall.specs.declared.letters.Awaits.TheVariants.{Character, Private, Continuation}
+use Rattle.sv_letters.specs.declared.letters.Letters.TheVariants.{OfXml}
+use Rattle.sv_letters.specs.declared.letters.Awaits.{Awaits}
+use Rattle.sv_letters.specs.declared.letters.Awaits.TheVariants.{Character, Private, Continuation}
 use Rattle.sv_xmlcall.specs.declared.tag.Tag.{Tag}
-use Rattle.sv_xmlcall.proofs.LetterLaws.{read_accepted}
+use Rattle.sv_letters.proofs.LetterLaws.{read_accepted}
 use Rattle.sv_xmlcall.proofs.Passing.{in_text, is_free}
 use Rattle.sv_xmlcall.proofs.TagsBack.{Continues, not_read, IsOneOf, entered, Alone, shut_behind}
 
@@ -248,7 +248,7 @@ plain_characters (c ∷ cs) a f =
 
 pub plain_letters : (plain : List ℕ) → are_letters OfXml Character plain ≡ true → list_all is_free plain ≡ true → PlainLetters plain
 plain_letters plain a f =
-    let r = read_accepted OfXml plain a in
+    let r = read_accepted OfXml refl plain a in
     subst PlainLetters r.same (plain_characters r.cs r.fit (subst (λ (x : List ℕ). list_all is_free x ≡ true) (sym r.same) f))
 
 pub printed_append : (a b : List Letter) → printed_text (a ++ b) ≡ printed_text a ++ printed_text b

@@ -2,7 +2,7 @@
 use Rattle.std.proofs.Common.{◌≡◌, ℕ, suc, ◌≤◌, Bool, true, false, not, ◌&&◌, ◌||◌, eqb, List, [], ◌∷◌, length, min, Result, Ok, Err, inl, inr, refl, sym, ap, ◌∙◌, arith, subst}
 use Rattle.std.proofs.lemmas.Bool.{cases_Bool, and_parts, eqb-true}
 use Rattle.sv_xmlcall.specs.Tags.{spelling, word_at, or_later, tag_from}
-use Rattle.sv_xmlcall.specs.Machine.{Limits, Place, Frame, Verdict, NotRead, Within, at, words_of, going_on, within, enter, run, on_step, unless_many}
+use Rattle.sv_xmlcall.specs.Machine.{Limits, Expecting, Frame, Verdict, NotRead, Within, at, words_of, going_on, within, enter, run, on_step, unless_many}
 use Rattle.sv_xmlcall.specs.declared.tag.Tag.{Tag}
 
 -- a word and what it stands for
@@ -133,17 +133,17 @@ nothing_left (([], t) ∷ words) n = cc n
 nothing_left ((w ∷ ws, t) ∷ words) n = nothing_left words n
 
 -- how reading goes on after a tag of a place, or where none stands
-abbrev pub follow : Limits → Place → List Frame → ℕ → Result (Tag × List ℕ) ℕ → Verdict
+abbrev pub follow : Limits → Expecting → List Frame → ℕ → Result (Tag × List ℕ) ℕ → Verdict
 follow limits place frames count (Ok r) =
     on_step (enter limits place r.0 frames count) (λ s. run limits s r.1) (unless_many limits count (NotRead (suc (length r.1))))
 follow limits place frames count (Err left) = unless_many limits count (NotRead left)
 
 -- what holds of each shorter list
-abbrev Shorter : Limits → Place → List Frame → ℕ → List ℕ → Type 0
+abbrev Shorter : Limits → Expecting → List Frame → ℕ → List ℕ → Type 0
 Shorter limits place frames count bs = (words : List Word) → nonempty words ≡ true → parted words ≡ true
     → run limits (at (Within place words) frames count) bs ≡ follow limits place frames count (words_from words (length bs) bs)
 
-one_step : (limits : Limits) (place : Place) (frames : List Frame) (count : ℕ) (bs : List ℕ) → Shorter limits place frames count bs
+one_step : (limits : Limits) (place : Expecting) (frames : List Frame) (count : ℕ) (bs : List ℕ) → Shorter limits place frames count bs
     → (words : List Word) → parted words ≡ true
     → on_step (within limits place words frames count) (λ s. run limits s bs) (unless_many limits count (NotRead (suc (length bs))))
     ≡ follow limits place frames count (words_from words (suc (length bs)) bs)
@@ -153,7 +153,7 @@ one_step limits place frames count bs again ((w ∷ ws, t) ∷ words) p =
     let n = none_empty w ws words (not_true (clashes (w ∷ ws) words) (and_parts (not (clashes (w ∷ ws) words)) (parted words) p).0) in
     again ((w ∷ ws, t) ∷ words) n p ∙ ap (follow limits place frames count) (sym (one_less (w ∷ ws) t words bs))
 
-pub run_within : (limits : Limits) (place : Place) (frames : List Frame) (count : ℕ) (bs : List ℕ) → Shorter limits place frames count bs
+pub run_within : (limits : Limits) (place : Expecting) (frames : List Frame) (count : ℕ) (bs : List ℕ) → Shorter limits place frames count bs
 run_within limits place frames count [] words n p = ap (follow limits place frames count) (sym (nothing_left words n))
 run_within limits place frames count (b ∷ bs) words n p =
     one_step limits place frames count bs (run_within limits place frames count bs) (going_on b words) (parted_on b words p)

@@ -7,7 +7,7 @@ use Rattle.std.proofs.lemmas.Str.{encode_ascii}
 use Rattle.std.proofs.lemmas.Fmt.{decimal_is_IsNumeral}
 use lib.Utf8.{encode, encodes}
 use Rattle.sv_xmlcall.specs.Tags.{spelling}
-use Rattle.sv_xmlcall.specs.Characters.{is_allowed}
+use Rattle.sv_letters.specs.Letters.{is_allowed}
 use Rattle.sv_xmlcall.specs.Spelled.{signed}
 use Rattle.sv_xmlcall.specs.Trees.{Tree, Trees, Members, integer, truth, text, other, structure, array, no_tree, tree, no_member, member, CallTree, Reply, Returns, Faults}
 use Rattle.sv_xmlcall.specs.Written.{escaped_byte, escaped, opening, closing, written_form, written_values, written_members, written_value, written_params, declaration, written_call, fault_tree, written_reply}

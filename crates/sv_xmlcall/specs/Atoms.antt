@@ -1,5 +1,7 @@
--- What the readers of tags give: what follows, or the number of bytes that are left at the first bad one.
+-- What the readers of tags give: what follows, or the number of bytes that are left at the first
+-- bad one.
 use Rattle.std.specs.Prelude.{ℕ, suc, List, [], ◌∷◌, length, ◌==◌, if◌then◌else◌, Result, Ok, Err}
+use Rattle.sv_base.specs.Ascii.{greater_sign}
 use Rattle.sv_xmlcall.specs.declared.tag.Tag.{Tag}
 use Rattle.sv_xmlcall.specs.Spelled.{is_white}
 use Rattle.sv_xmlcall.specs.Tags.{tag_at}
@@ -16,7 +18,7 @@ tag_behind tags bs = tag_at tags (skip_white bs)
 -- what follows the `>` that stands here
 abbrev pub bracket_at : List ℕ → Result (List ℕ) ℕ
 bracket_at [] = Err 0
-bracket_at (b ∷ bs) = if b == 62 then Ok bs else Err (suc (length bs))
+bracket_at (b ∷ bs) = if b == greater_sign then Ok bs else Err (suc (length bs))
 
 -- the end of a closing tag
 abbrev pub close_at : List ℕ → Result (List ℕ) ℕ

@@ -1,4 +1,5 @@
--- Which bytes begin a text that spells a call or a reply, and the good prefix of a text, the longest one that does.
+-- Which bytes begin a text that spells a call or a reply, and the good prefix of a text, the
+-- longest one that does.
 use Rattle.std.specs.Prelude.{◌≡◌, ◌≤◌, ℕ, List, ◌++◌, ◌⊎◌, length}
 use Rattle.sv_xmlcall.specs.Tags.{spelling}
 use Rattle.sv_xmlcall.specs.Trees.{CallTree, Reply}
@@ -27,12 +28,14 @@ pub record FaultText : Type 0 where
 
 -- such a reply is right where its white space, its declaration and its value are
 abbrev pub IsFaultText : FaultText → Type 0
-IsFaultText fault = IsHead fault.head × IsWhite fault.before × IsWhite fault.before_value × IsValue fault.value
+IsFaultText fault =
+    IsHead fault.head × IsWhite fault.before × IsWhite fault.before_value × IsValue fault.value
 
 -- its bytes, from the declaration to the end of the value
 abbrev pub printed_fault : FaultText → List ℕ
 printed_fault fault =
-    printed_head fault.head ++ spelling tag.MethodResponse ++ fault.before ++ spelling tag.Fault ++ fault.before_value ++ printed_value fault.value
+    printed_head fault.head ++ spelling tag.MethodResponse ++ fault.before ++ spelling tag.Fault
+    ++ fault.before_value ++ printed_value fault.value
 
 -- the bytes are a prefix of such a reply
 pub record BeginsFault (front : List ℕ) : Type 0 where
@@ -50,4 +53,5 @@ pub record IsLongest (Begins : List ℕ → Type 0) (bytes front : List ℕ) : T
   pub begins : Begins front
   pub rest : List ℕ
   pub parts : bytes ≡ front ++ rest
-  pub longest : (other more : List ℕ) → bytes ≡ other ++ more → Begins other → length other ≤ length front
+  pub longest : (other more : List ℕ) → bytes ≡ other ++ more → Begins other
+      → length other ≤ length front

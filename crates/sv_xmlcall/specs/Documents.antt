@@ -1,12 +1,13 @@
 -- What is read of a call and of a reply around their values.
-use Rattle.std.specs.Prelude.{ℕ, suc, ◌≡◌, List, [], ◌∷◌, length, Bool, true, false, Result, Ok, Err, Option, Some, None}
+use Rattle.std.specs.Prelude.{ℕ, suc, ◌≡◌, List, [], ◌∷◌, length, Bool, true, false, Result, Ok}
+use Rattle.std.specs.Prelude.{Err, Option, Some, None}
 use Rattle.sv_xmlcall.specs.Trees.{Reply}
 use Rattle.sv_xmlcall.specs.Atoms.{skip_white, tag_behind, close_at, closing_at}
 use Rattle.sv_xmlcall.specs.Reading.{◌>>=◌, method_at, prolog_from}
 use Rattle.sv_xmlcall.specs.Spelled.{Spelled}
 use Rattle.sv_xmlcall.specs.Machine.{Verdict, Read, the_limits, unless_many}
 use Rattle.sv_xmlcall.specs.Running.{Halts}
-use Rattle.sv_xmlcall.specs.declared.letters.Awaits.TheVariants.{Character}
+use Rattle.sv_letters.specs.declared.letters.Awaits.TheVariants.{Character}
 use Rattle.sv_xmlcall.specs.declared.stop.Stop.{Stop}
 use Rattle.sv_xmlcall.specs.declared.tag.Tag.{Tag}
 use Rattle.sv_xmlcall.specs.declared.tag.Tag.TheVariants as tag

@@ -1,4 +1,5 @@
--- What the readers answer, by the good prefix of the bytes: the longest one with which a spelled text begins.
+-- What the readers answer, by the good prefix of the bytes: the longest one with which a spelled
+-- text begins.
 use Rattle.std.specs.Prelude.{◌≡◌, ◌≤◌, ◌<◌, ℕ, List, length, Result, Ok, Err}
 use Rattle.sv_xmlcall.specs.Beginnings.{IsLongest}
 use Rattle.sv_xmlcall.specs.Openings.{amount_in, depth_in}
@@ -22,7 +23,8 @@ AnswersFor front (Ok x) = IsFew front
 AnswersFor front (Err fault) = RefusesFor front fault
 
 -- the good prefix of the bytes tells the answer
-pub record Judges {X : Type 0} (Begins : List ℕ → Type 0) (bytes : List ℕ) (result : Result X CallFault) : Type 0 where
+pub record Judges {X : Type 0} (Begins : List ℕ → Type 0) (bytes : List ℕ)
+    (result : Result X CallFault) : Type 0 where
   pub front : List ℕ
   pub good : IsLongest Begins bytes front
   pub answers : AnswersFor front result

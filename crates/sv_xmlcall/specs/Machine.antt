@@ -1,17 +1,24 @@
 -- The reading of a text byte by byte: what a text goes on with after each of its prefixes.
-use Rattle.std.specs.Prelude.{ℕ, suc, ◌+◌, ◌-◌, ◌*◌, ◌^◌, List, [], ◌∷◌, ◌++◌, length, map, Bool, true, false, ◌&&◌, ◌||◌, not, nat_lt, nat_le, ◌==◌, if◌then◌else◌, Option, Some, None, ℤ, codes}
+use Rattle.std.specs.Prelude.{ℕ, suc, ◌+◌, ◌-◌, ◌*◌, ◌^◌, List, [], ◌∷◌, ◌++◌, length, map, Bool}
+use Rattle.std.specs.Prelude.{true, false, ◌&&◌, ◌||◌, not, nat_lt, nat_le, ◌==◌, if◌then◌else◌}
+use Rattle.std.specs.Prelude.{Option, Some, None, ℤ, codes}
 use Rattle.std.specs.Char.{encode_utf8, is_ascii_digit}
-use Rattle.sv_xmlcall.specs.Trees.{Tree, Trees, Members, integer, truth, text, other, structure, array, no_tree, no_member, Reply, Returns}
-use Rattle.sv_xmlcall.specs.Characters.{is_allowed, allows, after}
+use Rattle.sv_base.specs.Ascii.{ampersand, digit_zero, double_quote, greater_sign, hyphen}
+use Rattle.sv_base.specs.Ascii.{less_sign, plus_sign, question_mark, semicolon, single_quote}
+use Rattle.sv_xmlcall.specs.Trees.{Tree, Trees, Members, integer, truth, text, other, structure}
+use Rattle.sv_xmlcall.specs.Trees.{array, no_tree, no_member, Reply, Returns}
+use Rattle.sv_letters.specs.Letters.{is_allowed, allows, after}
 use Rattle.sv_xmlcall.specs.Tags.{spelling}
-use Rattle.sv_xmlcall.specs.declared.letters.Letters.TheVariants.{Any, OfXml}
-use Rattle.sv_xmlcall.specs.declared.letters.Awaits.{Awaits}
-use Rattle.sv_xmlcall.specs.declared.letters.Awaits.TheVariants.{Character}
+use Rattle.sv_letters.specs.declared.letters.Letters.TheVariants.{OfText, OfXml}
+use Rattle.sv_letters.specs.declared.letters.Awaits.{Awaits}
+use Rattle.sv_letters.specs.declared.letters.Awaits.TheVariants.{Character}
 use Rattle.sv_xmlcall.specs.declared.tag.Tag.{Tag}
 use Rattle.sv_xmlcall.specs.declared.tag.Tag.TheVariants as tag
-use Rattle.sv_xmlcall.specs.Spelled.{Spelled, ACall, AReply, snoc, snoc_member, fault_of, is_white, signed}
+use Rattle.sv_xmlcall.specs.Spelled.{Spelled, ACall, AReply, snoc, snoc_member, fault_of, is_white}
+use Rattle.sv_xmlcall.specs.Spelled.{signed}
 
--- the most values that may stand one inside the other, that a text may open, and that are kept of it
+-- the most values that may stand one inside the other, that a text may open, and that are kept of
+-- it
 pub record Limits : Type 0 where
   pub nesting : ℕ
   pub values : ℕ
@@ -26,8 +33,8 @@ pub data Document : Type 0 where
   OfCall : Document
   OfReply : Document
 
--- what a value stands in: a param of a call after others, a param of a reply, a fault, an array after other values,
--- a member after others
+-- what a value stands in: a param of a call after others, a param of a reply, a fault, an array
+-- after other values, a member after others
 pub data Frame : Type 0 where
   InParam : (method : List ℕ) (before : Trees) → Frame
   InReply : Frame
@@ -46,34 +53,34 @@ pub data Content : Type 0 where
   InBare : Content
 
 -- a place before a tag
-pub data Place : Type 0 where
-  AtStart : Document → Place
-  AtDeclared : Document → Place
-  AtMethod : Place
-  AtCalled : (method : List ℕ) → Place
-  AtParams : (method : List ℕ) (before : Trees) → Place
-  AtParamEnd : (method : List ℕ) (before : Trees) → Place
-  AtParamsEnd : (method : List ℕ) (params : Trees) → Place
-  AtResponse : Place
-  AtReplyParam : Place
-  AtReplyParamEnd : Tree → Place
-  AtReplyParamsEnd : Tree → Place
-  AtFaultEnd : Reply → Place
-  AtResponseEnd : Reply → Place
-  AtDone : Spelled → Place
-  AtValue : Place
-  AtForm : (white : List ℕ) → Place
-  AtFormEnd : Tree → Place
-  AtData : Place
-  AtItems : Trees → Place
-  AtArrayEnd : Trees → Place
-  AtMembers : Members → Place
-  AtName : Members → Place
-  AtMemberEnd : Members → Place
-  AtTextEnd : Content → List ℕ → Place
-  AtIntegerEnd : (short : Bool) → ℤ → Place
-  AtTruthEnd : Bool → Place
-  AtEntity : Content → List ℕ → Place
+pub data Expecting : Type 0 where
+  AtStart : Document → Expecting
+  AtDeclared : Document → Expecting
+  AtMethod : Expecting
+  AtCalled : (method : List ℕ) → Expecting
+  AtParams : (method : List ℕ) (before : Trees) → Expecting
+  AtParamEnd : (method : List ℕ) (before : Trees) → Expecting
+  AtParamsEnd : (method : List ℕ) (params : Trees) → Expecting
+  AtResponse : Expecting
+  AtReplyParam : Expecting
+  AtReplyParamEnd : Tree → Expecting
+  AtReplyParamsEnd : Tree → Expecting
+  AtFaultEnd : Reply → Expecting
+  AtResponseEnd : Reply → Expecting
+  AtDone : Spelled → Expecting
+  AtValue : Expecting
+  AtForm : (white : List ℕ) → Expecting
+  AtFormEnd : Tree → Expecting
+  AtData : Expecting
+  AtItems : Trees → Expecting
+  AtArrayEnd : Trees → Expecting
+  AtMembers : Members → Expecting
+  AtName : Members → Expecting
+  AtMemberEnd : Members → Expecting
+  AtTextEnd : Content → List ℕ → Expecting
+  AtIntegerEnd : (short : Bool) → ℤ → Expecting
+  AtTruthEnd : Bool → Expecting
+  AtEntity : Content → List ℕ → Expecting
 
 -- how far an integer is read: nothing of it, its sign, at least one digit
 pub data Sign : Type 0 where
@@ -81,12 +88,13 @@ pub data Sign : Type 0 where
   Signed : Sign
   Counted : Sign
 
--- where a text is read: white space or a tag; inside a tag; at the end of a closing tag; characters of a text; after
--- `&#`; the number of an entity; after `<value>`; digits; a boolean; the declaration; where no text goes on
+-- where a text is read: white space or a tag; inside a tag; at the end of a closing tag; characters
+-- of a text; after `&#`; the number of an entity; after `<value>`; digits; a boolean; the
+-- declaration; where no text goes on
 pub data Control : Type 0 where
-  At : Place → Control
-  Within : Place → List (List ℕ × Tag) → Control
-  Close : Place → Control
+  At : Expecting → Control
+  Within : Expecting → List (List ℕ × Tag) → Control
+  Close : Expecting → Control
   Chars : Content → List ℕ → Awaits → Control
   Hash : Content → List ℕ → Control
   Numeral : Content → List ℕ → (hex : Bool) → (seen : Bool) → ℕ → Control
@@ -138,7 +146,7 @@ begin_of OfCall = tag.MethodCall
 begin_of OfReply = tag.MethodResponse
 
 -- the tags that may stand at a place
-abbrev pub tags_of : Place → List Tag
+abbrev pub tags_of : Expecting → List Tag
 tags_of (AtStart document) = tag.Declaration ∷ begin_of document ∷ []
 tags_of (AtDeclared document) = begin_of document ∷ []
 tags_of AtMethod = tag.MethodName ∷ []
@@ -155,7 +163,8 @@ tags_of (AtResponseEnd reply) = tag.EndMethodResponse ∷ []
 tags_of (AtDone spelled) = []
 tags_of AtValue = tag.Value ∷ tag.NoValue ∷ []
 tags_of (AtForm white) =
-    tag.I4 ∷ tag.Int ∷ tag.Boolean ∷ tag.String ∷ tag.NoString ∷ tag.Double ∷ tag.DateTime ∷ tag.Base64
+    tag.I4 ∷ tag.Int ∷ tag.Boolean ∷ tag.String ∷ tag.NoString ∷ tag.Double ∷ tag.DateTime
+    ∷ tag.Base64
     ∷ tag.Struct ∷ tag.NoMembers ∷ tag.Array ∷ tag.EndValue ∷ []
 tags_of (AtFormEnd value) = tag.EndValue ∷ []
 tags_of AtData = tag.Data ∷ tag.NoData ∷ []
@@ -191,20 +200,28 @@ whole_fault limits count value = if nat_le count limits.keeping then fault_of va
 -- after a whole value
 abbrev pub after_value : Limits → Tree → List Frame → ℕ → State
 after_value limits value [] count = at Stuck [] count
-after_value limits value (InParam method before ∷ frames) count = at (At (AtParamEnd method (kept limits count before value))) frames count
+after_value limits value (InParam method before ∷ frames) count =
+    at (At (AtParamEnd method (kept limits count before value))) frames count
 after_value limits value (InReply ∷ frames) count = at (At (AtReplyParamEnd value)) frames count
-after_value limits value (InFault ∷ frames) count = after_fault (whole_fault limits count value) frames count
-after_value limits value (InArray before ∷ frames) count = at (At (AtItems (kept limits count before value))) frames count
-after_value limits value (InMember before name ∷ frames) count = at (At (AtMemberEnd (kept_member limits count before name value))) frames count
+after_value limits value (InFault ∷ frames) count =
+    after_fault (whole_fault limits count value) frames count
+after_value limits value (InArray before ∷ frames) count =
+    at (At (AtItems (kept limits count before value))) frames count
+after_value limits value (InMember before name ∷ frames) count =
+    at (At (AtMemberEnd (kept_member limits count before name value))) frames count
 
 -- after the closing tag of a text
 abbrev pub after_text : Limits → Content → List ℕ → List Frame → ℕ → State
 after_text limits InMethod bytes frames count = at (At (AtCalled bytes)) frames count
-after_text limits (InName before) bytes frames count = at (At AtValue) (InMember before bytes ∷ frames) count
+after_text limits (InName before) bytes frames count =
+    at (At AtValue) (InMember before bytes ∷ frames) count
 after_text limits InString bytes frames count = at (At (AtFormEnd (text bytes))) frames count
-after_text limits InDouble bytes frames count = at (At (AtFormEnd (other (codes "double") bytes))) frames count
-after_text limits InDate bytes frames count = at (At (AtFormEnd (other (codes "dateTime.iso8601") bytes))) frames count
-after_text limits InBase bytes frames count = at (At (AtFormEnd (other (codes "base64") bytes))) frames count
+after_text limits InDouble bytes frames count =
+    at (At (AtFormEnd (other (codes "double") bytes))) frames count
+after_text limits InDate bytes frames count =
+    at (At (AtFormEnd (other (codes "dateTime.iso8601") bytes))) frames count
+after_text limits InBase bytes frames count =
+    at (At (AtFormEnd (other (codes "base64") bytes))) frames count
 after_text limits InBare bytes frames count = after_value limits (text bytes) frames count
 
 -- the count of values stops one above the most
@@ -214,24 +231,30 @@ counted limits count = if nat_le count limits.values then suc count else count
 -- after `<value>`
 abbrev pub open_value : Limits → List Frame → ℕ → Step
 open_value limits frames count =
-    if nat_le (length frames) limits.nesting then goes (Opened []) frames (counted limits count) else Deep
+    if nat_le (length frames) limits.nesting then goes (Opened []) frames (counted limits count)
+    else Deep
 
 -- after `<value/>`, which is the empty string
 abbrev pub empty_value : Limits → List Frame → ℕ → Step
 empty_value limits frames count =
-    if nat_le (length frames) limits.nesting then Go (after_value limits (text []) frames (counted limits count)) else Deep
+    if nat_le (length frames) limits.nesting
+    then Go (after_value limits (text []) frames (counted limits count)) else Deep
 
 -- after a tag of a place
-abbrev pub enter : Limits → Place → Tag → List Frame → ℕ → Step
-enter limits (AtStart document) tag.Declaration frames count = goes (Prolog document false Character) frames count
+abbrev pub enter : Limits → Expecting → Tag → List Frame → ℕ → Step
+enter limits (AtStart document) tag.Declaration frames count =
+    goes (Prolog document false Character) frames count
 enter limits (AtStart OfCall) entered frames count = goes (At AtMethod) frames count
 enter limits (AtStart OfReply) entered frames count = goes (At AtResponse) frames count
 enter limits (AtDeclared OfCall) entered frames count = goes (At AtMethod) frames count
 enter limits (AtDeclared OfReply) entered frames count = goes (At AtResponse) frames count
 enter limits AtMethod entered frames count = goes (Chars InMethod [] Character) frames count
-enter limits (AtCalled method) tag.Params frames count = goes (At (AtParams method no_tree)) frames count
-enter limits (AtCalled method) tag.NoParams frames count = goes (At (AtParamsEnd method no_tree)) frames count
-enter limits (AtParams method before) tag.Param frames count = goes (At AtValue) (InParam method before ∷ frames) count
+enter limits (AtCalled method) tag.Params frames count =
+    goes (At (AtParams method no_tree)) frames count
+enter limits (AtCalled method) tag.NoParams frames count =
+    goes (At (AtParamsEnd method no_tree)) frames count
+enter limits (AtParams method before) tag.Param frames count =
+    goes (At AtValue) (InParam method before ∷ frames) count
 enter limits AtResponse tag.Params frames count = goes (At AtReplyParam) frames count
 enter limits AtResponse entered frames count = goes (At AtValue) (InFault ∷ frames) count
 enter limits AtReplyParam entered frames count = goes (At AtValue) (InReply ∷ frames) count
@@ -240,36 +263,52 @@ enter limits AtValue entered frames count = empty_value limits frames count
 enter limits (AtForm white) tag.I4 frames count = goes (Digits true false Fresh 0) frames count
 enter limits (AtForm white) tag.Int frames count = goes (Digits false false Fresh 0) frames count
 enter limits (AtForm white) tag.Boolean frames count = goes TruthDigit frames count
-enter limits (AtForm white) tag.String frames count = goes (Chars InString [] Character) frames count
+enter limits (AtForm white) tag.String frames count =
+    goes (Chars InString [] Character) frames count
 enter limits (AtForm white) tag.NoString frames count = goes (At (AtFormEnd (text []))) frames count
-enter limits (AtForm white) tag.Double frames count = goes (Chars InDouble [] Character) frames count
-enter limits (AtForm white) tag.DateTime frames count = goes (Chars InDate [] Character) frames count
+enter limits (AtForm white) tag.Double frames count =
+    goes (Chars InDouble [] Character) frames count
+enter limits (AtForm white) tag.DateTime frames count =
+    goes (Chars InDate [] Character) frames count
 enter limits (AtForm white) tag.Base64 frames count = goes (Chars InBase [] Character) frames count
 enter limits (AtForm white) tag.Struct frames count = goes (At (AtMembers no_member)) frames count
-enter limits (AtForm white) tag.NoMembers frames count = goes (At (AtFormEnd (structure no_member))) frames count
+enter limits (AtForm white) tag.NoMembers frames count =
+    goes (At (AtFormEnd (structure no_member))) frames count
 enter limits (AtForm white) tag.Array frames count = goes (At AtData) frames count
 enter limits AtData tag.Data frames count = goes (At (AtItems no_tree)) frames count
 enter limits AtData entered frames count = goes (At (AtArrayEnd no_tree)) frames count
-enter limits (AtItems items) tag.Value frames count = open_value limits (InArray items ∷ frames) count
-enter limits (AtItems items) tag.NoValue frames count = empty_value limits (InArray items ∷ frames) count
+enter limits (AtItems items) tag.Value frames count =
+    open_value limits (InArray items ∷ frames) count
+enter limits (AtItems items) tag.NoValue frames count =
+    empty_value limits (InArray items ∷ frames) count
 enter limits (AtMembers members) tag.Member frames count = goes (At (AtName members)) frames count
-enter limits (AtName members) entered frames count = goes (Chars (InName members) [] Character) frames count
-enter limits (AtEntity content bytes) tag.Ampersand frames count = goes (Chars content (bytes ++ 38 ∷ []) Character) frames count
-enter limits (AtEntity content bytes) tag.Less frames count = goes (Chars content (bytes ++ 60 ∷ []) Character) frames count
-enter limits (AtEntity content bytes) tag.Greater frames count = goes (Chars content (bytes ++ 62 ∷ []) Character) frames count
-enter limits (AtEntity content bytes) tag.Quote frames count = goes (Chars content (bytes ++ 34 ∷ []) Character) frames count
-enter limits (AtEntity content bytes) tag.Apostrophe frames count = goes (Chars content (bytes ++ 39 ∷ []) Character) frames count
+enter limits (AtName members) entered frames count =
+    goes (Chars (InName members) [] Character) frames count
+enter limits (AtEntity content bytes) tag.Ampersand frames count =
+    goes (Chars content (bytes ++ ampersand ∷ []) Character) frames count
+enter limits (AtEntity content bytes) tag.Less frames count =
+    goes (Chars content (bytes ++ less_sign ∷ []) Character) frames count
+enter limits (AtEntity content bytes) tag.Greater frames count =
+    goes (Chars content (bytes ++ greater_sign ∷ []) Character) frames count
+enter limits (AtEntity content bytes) tag.Quote frames count =
+    goes (Chars content (bytes ++ double_quote ∷ []) Character) frames count
+enter limits (AtEntity content bytes) tag.Apostrophe frames count =
+    goes (Chars content (bytes ++ single_quote ∷ []) Character) frames count
 enter limits (AtEntity content bytes) entered frames count = goes (Hash content bytes) frames count
 enter limits place closing frames count = goes (Close place) frames count
 
 -- after the closing tag of a place
-abbrev pub leave : Limits → Place → List Frame → ℕ → State
-leave limits (AtCalled method) frames count = at (At (AtDone (ACall (record { method = method; params = no_tree })))) frames count
-leave limits (AtParams method before) frames count = at (At (AtParamsEnd method before)) frames count
+abbrev pub leave : Limits → Expecting → List Frame → ℕ → State
+leave limits (AtCalled method) frames count =
+    at (At (AtDone (ACall (record { method = method; params = no_tree })))) frames count
+leave limits (AtParams method before) frames count =
+    at (At (AtParamsEnd method before)) frames count
 leave limits (AtParamEnd method before) frames count = at (At (AtParams method before)) frames count
-leave limits (AtParamsEnd method params) frames count = at (At (AtDone (ACall (record { method = method; params = params })))) frames count
+leave limits (AtParamsEnd method params) frames count =
+    at (At (AtDone (ACall (record { method = method; params = params })))) frames count
 leave limits (AtReplyParamEnd value) frames count = at (At (AtReplyParamsEnd value)) frames count
-leave limits (AtReplyParamsEnd value) frames count = at (At (AtResponseEnd (Returns value))) frames count
+leave limits (AtReplyParamsEnd value) frames count =
+    at (At (AtResponseEnd (Returns value))) frames count
 leave limits (AtFaultEnd reply) frames count = at (At (AtResponseEnd reply)) frames count
 leave limits (AtResponseEnd reply) frames count = at (At (AtDone (AReply reply))) frames count
 leave limits (AtForm white) frames count = after_value limits (text white) frames count
@@ -294,13 +333,14 @@ going_on b (([], t) ∷ words) = going_on b words
 going_on b ((w ∷ ws, t) ∷ words) = if b == w then (ws, t) ∷ going_on b words else going_on b words
 
 -- with these words left: none, one that is whole, or others
-abbrev pub within : Limits → Place → List (List ℕ × Tag) → List Frame → ℕ → Step
+abbrev pub within : Limits → Expecting → List (List ℕ × Tag) → List Frame → ℕ → Step
 within limits place [] frames count = Bad
 within limits place (([], t) ∷ words) frames count = enter limits place t frames count
-within limits place ((w ∷ ws, t) ∷ words) frames count = goes (Within place ((w ∷ ws, t) ∷ words)) frames count
+within limits place ((w ∷ ws, t) ∷ words) frames count =
+    goes (Within place ((w ∷ ws, t) ∷ words)) frames count
 
 -- in or before a tag of a place
-abbrev pub in_tag : Limits → Place → List (List ℕ × Tag) → List Frame → ℕ → ℕ → Step
+abbrev pub in_tag : Limits → Expecting → List (List ℕ × Tag) → List Frame → ℕ → ℕ → Step
 in_tag limits place words frames count b = within limits place (going_on b words) frames count
 
 -- there are no bytes
@@ -322,15 +362,18 @@ is_between awaits = false
 -- allows
 abbrev pub in_chars : Limits → Content → List ℕ → Awaits → List Frame → ℕ → ℕ → Step
 in_chars limits content bytes awaits frames count b =
-    if b == 60 then
+    if b == less_sign then
     if is_between awaits && may_end content bytes
-    then in_tag limits (AtTextEnd content bytes) (words_of (tags_of (AtTextEnd content bytes))) frames count b
+    then in_tag limits (AtTextEnd content bytes) (words_of (tags_of (AtTextEnd content bytes)))
+    frames count b
     else Bad
-    else if b == 38 then
+    else if b == ampersand then
     if is_between awaits
-    then in_tag limits (AtEntity content bytes) (words_of (tags_of (AtEntity content bytes))) frames count b
+    then in_tag limits (AtEntity content bytes) (words_of (tags_of (AtEntity content bytes))) frames
+    count b
     else Bad
-    else if allows OfXml awaits b then goes (Chars content (bytes ++ b ∷ []) (after OfXml awaits b)) frames count
+    else if allows OfXml awaits b
+    then goes (Chars content (bytes ++ b ∷ []) (after OfXml awaits b)) frames count
     else Bad
 
 -- a hexadecimal digit, of either case
@@ -360,8 +403,10 @@ longer hex n b = n * base_of hex + digit_value b
 abbrev pub in_numeral : Content → List ℕ → Bool → Bool → ℕ → List Frame → ℕ → ℕ → Step
 in_numeral content bytes hex seen n frames count b =
     if is_digit hex b then
-    if nat_le (longer hex n b) 1114111 then goes (Numeral content bytes hex true (longer hex n b)) frames count else Bad
-    else if (b == 59) && seen && is_allowed n then goes (Chars content (bytes ++ encode_utf8 n) Character) frames count
+    if nat_le (longer hex n b) 1114111
+    then goes (Numeral content bytes hex true (longer hex n b)) frames count else Bad
+    else if (b == semicolon) && seen && is_allowed n
+    then goes (Chars content (bytes ++ encode_utf8 n) Character) frames count
     else Bad
 
 -- after `&#`: the `x` of hexadecimal digits, or a decimal digit
@@ -378,55 +423,67 @@ most_of false = 2 ^ 63 - 1
 -- in an integer, a byte that is no digit: a sign before all digits, or the closing tag after them
 abbrev pub in_sign : Limits → Bool → Bool → Sign → ℕ → List Frame → ℕ → ℕ → Step
 in_sign limits short negative Fresh n frames count b =
-    if b == 45 then goes (Digits short true Signed n) frames count
-    else if b == 43 then goes (Digits short false Signed n) frames count
+    if b == hyphen then goes (Digits short true Signed n) frames count
+    else if b == plus_sign then goes (Digits short false Signed n) frames count
     else Bad
 in_sign limits short negative Signed n frames count b = Bad
 in_sign limits short negative Counted n frames count b =
-    in_tag limits (AtIntegerEnd short (signed negative n)) (words_of (tags_of (AtIntegerEnd short (signed negative n)))) frames count b
+    in_tag limits (AtIntegerEnd short (signed negative n))
+    (words_of (tags_of (AtIntegerEnd short (signed negative n)))) frames count b
 
 -- in an integer: a digit, within 64 bits, or another byte
 abbrev pub in_digits : Limits → Bool → Bool → Sign → ℕ → List Frame → ℕ → ℕ → Step
 in_digits limits short negative sign n frames count b =
     if is_ascii_digit b then
-    if nat_le (n * 10 + (b - 48)) (most_of negative) then goes (Digits short negative Counted (n * 10 + (b - 48))) frames count else Bad
+    if nat_le (n * 10 + (b - 48)) (most_of negative)
+    then goes (Digits short negative Counted (n * 10 + (b - 48))) frames count else Bad
     else in_sign limits short negative sign n frames count b
 
 -- after `<value>` and white space: more of it, a tag, or a bare text that begins with it
 abbrev pub in_opened : Limits → List ℕ → List Frame → ℕ → ℕ → Step
 in_opened limits white frames count b =
     if is_white b then goes (Opened (white ++ b ∷ [])) frames count
-    else if b == 60 then in_tag limits (AtForm white) (words_of (tags_of (AtForm white))) frames count b
+    else if b == less_sign
+    then in_tag limits (AtForm white) (words_of (tags_of (AtForm white))) frames count b
     else in_chars limits InBare white Character frames count b
 
 -- in the declaration, which ends at its first `?>`
 abbrev pub in_prolog : Document → Bool → Awaits → List Frame → ℕ → ℕ → Step
 in_prolog document question awaits frames count b =
-    if question && (b == 62) then goes (At (AtDeclared document)) frames count
-    else if allows Any awaits b then goes (Prolog document (b == 63) (after Any awaits b)) frames count
+    if question && (b == greater_sign) then goes (At (AtDeclared document)) frames count
+    else if allows OfText awaits b
+    then goes (Prolog document (b == question_mark) (after OfText awaits b)) frames count
     else Bad
 
 -- `0` or `1`
 abbrev pub in_truth : List Frame → ℕ → ℕ → Step
 in_truth frames count b =
-    if b == 48 then goes (Within (AtTruthEnd false) (words_of (tags_of (AtTruthEnd false)))) frames count
-    else if b == 49 then goes (Within (AtTruthEnd true) (words_of (tags_of (AtTruthEnd true)))) frames count
+    if b == digit_zero
+    then goes (Within (AtTruthEnd false) (words_of (tags_of (AtTruthEnd false)))) frames count
+    else if b == 49
+    then goes (Within (AtTruthEnd true) (words_of (tags_of (AtTruthEnd true)))) frames count
     else Bad
 
 -- what a byte leads to at each place of a text
 abbrev pub next_of : Limits → Control → List Frame → ℕ → ℕ → Step
 next_of limits (At place) frames count b =
-    if is_white b then goes (At place) frames count else in_tag limits place (words_of (tags_of place)) frames count b
+    if is_white b then goes (At place) frames count
+    else in_tag limits place (words_of (tags_of place)) frames count b
 next_of limits (Within place words) frames count b = in_tag limits place words frames count b
 next_of limits (Close place) frames count b =
-    if is_white b then goes (Close place) frames count else if b == 62 then Go (leave limits place frames count) else Bad
-next_of limits (Chars content bytes awaits) frames count b = in_chars limits content bytes awaits frames count b
+    if is_white b then goes (Close place) frames count else if b == greater_sign
+    then Go (leave limits place frames count) else Bad
+next_of limits (Chars content bytes awaits) frames count b =
+    in_chars limits content bytes awaits frames count b
 next_of limits (Hash content bytes) frames count b = in_hash content bytes frames count b
-next_of limits (Numeral content bytes hex seen n) frames count b = in_numeral content bytes hex seen n frames count b
+next_of limits (Numeral content bytes hex seen n) frames count b =
+    in_numeral content bytes hex seen n frames count b
 next_of limits (Opened white) frames count b = in_opened limits white frames count b
-next_of limits (Digits short negative sign n) frames count b = in_digits limits short negative sign n frames count b
+next_of limits (Digits short negative sign n) frames count b =
+    in_digits limits short negative sign n frames count b
 next_of limits TruthDigit frames count b = in_truth frames count b
-next_of limits (Prolog document question awaits) frames count b = in_prolog document question awaits frames count b
+next_of limits (Prolog document question awaits) frames count b =
+    in_prolog document question awaits frames count b
 next_of limits Stuck frames count b = Bad
 
 -- what a byte leads to from a state
@@ -459,7 +516,8 @@ on_step Deep on bad = TooDeep
 abbrev pub run : Limits → State → List ℕ → Verdict
 run limits state [] = unless_many limits state.count (finished state.control)
 run limits state (b ∷ bs) =
-    on_step (next limits state b) (λ state. run limits state bs) (unless_many limits state.count (NotRead (suc (length bs))))
+    on_step (next limits state b) (λ state. run limits state bs)
+    (unless_many limits state.count (NotRead (suc (length bs))))
 
 -- before the first byte
 abbrev pub start : Document → State

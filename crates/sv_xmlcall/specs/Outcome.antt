@@ -1,6 +1,6 @@
 -- What the readers give.
 use Rattle.std.specs.Prelude.{ℕ, ◌≡◌, Result, Ok, Err}
-use Rattle.sv_xmlcall.specs.declared.stop.BadByte.{BadByte}
+use Rattle.sv_letters.specs.declared.bad_byte.BadByte.{BadByte}
 use Rattle.sv_xmlcall.specs.declared.stop.Stop.{Stop}
 use Rattle.sv_xmlcall.specs.declared.stop.Stop.TheVariants.{At, TooDeep, OutOfMemory}
 

@@ -1,13 +1,17 @@
 -- Bytes that stand for themselves in a text, whether it is read or written.
-use Rattle.std.specs.Prelude.{ℕ, List, [], ◌∷◌, Bool, false, ◌&&◌, not, nat_lt, nat_le, ◌==◌, if◌then◌else◌}
-use Rattle.sv_xmlcall.specs.Characters.{allows, after}
-use Rattle.sv_xmlcall.specs.declared.letters.Letters.TheVariants.{OfXml}
-use Rattle.sv_xmlcall.specs.declared.letters.Awaits.{Awaits}
-use Rattle.sv_xmlcall.specs.declared.letters.Awaits.TheVariants.{Character}
+use Rattle.std.specs.Prelude.{ℕ, List, [], ◌∷◌, Bool, false, ◌&&◌, not, nat_lt, nat_le, ◌==◌}
+use Rattle.std.specs.Prelude.{if◌then◌else◌}
+use Rattle.sv_base.specs.Ascii.{ampersand, greater_sign, less_sign}
+use Rattle.sv_letters.specs.Letters.{allows, after}
+use Rattle.sv_letters.specs.declared.letters.Letters.TheVariants.{OfXml}
+use Rattle.sv_letters.specs.declared.letters.Awaits.{Awaits}
+use Rattle.sv_letters.specs.declared.letters.Awaits.TheVariants.{Character}
 
 -- ASCII from the space on, without `&`, `<` and `>`
 abbrev pub is_simple : ℕ → Bool
-is_simple b = nat_le 32 b && nat_lt b 128 && not (b == 38) && not (b == 60) && not (b == 62)
+is_simple b =
+    nat_le 32 b && nat_lt b 128 && not (b == ampersand) && not (b == less_sign)
+    && not (b == greater_sign)
 
 -- such a byte stands at the front
 abbrev pub begins_run : List ℕ → Bool
@@ -46,9 +50,11 @@ wide_run awaits (b ∷ bs) = if is_wide awaits b then b ∷ wide_run (after OfXm
 -- what is awaited after that run
 abbrev pub awaits_behind : Awaits → List ℕ → Awaits
 awaits_behind awaits [] = awaits
-awaits_behind awaits (b ∷ bs) = if is_wide awaits b then awaits_behind (after OfXml awaits b) bs else awaits
+awaits_behind awaits (b ∷ bs) =
+    if is_wide awaits b then awaits_behind (after OfXml awaits b) bs else awaits
 
 -- what is after that run
 abbrev pub behind_wide : Awaits → List ℕ → List ℕ
 behind_wide awaits [] = []
-behind_wide awaits (b ∷ bs) = if is_wide awaits b then behind_wide (after OfXml awaits b) bs else b ∷ bs
+behind_wide awaits (b ∷ bs) =
+    if is_wide awaits b then behind_wide (after OfXml awaits b) bs else b ∷ bs

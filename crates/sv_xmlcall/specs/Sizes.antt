@@ -1,6 +1,7 @@
 -- How deep values stand one inside the other, and how many there are.
 use Rattle.std.specs.Prelude.{ℕ, suc, ◌+◌, max}
-use Rattle.sv_xmlcall.specs.Trees.{Tree, Trees, Members, integer, truth, text, other, structure, array, no_tree, tree, no_member, member}
+use Rattle.sv_xmlcall.specs.Trees.{Tree, Trees, Members, integer, truth, text, other, structure}
+use Rattle.sv_xmlcall.specs.Trees.{array, no_tree, tree, no_member, member}
 
 abbrev mutual
   -- the most values that stand one inside the other, this one among them

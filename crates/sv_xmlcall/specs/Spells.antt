@@ -1,11 +1,13 @@
--- What a text spells: the layouts of XML-RPC texts, which of them are right, what each prints and what it means.
+-- What a text spells: the layouts of XML-RPC texts, which of them are right, what each prints and
+-- what it means.
 use Rattle.std.specs.Prelude.{◌≡◌, ◌≢◌, ◌≤◌, ℕ, List, [], ◌∷◌, ◌++◌, Bool, true, false, codes, ⊤}
 use Rattle.std.specs.Char.{encode_utf8}
 use Rattle.std.specs.List.{list_all}
 use Rattle.std.specs.Str.Parse.{IsNumeral, digits_value}
-use Rattle.sv_xmlcall.specs.Characters.{is_allowed}
+use Rattle.sv_letters.specs.Letters.{is_allowed}
 use Rattle.sv_xmlcall.specs.Tags.{spelling}
-use Rattle.sv_xmlcall.specs.Trees.{Tree, Trees, Members, integer, truth, text, other, structure, array, no_tree, tree, no_member, member}
+use Rattle.sv_xmlcall.specs.Trees.{Tree, Trees, Members, integer, truth, text, other, structure}
+use Rattle.sv_xmlcall.specs.Trees.{array, no_tree, tree, no_member, member}
 use Rattle.sv_xmlcall.specs.Spelled.{is_white, signed}
 use Rattle.sv_xmlcall.specs.Machine.{base_of, most_of}
 use Rattle.sv_xmlcall.specs.declared.tag.Tag.{Tag}
@@ -66,7 +68,9 @@ printed_letter (Numbered hexadecimal digits) = number_sign hexadecimal ++ digits
 abbrev pub IsLetter : Letter → Type 0
 IsLetter (Plain c) = (is_allowed c ≡ true) × (c ≢ 38) × (c ≢ 60)
 IsLetter (Named entity) = ⊤
-IsLetter (Numbered hexadecimal digits) = IsNumeral (base_of hexadecimal) digits × (is_allowed (digits_value (base_of hexadecimal) digits) ≡ true)
+IsLetter (Numbered hexadecimal digits) =
+    IsNumeral (base_of hexadecimal) digits
+    × (is_allowed (digits_value (base_of hexadecimal) digits) ≡ true)
 
 -- all the characters of a text are right
 abbrev pub AreLetters : List Letter → Type 0
@@ -156,8 +160,8 @@ kind_end Double = tag.EndDouble
 kind_end Date = tag.EndDateTime
 kind_end Base = tag.EndBase64
 
--- A value is `<value/>`, bare text, or a form between white space. `inside` is the white space before the `>` of the
--- closing tag, and what is called `before` is that before an opening tag.
+-- A value is `<value/>`, bare text, or a form between white space. `inside` is the white space
+-- before the `>` of the closing tag, and what is called `before` is that before an opening tag.
 mutual
   -- a value
   pub data ValueText : Type 0 where
@@ -185,28 +189,38 @@ mutual
   -- the members of a struct
   pub data MembersText : Type 0 where
     NoMember : MembersText
-    Member : (before before_name : List ℕ) (name : List Letter) (inside before_value : List ℕ) → ValueText → Ending → MembersText → MembersText
+    Member : (before before_name : List ℕ) (name : List Letter) (inside before_value : List ℕ)
+        → ValueText → Ending → MembersText → MembersText
 
 abbrev mutual
   -- the bytes of a value
   pub printed_value : ValueText → List ℕ
   printed_value Empty = spelling tag.NoValue
-  printed_value (Bare letters inside) = spelling tag.Value ++ printed_text letters ++ printed_shut tag.EndValue inside
-  printed_value (Typed before form ending) = spelling tag.Value ++ before ++ printed_form form ++ printed_end tag.EndValue ending
+  printed_value (Bare letters inside) =
+      spelling tag.Value ++ printed_text letters ++ printed_shut tag.EndValue inside
+  printed_value (Typed before form ending) =
+      spelling tag.Value ++ before ++ printed_form form ++ printed_end tag.EndValue ending
 
   -- the bytes of a form
   pub printed_form : FormText → List ℕ
   printed_form (Integer short mark digits inside) =
-      spelling (integer_tag short) ++ printed_mark mark ++ digits ++ printed_shut (integer_end short) inside
-  printed_form (Truth b inside) = spelling tag.Boolean ++ truth_digit b ++ printed_shut tag.EndBoolean inside
-  printed_form (Text letters inside) = spelling tag.String ++ printed_text letters ++ printed_shut tag.EndString inside
+      spelling (integer_tag short) ++ printed_mark mark ++ digits
+      ++ printed_shut (integer_end short) inside
+  printed_form (Truth b inside) =
+      spelling tag.Boolean ++ truth_digit b ++ printed_shut tag.EndBoolean inside
+  printed_form (Text letters inside) =
+      spelling tag.String ++ printed_text letters ++ printed_shut tag.EndString inside
   printed_form NoText = spelling tag.NoString
-  printed_form (Other kind letters inside) = spelling (kind_tag kind) ++ printed_text letters ++ printed_shut (kind_end kind) inside
-  printed_form (Struct members ending) = spelling tag.Struct ++ printed_members members ++ printed_end tag.EndStruct ending
+  printed_form (Other kind letters inside) =
+      spelling (kind_tag kind) ++ printed_text letters ++ printed_shut (kind_end kind) inside
+  printed_form (Struct members ending) =
+      spelling tag.Struct ++ printed_members members ++ printed_end tag.EndStruct ending
   printed_form NoMembers = spelling tag.NoMembers
   printed_form (Array before items of_data of_array) =
-      spelling tag.Array ++ before ++ spelling tag.Data ++ printed_items items ++ printed_end tag.EndData of_data ++ printed_end tag.EndArray of_array
-  printed_form (NoData before of_array) = spelling tag.Array ++ before ++ spelling tag.NoData ++ printed_end tag.EndArray of_array
+      spelling tag.Array ++ before ++ spelling tag.Data ++ printed_items items
+      ++ printed_end tag.EndData of_data ++ printed_end tag.EndArray of_array
+  printed_form (NoData before of_array) =
+      spelling tag.Array ++ before ++ spelling tag.NoData ++ printed_end tag.EndArray of_array
 
   -- the bytes of the values of an array
   pub printed_items : ItemsText → List ℕ
@@ -217,8 +231,10 @@ abbrev mutual
   pub printed_members : MembersText → List ℕ
   printed_members NoMember = []
   printed_members (Member before before_name name inside before_value value ending members) =
-      before ++ spelling tag.Member ++ before_name ++ spelling tag.Name ++ printed_text name ++ printed_shut tag.EndName inside
-      ++ before_value ++ printed_value value ++ printed_end tag.EndMember ending ++ printed_members members
+      before ++ spelling tag.Member ++ before_name ++ spelling tag.Name ++ printed_text name
+      ++ printed_shut tag.EndName inside
+      ++ before_value ++ printed_value value ++ printed_end tag.EndMember ending
+      ++ printed_members members
 
 abbrev mutual
   -- the value that is meant
@@ -229,7 +245,8 @@ abbrev mutual
 
   -- the value that a form means
   pub form_of : FormText → Tree
-  form_of (Integer short mark digits inside) = integer (signed (is_minus mark) (digits_value 10 digits))
+  form_of (Integer short mark digits inside) =
+      integer (signed (is_minus mark) (digits_value 10 digits))
   form_of (Truth b inside) = truth b
   form_of (Text letters inside) = text (text_of letters)
   form_of NoText = text []
@@ -247,7 +264,8 @@ abbrev mutual
   -- the members of a struct that are meant
   pub members_of : MembersText → Members
   members_of NoMember = no_member
-  members_of (Member before before_name name inside before_value value ending members) = member (text_of name) (value_of value) (members_of members)
+  members_of (Member before before_name name inside before_value value ending members) =
+      member (text_of name) (value_of value) (members_of members)
 
 abbrev mutual
   -- a value is right
@@ -258,14 +276,16 @@ abbrev mutual
 
   -- an integer has 64 bits
   pub IsForm : FormText → Type 0
-  IsForm (Integer short mark digits inside) = IsNumeral 10 digits × (digits_value 10 digits ≤ most_of (is_minus mark)) × IsWhite inside
+  IsForm (Integer short mark digits inside) =
+      IsNumeral 10 digits × (digits_value 10 digits ≤ most_of (is_minus mark)) × IsWhite inside
   IsForm (Truth b inside) = IsWhite inside
   IsForm (Text letters inside) = AreLetters letters × IsWhite inside
   IsForm NoText = ⊤
   IsForm (Other kind letters inside) = AreLetters letters × IsWhite inside
   IsForm (Struct members ending) = AreMembers members × IsEnding ending
   IsForm NoMembers = ⊤
-  IsForm (Array before items of_data of_array) = IsWhite before × AreItems items × IsEnding of_data × IsEnding of_array
+  IsForm (Array before items of_data of_array) =
+      IsWhite before × AreItems items × IsEnding of_data × IsEnding of_array
   IsForm (NoData before of_array) = IsWhite before × IsEnding of_array
 
   -- the values of an array are right
@@ -277,4 +297,5 @@ abbrev mutual
   pub AreMembers : MembersText → Type 0
   AreMembers NoMember = ⊤
   AreMembers (Member before before_name name inside before_value value ending members) =
-      IsWhite before × IsWhite before_name × AreLetters name × IsWhite inside × IsWhite before_value × IsValue value × IsEnding ending × AreMembers members
+      IsWhite before × IsWhite before_name × AreLetters name × IsWhite inside × IsWhite before_value
+      × IsValue value × IsEnding ending × AreMembers members

@@ -1,6 +1,9 @@
 -- How a value is read with an explicit stack: what is read at a stage, and how the stack turns.
-use Rattle.std.specs.Prelude.{ℕ, List, [], ◌∷◌, Bool, true, false, ◌==◌, if◌then◌else◌, Result, Ok, codes}
-use Rattle.sv_xmlcall.specs.Trees.{Tree, Trees, Members, integer, truth, text, other, structure, array, no_tree, no_member, view, trees_view, members_view}
+use Rattle.std.specs.Prelude.{ℕ, List, [], ◌∷◌, Bool, true, false, ◌==◌, if◌then◌else◌, Result, Ok}
+use Rattle.std.specs.Prelude.{codes}
+use Rattle.sv_base.specs.Ascii.{less_sign}
+use Rattle.sv_xmlcall.specs.Trees.{Tree, Trees, Members, integer, truth, text, other, structure}
+use Rattle.sv_xmlcall.specs.Trees.{array, no_tree, no_member, view, trees_view, members_view}
 use Rattle.sv_xmlcall.specs.Atoms.{skip_white, tag_behind, close_at, closing_at}
 use Rattle.sv_xmlcall.specs.Tags.{tag_at}
 use Rattle.sv_xmlcall.specs.Reading.{◌>>=◌, text_at, shut_at, content_at, integer_at, truth_at}
@@ -15,8 +18,8 @@ use Rattle.sv_xmlcall.specs.declared.nested.Stage.TheVariants as code_stage
 use Rattle.sv_xmlcall.specs.declared.nested.Turn.{Turn}
 use Rattle.sv_xmlcall.specs.declared.nested.Turn.TheVariants as code_turn
 
--- before a value, after its `<value>`, after its form, before the data of an array, before a further value of an
--- array, before a further member of a struct, after the value of a member
+-- before a value, after its `<value>`, after its form, before the data of an array, before a
+-- further value of an array, before a further member of a struct, after the value of a member
 pub data Standing : Type 0 where
   Before : Standing
   Opened : Standing
@@ -26,8 +29,8 @@ pub data Standing : Type 0 where
   Further : Members → Standing
   Ended : Members → Standing
 
--- what was read: a stage of the same value, the opening of a value that is empty or not, also as a further one of an
--- array, the name of a member, a whole value
+-- what was read: a stage of the same value, the opening of a value that is empty or not, also as a
+-- further one of an array, the name of a member, a whole value
 pub data Turning : Type 0 where
   On : Standing → Turning
   Opening : (empty : Bool) → Turning
@@ -101,7 +104,8 @@ number_at t bs = do
 -- the tags that may stand after `<value>`
 abbrev pub forms : List Tag
 forms =
-    tag.I4 ∷ tag.Int ∷ tag.Boolean ∷ tag.String ∷ tag.NoString ∷ tag.Double ∷ tag.DateTime ∷ tag.Base64
+    tag.I4 ∷ tag.Int ∷ tag.Boolean ∷ tag.String ∷ tag.NoString ∷ tag.Double ∷ tag.DateTime
+    ∷ tag.Base64
     ∷ tag.Struct ∷ tag.NoMembers ∷ tag.Array ∷ tag.EndValue ∷ []
 
 -- what is read after this tag, before which this white space stands
@@ -109,7 +113,8 @@ abbrev pub form_of : List ℕ → Tag → List ℕ → Result (Turning × List �
 form_of white tag.I4 bs = number_at tag.EndI4 bs
 form_of white tag.Int bs = number_at tag.EndInt bs
 form_of white tag.Boolean bs = truth_at bs >>= (λ r. Ok (On (Formed (truth r.0)), r.1))
-form_of white tag.String bs = content_at tag.EndString bs >>= (λ r. Ok (On (Formed (text r.0)), r.1))
+form_of white tag.String bs =
+    content_at tag.EndString bs >>= (λ r. Ok (On (Formed (text r.0)), r.1))
 form_of white tag.NoString bs = Ok (On (Formed (text [])), bs)
 form_of white tag.Double bs = other_at (codes "double") tag.EndDouble bs
 form_of white tag.DateTime bs = other_at (codes "dateTime.iso8601") tag.EndDateTime bs
@@ -128,7 +133,7 @@ typed_at white bs = do
 -- a tag stands here
 abbrev pub begins_tag : List ℕ → Bool
 begins_tag [] = false
-begins_tag (b ∷ bs) = b == 60
+begins_tag (b ∷ bs) = b == less_sign
 
 -- what is read after `<value>` and this white space
 abbrev pub behind_white : List ℕ → List ℕ → Result (Turning × List ℕ) ℕ
@@ -144,7 +149,8 @@ formed_at value bs = closing_at (tag.EndValue ∷ []) bs >>= (λ rest. Ok (Whole
 
 -- the `</array>` after the data
 abbrev pub array_end_at : Trees → List ℕ → Result (Turning × List ℕ) ℕ
-array_end_at items bs = closing_at (tag.EndArray ∷ []) bs >>= (λ rest. Ok (On (Formed (array items)), rest))
+array_end_at items bs =
+    closing_at (tag.EndArray ∷ []) bs >>= (λ rest. Ok (On (Formed (array items)), rest))
 
 -- what is read after this tag, which opens the data of an array or is `<data/>`
 abbrev pub data_of : Tag → List ℕ → Result (Turning × List ℕ) ℕ
@@ -185,7 +191,8 @@ members_at members bs = do
 
 -- the `</member>` after the value of a member
 abbrev pub ended_at : Members → List ℕ → Result (Turning × List ℕ) ℕ
-ended_at members bs = closing_at (tag.EndMember ∷ []) bs >>= (λ rest. Ok (On (Further members), rest))
+ended_at members bs =
+    closing_at (tag.EndMember ∷ []) bs >>= (λ rest. Ok (On (Further members), rest))
 
 -- what is read at a stage
 abbrev pub stage_at : Standing → List ℕ → Result (Turning × List ℕ) ℕ

@@ -1,7 +1,20 @@
 -- The tags and entities of XML-RPC, those of closing tags without the `>` at their end.
-use Rattle.std.specs.Prelude.{ℕ, suc, List, [], ◌∷◌, length, ◌==◌, if◌then◌else◌, Result, Ok, Err, min, codes}
+use Rattle.std.specs.Prelude.{ℕ, suc, List, [], ◌∷◌, length, ◌==◌, if◌then◌else◌, Result, Ok, Err}
+use Rattle.std.specs.Prelude.{min, codes}
 use Rattle.sv_xmlcall.specs.declared.tag.Tag.{Tag}
-use Rattle.sv_xmlcall.specs.declared.tag.Tag.TheVariants.{Declaration, MethodCall, MethodName, MethodResponse, Params, NoParams, Param, Fault, Value, NoValue, I4, Int, Boolean, String, NoString, Double, DateTime, Base64, Struct, NoMembers, Member, Name, Array, Data, NoData, EndMethodCall, EndMethodName, EndMethodResponse, EndParams, EndParam, EndFault, EndValue, EndI4, EndInt, EndBoolean, EndString, EndDouble, EndDateTime, EndBase64, EndStruct, EndMember, EndName, EndArray, EndData, Ampersand, Less, Greater, Quote, Apostrophe, Numbered}
+use Rattle.sv_xmlcall.specs.declared.tag.Tag.TheVariants.{Declaration, MethodCall, MethodName}
+use Rattle.sv_xmlcall.specs.declared.tag.Tag.TheVariants.{MethodResponse, Params, NoParams, Param}
+use Rattle.sv_xmlcall.specs.declared.tag.Tag.TheVariants.{Fault, Value, NoValue, I4, Int, Boolean}
+use Rattle.sv_xmlcall.specs.declared.tag.Tag.TheVariants.{String, NoString, Double, DateTime}
+use Rattle.sv_xmlcall.specs.declared.tag.Tag.TheVariants.{Base64, Struct, NoMembers, Member, Name}
+use Rattle.sv_xmlcall.specs.declared.tag.Tag.TheVariants.{Array, Data, NoData, EndMethodCall}
+use Rattle.sv_xmlcall.specs.declared.tag.Tag.TheVariants.{EndMethodName, EndMethodResponse}
+use Rattle.sv_xmlcall.specs.declared.tag.Tag.TheVariants.{EndParams, EndParam, EndFault, EndValue}
+use Rattle.sv_xmlcall.specs.declared.tag.Tag.TheVariants.{EndI4, EndInt, EndBoolean, EndString}
+use Rattle.sv_xmlcall.specs.declared.tag.Tag.TheVariants.{EndDouble, EndDateTime, EndBase64}
+use Rattle.sv_xmlcall.specs.declared.tag.Tag.TheVariants.{EndStruct, EndMember, EndName, EndArray}
+use Rattle.sv_xmlcall.specs.declared.tag.Tag.TheVariants.{EndData, Ampersand, Less, Greater, Quote}
+use Rattle.sv_xmlcall.specs.declared.tag.Tag.TheVariants.{Apostrophe, Numbered}
 
 -- the bytes of each tag and entity
 abbrev pub spelling : Tag → List ℕ
@@ -63,15 +76,18 @@ word_at (w ∷ ws) [] = Err 0
 word_at (w ∷ ws) (b ∷ bs) = if b == w then word_at ws bs else Err (suc (length bs))
 
 -- this tag if it was read, else what the others give; the fewest bytes left so far are handed on
-abbrev pub or_later : Tag → (ℕ → Result (Tag × List ℕ) ℕ) → ℕ → Result (List ℕ) ℕ → Result (Tag × List ℕ) ℕ
+abbrev pub or_later : Tag → (ℕ → Result (Tag × List ℕ) ℕ) → ℕ → Result (List ℕ) ℕ
+    → Result (Tag × List ℕ) ℕ
 or_later tag others least (Ok rest) = Ok (tag, rest)
 or_later tag others least (Err left) = others (min least left)
 
 -- one of these tags and what follows it; the fewest bytes that the tags before left are handed on
 abbrev pub tag_from : List Tag → ℕ → List ℕ → Result (Tag × List ℕ) ℕ
 tag_from [] least bs = Err least
-tag_from (tag ∷ tags) least bs = or_later tag (λ least. tag_from tags least bs) least (word_at (spelling tag) bs)
+tag_from (tag ∷ tags) least bs =
+    or_later tag (λ least. tag_from tags least bs) least (word_at (spelling tag) bs)
 
--- one of these tags and what follows it; where none stands here, the bad byte is the first that goes on with none of them
+-- one of these tags and what follows it; where none stands here, the bad byte is the first that
+-- goes on with none of them
 abbrev pub tag_at : List Tag → List ℕ → Result (Tag × List ℕ) ℕ
 tag_at tags bs = tag_from tags (length bs) bs

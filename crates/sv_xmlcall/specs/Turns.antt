@@ -1,9 +1,13 @@
 -- What the stages and turns of a value are in the reading of a text byte by byte.
-use Rattle.std.specs.Prelude.{ℕ, ◌≡◌, List, [], ◌∷◌, length, Bool, true, false, nat_le, if◌then◌else◌, Result, Ok, Err}
+use Rattle.std.specs.Prelude.{ℕ, ◌≡◌, List, [], ◌∷◌, length, Bool, true, false, nat_le}
+use Rattle.std.specs.Prelude.{if◌then◌else◌, Result, Ok, Err}
 use Rattle.sv_xmlcall.specs.Trees.{Tree, text, view}
-use Rattle.sv_xmlcall.specs.Machine.{Frame, InArray, InMember, State, Step, Go, Deep, At, AtValue, AtFormEnd, AtData, AtItems, AtMembers, AtMemberEnd, at, goes, run, counted, after_value, the_limits}
+use Rattle.sv_xmlcall.specs.Machine.{Frame, InArray, InMember, State, Step, Go, Deep, At, AtValue}
+use Rattle.sv_xmlcall.specs.Machine.{AtFormEnd, AtData, AtItems, AtMembers, AtMemberEnd, at, goes}
+use Rattle.sv_xmlcall.specs.Machine.{run, counted, after_value, the_limits}
 use Rattle.sv_xmlcall.specs.Machine.{Opened as behind_value}
-use Rattle.sv_xmlcall.specs.Stages.{Standing, Before, Opened, Formed, Data, Items, Further, Ended, Turning, On, Opening, Item, Named, Whole, stage_view}
+use Rattle.sv_xmlcall.specs.Stages.{Standing, Before, Opened, Formed, Data, Items, Further, Ended}
+use Rattle.sv_xmlcall.specs.Stages.{Turning, On, Opening, Item, Named, Whole, stage_view}
 use Rattle.sv_xmlcall.specs.Running.{Halts}
 use Rattle.sv_xmlcall.specs.declared.nested.Settled.{Settled}
 use Rattle.sv_xmlcall.specs.declared.nested.Settled.TheVariants as settled
@@ -27,7 +31,8 @@ opened_of true frames count = Go (after_value the_limits (text []) frames count)
 
 -- the step after `<value/>` or `<value>`: not deeper than 32, and counted
 abbrev pub opening_of : Bool → List Frame → ℕ → Step
-opening_of empty frames count = if nat_le (length frames) 32 then opened_of empty frames (counted the_limits count) else Deep
+opening_of empty frames count =
+    if nat_le (length frames) 32 then opened_of empty frames (counted the_limits count) else Deep
 
 -- the step of a turn
 abbrev pub turned : Turning → List Frame → ℕ → Step
@@ -41,7 +46,8 @@ turned (Whole value) frames count = Go (after_value the_limits value frames coun
 -- frame
 abbrev pub settled_state : Frame → Settled → List Frame → ℕ → State
 settled_state frame (settled.On stage) frames count = stand (stage_view stage) frames count
-settled_state frame (settled.Done value) frames count = after_value the_limits (view value) (frame ∷ []) count
+settled_state frame (settled.Done value) frames count =
+    after_value the_limits (view value) (frame ∷ []) count
 
 -- the code goes on from a turn, in what frame ever the outermost value stands
 abbrev pub Settles : (Frame → Step) → (Frame → Settled → State) → Result Settled Stop → Type 0
@@ -51,7 +57,10 @@ Settles before behind (Err stop.TooDeep) = (frame : Frame) → before frame ≡ 
 Settles before behind (Err stop.OutOfMemory) = Unit {0}
 
 -- the text comes to what it comes to after the value that is read in this frame
-abbrev pub ReadsValue : {X : Type 0} → Frame → ℕ → List ℕ → ℕ → (X → Tree) → (X → List ℕ) → Result X Stop → Type 0
+abbrev pub ReadsValue : {X : Type 0} → Frame → ℕ → List ℕ → ℕ → (X → Tree) → (X → List ℕ)
+    → Result X Stop → Type 0
 ReadsValue frame before bytes opened tree rest (Ok x) =
-    run the_limits (at (At AtValue) (frame ∷ []) before) bytes ≡ run the_limits (after_value the_limits (tree x) (frame ∷ []) opened) (rest x)
-ReadsValue frame before bytes opened tree rest (Err stop) = Halts stop opened (run the_limits (at (At AtValue) (frame ∷ []) before) bytes)
+    run the_limits (at (At AtValue) (frame ∷ []) before) bytes ≡ run the_limits
+    (after_value the_limits (tree x) (frame ∷ []) opened) (rest x)
+ReadsValue frame before bytes opened tree rest (Err stop) =
+    Halts stop opened (run the_limits (at (At AtValue) (frame ∷ []) before) bytes)

@@ -1,4 +1,5 @@
--- Texts that were worked out by hand: a call that asks for the version, in three spellings, and the reply.
+-- Texts that were worked out by hand: a call that asks for the version, in three spellings, and the
+-- reply.
 use Rattle.std.specs.Prelude.{ℕ, List, codes}
 use Rattle.sv_xmlcall.specs.Trees.{text, no_tree, CallTree, Reply, Returns}
 
@@ -18,7 +19,8 @@ declared_call =
 
 -- that call with `<params/>`
 abbrev pub call_without_params : List ℕ
-call_without_params = codes "<methodCall><methodName>supervisor.getAPIVersion</methodName><params/></methodCall>"
+call_without_params =
+    codes "<methodCall><methodName>supervisor.getAPIVersion</methodName><params/></methodCall>"
 
 -- the reply to it, the string 3.0
 abbrev pub version_reply : Reply

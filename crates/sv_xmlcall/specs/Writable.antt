@@ -1,13 +1,19 @@
--- What can be written: characters that XML allows, integers of 64 bits, the forms of XML-RPC, a method's name.
-use Rattle.std.specs.Prelude.{◌≡◌, ◌≢◌, ◌<◌, ◌^◌, ℕ, ℤ, pos, negsuc, List, [], true, encode_utf8_all, ⊤}
+-- What can be written: characters that XML allows, integers of 64 bits, the forms of XML-RPC, a
+-- method's name.
+use Rattle.std.specs.Prelude.{◌≡◌, ◌≢◌, ◌<◌, ◌^◌, ℕ, ℤ, pos, negsuc, List, [], true}
+use Rattle.std.specs.Prelude.{encode_utf8_all, ⊤}
 use Rattle.std.specs.List.{list_all}
-use Rattle.sv_xmlcall.specs.Characters.{is_allowed}
-use Rattle.sv_xmlcall.specs.Trees.{Tree, Trees, Members, integer, truth, text, other, structure, array, no_tree, tree, no_member, member, CallTree, Reply, Returns, Faults}
+use Rattle.sv_letters.specs.Letters.{is_allowed}
+use Rattle.sv_xmlcall.specs.Trees.{Tree, Trees, Members, integer, truth, text, other, structure}
+use Rattle.sv_xmlcall.specs.Trees.{array, no_tree, tree, no_member, member, CallTree, Reply}
+use Rattle.sv_xmlcall.specs.Trees.{Returns, Faults}
 use Rattle.sv_xmlcall.specs.Spells.{Kind, kind_name}
 
 -- the UTF-8 of characters that XML allows
 abbrev pub IsXml : List ℕ → Type 0
-IsXml bytes = (characters : List ℕ) × (list_all is_allowed characters ≡ true) × (encode_utf8_all characters ≡ bytes)
+IsXml bytes =
+    (characters : List ℕ) × (list_all is_allowed characters ≡ true)
+    × (encode_utf8_all characters ≡ bytes)
 
 -- an integer of 64 bits
 abbrev pub Has64Bits : ℤ → Type 0
@@ -32,7 +38,8 @@ abbrev mutual
   -- members that can be written
   pub AreWritableMembers : Members → Type 0
   AreWritableMembers no_member = ⊤
-  AreWritableMembers (member name value members) = IsXml name × IsWritable value × AreWritableMembers members
+  AreWritableMembers (member name value members) =
+      IsXml name × IsWritable value × AreWritableMembers members
 
 -- a call that can be written; the method's name is not empty
 abbrev pub IsWritableCall : CallTree → Type 0

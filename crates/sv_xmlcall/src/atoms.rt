@@ -5,8 +5,8 @@ ghost use Rattle.sv_xmlcall.specs.Reading.{shut_at};
 ghost use Rattle.sv_xmlcall.specs.Spelled.{is_white};
 ghost use Rattle.sv_xmlcall.specs.Outcome.{GivesAlways};
 
-use crate::stop::BadByte;
 use crate::tag::{Tag, next_tag};
+use sv_letters::BadByte;
 
 /// Whether this is white space.
 pub fn is_white(byte: u8) -> bool

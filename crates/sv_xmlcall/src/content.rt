@@ -1,22 +1,24 @@
 //! The text between two tags.
-ghost use Rattle.std.specs.Prelude.{◌≡◌, ◌++◌, ◌<◌, ◌≤◌, [], length, true, false, Bool, IfOk, IfSome, OnOk, IsUtf8, IsTrue};
-ghost use Rattle.sv_xmlcall.specs.Characters.{is_allowed, are_letters};
+ghost use Rattle.std.specs.Prelude.{◌≡◌, ◌++◌, ◌<◌, ◌≤◌, [], length, true, false, Bool, IfOk};
+ghost use Rattle.std.specs.Prelude.{IfSome, OnOk, IsUtf8, IsTrue};
+ghost use Rattle.sv_letters.specs.Letters.{is_allowed, are_letters};
 ghost use Rattle.std.specs.Char.{encode_utf8};
 ghost use Rattle.std.specs.Option.{option_map};
-ghost use Rattle.sv_xmlcall.specs.declared.letters.Letters.TheVariants.{OfXml};
-ghost use Rattle.sv_xmlcall.specs.declared.letters.Awaits.{Awaits};
+ghost use Rattle.sv_letters.specs.declared.letters.Letters.TheVariants.{OfXml};
+ghost use Rattle.sv_letters.specs.declared.letters.Awaits.{Awaits};
 ghost use Rattle.sv_xmlcall.specs.Machine.{is_digit, digit_value};
 ghost use Rattle.sv_xmlcall.specs.Outcome.{Gives, GivesAlways};
 ghost use Rattle.sv_xmlcall.specs.Simple.{run_at, behind_at, wide_run, awaits_behind, behind_wide};
-ghost use Rattle.sv_xmlcall.specs.Reading.{numeral_at, numbered_at, entity_at, piece_at, text_at, content_at, method_at};
+ghost use Rattle.sv_xmlcall.specs.Reading.{numeral_at, numbered_at, entity_at, piece_at, text_at};
+ghost use Rattle.sv_xmlcall.specs.Reading.{content_at, method_at};
 
 use crate::atoms::shut;
-use crate::letters::{Awaits, Letters};
 use crate::simple::push_run;
-use crate::stop::{BadByte, Stop};
+use crate::stop::Stop;
 use crate::tag::{Tag, next_tag};
 use std::alloc::{AllocError, Global};
 use sv_base::text::Text;
+use sv_letters::{Awaits, BadByte, Letters};
 
 /// The greatest number of a character.
 const LAST: u32 = 1_114_111;

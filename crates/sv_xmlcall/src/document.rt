@@ -2,16 +2,18 @@
 ghost use Rattle.std.specs.Prelude.{◌≡◌, ◌<◌, ◌≤◌, false, IfOk, length};
 ghost use Rattle.sv_xmlcall.specs.Outcome.{Gives, GivesAlways};
 ghost use Rattle.sv_xmlcall.specs.Reading.{prolog_from};
-ghost use Rattle.sv_xmlcall.specs.Documents.{declared_at, document_of, document_at, head_at, begun_of, begun_at, param_of, param_at, answer_of, answer_at, param_end_at, fault_end_at};
-ghost use Rattle.sv_xmlcall.specs.declared.letters.Awaits.{Awaits};
+ghost use Rattle.sv_xmlcall.specs.Documents.{declared_at, document_of, document_at, head_at};
+ghost use Rattle.sv_xmlcall.specs.Documents.{begun_of, begun_at, param_of, param_at, answer_of};
+ghost use Rattle.sv_xmlcall.specs.Documents.{answer_at, param_end_at, fault_end_at};
+ghost use Rattle.sv_letters.specs.declared.letters.Awaits.{Awaits};
 
 use crate::atoms::{close, closing, tag_behind};
 use crate::content::method_name;
-use crate::letters::{Awaits, Letters};
-use crate::stop::{BadByte, Stop};
+use crate::stop::Stop;
 use crate::tag::Tag;
 use std::alloc::Global;
 use sv_base::text::Text;
+use sv_letters::{Awaits, BadByte, Letters};
 
 /// Reads the declaration after its `<?xml`.
 fn prolog(bytes: &[u8]) -> Result<&[u8], BadByte>
@@ -24,11 +26,11 @@ fn prolog(bytes: &[u8]) -> Result<&[u8], BadByte>
         if question && *byte == b'>' {
             return Ok(after);
         }
-        if !awaits.allows(Letters::Any, *byte) {
+        if !awaits.allows(Letters::OfText, *byte) {
             return Err(BadByte(rest.len()));
         }
         question = *byte == b'?';
-        awaits = awaits.after(Letters::Any, *byte);
+        awaits = awaits.after(Letters::OfText, *byte);
         rest = after;
     }
     Err(BadByte(0))

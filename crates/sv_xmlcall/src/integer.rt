@@ -6,8 +6,8 @@ ghost use Rattle.sv_xmlcall.specs.Outcome.{GivesAlways};
 ghost use Rattle.sv_xmlcall.specs.Reading.{size_from, size_at, integer_at, digit_at, truth_at};
 
 use crate::atoms::shut;
-use crate::stop::BadByte;
 use crate::tag::Tag;
+use sv_letters::BadByte;
 
 /// The greatest size of an integer of 64 bits with this sign.
 fn most_of(negative: bool) -> u64
@@ -36,7 +36,8 @@ fn signed(negative: bool, size: u64) -> i64
 
 /// Reads digits, of which there is at least one.
 fn size(negative: bool, bytes: &[u8]) -> Result<(u64, &[u8]), BadByte>
-    ensures value { GivesAlways (λ x. (x.0, x.1.now)) result (size_from negative false 0 bytes.now) }
+    ensures value { GivesAlways (λ number. (number.0, number.1.now)) result
+        (size_from negative false 0 bytes.now) }
     ensures bound { IfOk result (λ x. x.0 ≤ most_of negative) }
     ensures shorter { IfOk result (λ x. length x.1.now ≤ length bytes.now) }
 {

@@ -8,7 +8,9 @@ ghost use Rattle.sv_xmlcall.specs.SpelledTexts.{Spells, SpellsCall, SpellsReply}
 ghost use Rattle.sv_xmlcall.specs.Beginnings.{BeginsCall, BeginsReply, IsLongest};
 ghost use Rattle.sv_xmlcall.specs.Writable.{IsWritableCall, IsWritableReply};
 ghost use Rattle.sv_xmlcall.specs.Written.{written_call, written_reply};
-ghost use Rattle.sv_xmlcall.specs.WorkedTexts.{plain_call, declared_call, call_without_params, version_call, version_text, version_reply, three_values, value_declared};
+ghost use Rattle.sv_xmlcall.specs.WorkedTexts.{plain_call, declared_call, call_without_params};
+ghost use Rattle.sv_xmlcall.specs.WorkedTexts.{version_call, version_text, version_reply};
+ghost use Rattle.sv_xmlcall.specs.WorkedTexts.{three_values, value_declared};
 ghost use Rattle.sv_xmlcall.specs.Openings.{amount_in, depth_in};
 ghost use Rattle.sv_xmlcall.specs.declared.call.Call.{Call};
 ghost use Rattle.sv_xmlcall.specs.declared.call.Answered.{Answered};

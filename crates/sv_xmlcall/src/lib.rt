@@ -11,7 +11,6 @@ mod content;
 mod document;
 mod integer;
 pub mod laws;
-mod letters;
 pub mod log;
 mod nested;
 pub mod read;

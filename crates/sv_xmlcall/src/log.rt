@@ -3,9 +3,9 @@ ghost use Rattle.std.specs.Prelude.{◌≡◌, ◌≤◌, IfOk, length};
 ghost use Rattle.sv_xmlcall.specs.Characters.{log_text, character_length};
 
 use crate::content::text_of;
-use crate::letters::{Awaits, Letters};
 use std::alloc::{AllocError, Global};
 use sv_base::text::Text;
+use sv_letters::{Awaits, Letters};
 
 /// How many bytes the character has with which these bytes begin, if XML allows it, or else 0.
 fn character_length(bytes: &[u8]) -> usize

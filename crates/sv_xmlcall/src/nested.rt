@@ -1,23 +1,31 @@
 //! Values with the values inside them, read without recursion.
-ghost use Rattle.std.specs.Prelude.{◌≡◌, ◌++◌, ◌∷◌, [], ◌<◌, ◌≤◌, IfOk, OnOk, IsTrue, length, List, MatchOption};
-ghost use Rattle.sv_xmlcall.specs.Characters.{are_letters};
-ghost use Rattle.sv_xmlcall.specs.declared.letters.Letters.TheVariants.{OfXml};
-ghost use Rattle.sv_xmlcall.specs.declared.letters.Awaits.{Awaits};
+ghost use Rattle.std.specs.Prelude.{◌≡◌, ◌++◌, ◌∷◌, [], ◌<◌, ◌≤◌, IfOk, OnOk, IsTrue, length, List};
+ghost use Rattle.std.specs.Prelude.{MatchOption};
+ghost use Rattle.sv_letters.specs.Letters.{are_letters};
+ghost use Rattle.sv_letters.specs.declared.letters.Letters.TheVariants.{OfXml};
+ghost use Rattle.sv_letters.specs.declared.letters.Awaits.{Awaits};
 ghost use Rattle.sv_xmlcall.specs.Trees.{view, trees_view, members_view};
 ghost use Rattle.sv_xmlcall.specs.Outcome.{Gives, GivesAlways};
 ghost use Rattle.sv_xmlcall.specs.Atoms.{skip_white};
-ghost use Rattle.sv_xmlcall.specs.Machine.{Frame, Go, the_limits, kept, kept_member, after_value, counted};
-ghost use Rattle.sv_xmlcall.specs.Turns.{Settles, opening_of, opened_of, turned, settled_state, ReadsValue};
-ghost use Rattle.sv_xmlcall.specs.Stages.{turn_view, stage_view, held_view, frames_on, before_at, white_of, opened_at, behind_white, begins_tag, typed_at, form_of, number_at, other_at, bare_at, formed_at, array_end_at, data_at, items_at, members_at, ended_at, stage_at};
+ghost use Rattle.sv_xmlcall.specs.Machine.{Frame, Go, the_limits, kept, kept_member, after_value};
+ghost use Rattle.sv_xmlcall.specs.Machine.{counted};
+ghost use Rattle.sv_xmlcall.specs.Turns.{Settles, opening_of, opened_of, turned, settled_state};
+ghost use Rattle.sv_xmlcall.specs.Turns.{ReadsValue};
+ghost use Rattle.sv_xmlcall.specs.Stages.{turn_view, stage_view, held_view, frames_on, before_at};
+ghost use Rattle.sv_xmlcall.specs.Stages.{white_of, opened_at, behind_white, begins_tag, typed_at};
+ghost use Rattle.sv_xmlcall.specs.Stages.{form_of, number_at, other_at, bare_at, formed_at};
+ghost use Rattle.sv_xmlcall.specs.Stages.{array_end_at, data_at, items_at, members_at, ended_at};
+ghost use Rattle.sv_xmlcall.specs.Stages.{stage_at};
 
 use crate::atoms::{close, closing, is_white, shut, skip_white, tag_behind};
 use crate::content::{characters, content, text_of};
 use crate::integer::{integer, truth};
-use crate::stop::{BadByte, Stop};
+use crate::stop::Stop;
 use crate::tag::{Tag, next_tag};
 use crate::value::Value;
 use std::alloc::{AllocError, Global};
 use sv_base::text::Text;
+use sv_letters::BadByte;
 
 /// The most values that may stand one inside the other.
 const NESTING: usize = 32;
@@ -389,7 +397,7 @@ fn number(end: Tag, bytes: &[u8]) -> Result<(Turn, &[u8]), BadByte>
 }
 
 /// Reads a form, or the closing tag of a value whose text is this white space.
-#[tactic(auto, using(crate::proofs::LetterLaws::letters_utf8))]
+#[tactic(auto, using(crate::proofs::Texts::xml_utf8))]
 fn typed(alloc: Global, white: Vec<u8>, bytes: &[u8]) -> Result<(Turn, &[u8]), Stop>
     requires { IsTrue (are_letters OfXml Awaits.Character white.items) }
     ensures value { Gives (λ x. (turn_view x.0, x.1.now)) result (typed_at white.items bytes.now) }
@@ -416,7 +424,7 @@ fn typed(alloc: Global, white: Vec<u8>, bytes: &[u8]) -> Result<(Turn, &[u8]), S
 }
 
 /// Reads the form of this tag, or the end of a closing tag after this white space.
-#[tactic(auto, using(crate::proofs::LetterLaws::letters_utf8))]
+#[tactic(auto, using(crate::proofs::Texts::xml_utf8))]
 fn form(alloc: Global, white: Vec<u8>, tag: Tag, bytes: &[u8]) -> Result<(Turn, &[u8]), Stop>
     requires { IsTrue (are_letters OfXml Awaits.Character white.items) }
     ensures value { Gives (λ x. (turn_view x.0, x.1.now)) result

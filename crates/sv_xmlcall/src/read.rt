@@ -10,7 +10,8 @@ ghost use Rattle.sv_xmlcall.specs.Called.{called, replied, AnswersCalled, Answer
 ghost use Rattle.sv_xmlcall.specs.Spelled.{ACall, AReply, fault_of, two_of, named_fault};
 ghost use Rattle.std.specs.Str.{bytes_eq};
 ghost use Rattle.sv_xmlcall.specs.Outcome.{GivesAlways};
-ghost use Rattle.sv_xmlcall.specs.Machine.{OfCall, OfReply, start, run, the_limits, InReply, InFault, At, AtCalled, AtValue, at};
+ghost use Rattle.sv_xmlcall.specs.Machine.{OfCall, OfReply, start, run, the_limits, InReply};
+ghost use Rattle.sv_xmlcall.specs.Machine.{InFault, At, AtCalled, AtValue, at};
 ghost use Rattle.sv_xmlcall.specs.Documents.{Comes, end_at, value_end_at, faulty_at};
 ghost use Rattle.sv_xmlcall.specs.Answers.{ReadsParams, ReadsFurther, ReadsOne, faulted};
 
@@ -18,11 +19,12 @@ use crate::atoms::{closing, skip_white};
 use crate::call::{Answered, Call, CallFault};
 use crate::document::{answer, begun, fault_end, head, param, param_end};
 use crate::nested::{VALUES, kept, value};
-use crate::stop::{BadByte, Stop};
+use crate::stop::Stop;
 use crate::tag::Tag;
 use crate::value::Value;
 use std::alloc::{AllocError, Global};
 use sv_base::text::Text;
+use sv_letters::BadByte;
 
 /// The call that these bytes spell (the XML-RPC specification, its chapter on requests). Bytes that spell none, or whose
 /// values are too many or stand too deep, are refused by their good prefix, the longest one that begins a spelled call:

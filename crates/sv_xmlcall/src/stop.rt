@@ -1,14 +1,10 @@
 //! Why reading stopped.
 ghost use Rattle.std.specs.Prelude.{◌≡◌};
-ghost use Rattle.sv_xmlcall.specs.declared.stop.BadByte.{BadByte};
+ghost use Rattle.sv_letters.specs.declared.bad_byte.BadByte.{BadByte};
 ghost use Rattle.sv_xmlcall.specs.declared.stop.Stop.{Stop};
 
 use std::alloc::{AllocError, AllocFailed};
-
-/// Why reading without memory stops within a text: at the first byte with which no text goes on, with so many bytes from
-/// it to the end.
-#[derive(Clone, Copy, Debug, PartialEq, Eq)]
-pub struct BadByte(pub usize);
+use sv_letters::BadByte;
 
 /// Why reading stops within a text.
 #[derive(Clone, Copy, Debug, PartialEq, Eq)]

@@ -3,7 +3,7 @@ ghost use Rattle.std.specs.Prelude.{◌≡◌, ◌+◌, ◌<◌, IfOk, length};
 ghost use Rattle.sv_xmlcall.specs.Tags.{spelling, word_at, tag_at};
 ghost use Rattle.sv_xmlcall.specs.Outcome.{GivesAlways};
 
-use crate::stop::BadByte;
+use sv_letters::BadByte;
 
 /// What a text of XML-RPC is made of beside its characters: the tags, those of closing tags without the `>` at their
 /// end, the beginning of the declaration, and the entities, those by number without their number.

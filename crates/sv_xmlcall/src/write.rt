@@ -1,8 +1,12 @@
 //! Writing a call, a reply or a fault.
 ghost use Rattle.std.specs.Prelude.{◌≡◌, ◌≤◌, ◌++◌, IfOk, OnOk, codes, length};
 ghost use Rattle.std.specs.Fmt.{signed_decimal};
-ghost use Rattle.sv_xmlcall.specs.Trees.{view, trees_view, members_view, call_view, Returns, Faults};
-ghost use Rattle.sv_xmlcall.specs.Written.{escaped_byte, digit_of, escaped, opening, closing, element, fault_tree, declaration, written_form, written_value, written_values, written_members, written_params, written_call, written_reply};
+ghost use Rattle.sv_xmlcall.specs.Trees.{view, trees_view, members_view, call_view, Returns};
+ghost use Rattle.sv_xmlcall.specs.Trees.{Faults};
+ghost use Rattle.sv_xmlcall.specs.Written.{escaped_byte, digit_of, escaped, opening, closing};
+ghost use Rattle.sv_xmlcall.specs.Written.{element, fault_tree, declaration, written_form};
+ghost use Rattle.sv_xmlcall.specs.Written.{written_value, written_values, written_members};
+ghost use Rattle.sv_xmlcall.specs.Written.{written_params, written_call, written_reply};
 
 use crate::call::Call;
 use crate::room::{room_of_call, room_of_reply};

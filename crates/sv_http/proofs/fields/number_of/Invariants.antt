@@ -1,5 +1,6 @@
 use Rattle.std.proofs.Common.{◌≡◌, ◌≤◌, ◌+◌, length, min}
-use Rattle.sv_http.specs.AskTable.{number_of, reply_limit}
+use Rattle.sv_http.specs.AskTable.{reply_limit}
+use Rattle.sv_base.specs.SizeText.{number_of}
 use Rattle.sv_http.proofs.fields.number_of.Given as goal
 
 abbrev pub invariant-loop-rest : goal.invariant-loop-rest

@@ -2,9 +2,9 @@ use Rattle.std.proofs.Common.{◌≡◌, ◌-◌, length, take, drop, ap, ◌∙
 use Rattle.sv_journal.specs.Reading.{token_from, with_front}
 use Rattle.sv_journal.specs.Reading.Stage.{Between}
 use Rattle.sv_journal.specs.Names.{above_from}
-use Rattle.sv_journal.specs.declared.token.Letters.TheVariants.{OfText}
-use Rattle.sv_journal.specs.declared.token.Awaits.{Awaits}
-use Rattle.sv_journal.specs.declared.token.Awaits.TheVariants.{Character}
+use Rattle.sv_letters.specs.declared.letters.Letters.TheVariants.{OfText}
+use Rattle.sv_letters.specs.declared.letters.Awaits.{Awaits}
+use Rattle.sv_letters.specs.declared.letters.Awaits.TheVariants.{Character}
 use Rattle.sv_journal.proofs.ReadingNames.{tied_at, lifted_at, last_at}
 use Rattle.sv_journal.proofs.names_line.spelled_above.Goals as goal
 

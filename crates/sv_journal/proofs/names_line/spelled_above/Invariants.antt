@@ -1,7 +1,7 @@
 use Rattle.std.proofs.Common.{◌≡◌, length}
 use Rattle.sv_journal.specs.Reading.{with_front}
 use Rattle.sv_journal.specs.Names.{above_from}
-use Rattle.sv_journal.specs.declared.token.Awaits.TheVariants.{Character}
+use Rattle.sv_letters.specs.declared.letters.Awaits.TheVariants.{Character}
 use Rattle.sv_journal.proofs.names_line.spelled_above.Given as goal
 
 abbrev pub invariant-loop-left : goal.invariant-loop-left

@@ -1,7 +1,7 @@
 use Rattle.std.proofs.Common.{◌≡◌, ◌≤◌, ◌++◌, List, ℕ, true, length}
-use Rattle.sv_xmlcall.specs.Characters.{are_letters}
-use Rattle.sv_xmlcall.specs.declared.letters.Letters.TheVariants.{OfXml}
-use Rattle.sv_xmlcall.specs.declared.letters.Awaits.TheVariants.{Character}
+use Rattle.sv_letters.specs.Letters.{are_letters}
+use Rattle.sv_letters.specs.declared.letters.Letters.TheVariants.{OfXml}
+use Rattle.sv_letters.specs.declared.letters.Awaits.TheVariants.{Character}
 use Rattle.sv_xmlcall.proofs.Texts.{Reaches}
 use Rattle.sv_xmlcall.proofs.content.characters.Given as goal
 

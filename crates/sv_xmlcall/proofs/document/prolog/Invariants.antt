@@ -1,6 +1,6 @@
 use Rattle.std.proofs.Common.{◌≡◌, length, false}
 use Rattle.sv_xmlcall.specs.Reading.{prolog_from}
-use Rattle.sv_xmlcall.specs.declared.letters.Awaits.TheVariants.{Character}
+use Rattle.sv_letters.specs.declared.letters.Awaits.TheVariants.{Character}
 use Rattle.sv_xmlcall.proofs.document.prolog.Given as goal
 
 abbrev pub invariant-loop-rest : goal.invariant-loop-rest

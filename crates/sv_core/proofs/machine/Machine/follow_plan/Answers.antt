@@ -1,4 +1,4 @@
-use Rattle.std.proofs.Common.{◌≡◌, ◌-◌, arith, rules, sym, false, ◌∙◌}
+use Rattle.std.proofs.Common.{◌≡◌, arith, rules, sym, false, ◌∙◌}
 use Rattle.sv_child.specs.Moves.{is_running}
 use Rattle.sv_core.proofs.Stopped.{dropped_there, plan_left, plan_next, plan_waits, rests_there}
 use Rattle.sv_core.specs.Shutdown.{drops_group, tells_group}
@@ -10,8 +10,8 @@ returns-then-not-has_come_to_rest-clause-follows c = λ older w s.
     let at = c.loop-self.invariant.goes older w s in
     let told = c.in_ok-tell_group.ensures.tells older at.world at.shows in
     plan_left c.args.self.now c.tell_group.new.self older w _ s ending
-    (at.is ∙ plan_waits c.loop-self.self.course.left at.world (omega arith)
-    (rests_there c.tell_group.new.self older _ (c.loop-self.self.course.left - 1) told ∙ sym c.if-not-has_come_to_rest.ensures)) told
+    (at.is ∙ plan_waits c.loop-self.self.course.left c.next_to_stop-last.result at.world (omega arith) c.next_to_stop-last.ensures
+    (rests_there c.tell_group.new.self older _ c.next_to_stop-last.result told ∙ sym c.if-not-has_come_to_rest.ensures)) told
 
 pub loop-self-preserved : goal.loop-self-preserved
 loop-self-preserved c = record {
@@ -20,9 +20,9 @@ loop-self-preserved c = record {
       let at = c.loop-self.invariant.goes older w s in
       let told = c.in_ok-tell_group.ensures.tells older at.world at.shows in
       record {
-        world = drops_group (c.loop-self.self.course.left - 1) (tells_group (c.loop-self.self.course.left - 1) at.world);
-        shows = dropped_there c.tell_group.new.self older _ (c.loop-self.self.course.left - 1) told;
-        is = at.is ∙ plan_next c.loop-self.self.course.left at.world (omega arith)
-            (rests_there c.tell_group.new.self older _ (c.loop-self.self.course.left - 1) told ∙ sym c.if-not-has_come_to_rest.ensures);
+        world = drops_group c.next_to_stop-last.result (tells_group c.next_to_stop-last.result at.world);
+        shows = dropped_there c.tell_group.new.self older _ c.next_to_stop-last.result told;
+        is = at.is ∙ plan_next c.loop-self.self.course.left c.next_to_stop-last.result at.world (omega arith) c.next_to_stop-last.ensures
+            (rests_there c.tell_group.new.self older _ c.next_to_stop-last.result told ∙ sym c.if-not-has_come_to_rest.ensures);
       };
 }

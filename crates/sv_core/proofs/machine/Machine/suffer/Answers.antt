@@ -8,7 +8,7 @@ use Rattle.sv_core.specs.declared.failure.Failure.{Failure}
 use Rattle.sv_core.specs.declared.machine.Machine.{Machine}
 use Rattle.sv_core.specs.declared.part.Followed.TheVariants as followed
 use Rattle.sv_core.specs.declared.part.Reply.{Reply}
-use Rattle.sv_core.specs.declared.place.Place.{Place}
+use Rattle.sv_core.specs.declared.place.Suspended.{Suspended}
 use Rattle.sv_links.specs.LinkBook.{ended}
 use Rattle.sv_links.specs.LinkBook.Ending.{Failed as Lost}
 use Rattle.sv_core.proofs.machine.Machine.suffer.Goals as goal
@@ -41,5 +41,5 @@ returns-in_ok-lose_stdin-in-LosesStdin-clause-turn c = λ older w s.
       world = loses_stdin run w;
       shows = lost.loses older w s;
       is = ap (λ (f : Failure). come (rest place w) (followed.Failed f)) c.in-LosesStdin.is ∙ stdin_failed place run w
-          ∙ ap (λ (p : Option Place). rest p (loses_stdin run w)) (sym (ap (λ (x : Machine). x.hand.place) lost.kept));
+          ∙ ap (λ (p : Option Suspended). rest p (loses_stdin run w)) (sym (ap (λ (x : Machine). x.hand.place) lost.kept));
     }

@@ -1,6 +1,6 @@
 use Rattle.std.proofs.Common.{◌≡◌, ◌++◌, List, ℕ, length}
 use Rattle.sv_http.specs.ReaderPlaces.{Advances, shown}
-use Rattle.sv_http.specs.declared.reader.Place.TheVariants as place
+use Rattle.sv_http.specs.declared.reader.StreamProgress.TheVariants as place
 use Rattle.sv_http.proofs.reader.HttpReader.take_all.Given as goal
 
 abbrev pub invariant-loop-rest : goal.invariant-loop-rest

@@ -1,7 +1,7 @@
 use Rattle.std.proofs.Common.{◌≡◌, ◌++◌, ℕ, sym, ◌∙◌, subst}
 use Rattle.std.proofs.lemmas.List.{take-append-drop}
 use Rattle.sv_pipes.proofs.PlainBytes.{goes_behind}
-use Rattle.sv_pipes.specs.CapturePlaces.{Reading, shown, steps}
+use Rattle.sv_pipes.specs.CapturePlaces.{CaptureState, shown, steps}
 use Rattle.sv_pipes.proofs.captured.Capture.take_all.Goals as goal
 
 pub loop-rest-preserved : goal.loop-rest-preserved
@@ -11,8 +11,8 @@ loop-rest-preserved c =
     let front = c.split_at.result.0.now in
     let back = c.split_at.result.1.now in
     let rest = c.loop-rest.rest.now in
-    let reading : Reading = shown c.loop-rest.self c.loop-rest.parts.items c.loop-rest.logged.items in
-    let after : Reading = shown c.take_plain.new.self c.loop-rest.parts.items c.take_plain.new.logged.items in
+    let reading : CaptureState = shown c.loop-rest.self c.loop-rest.parts.items c.loop-rest.logged.items in
+    let after : CaptureState = shown c.take_plain.new.self c.loop-rest.parts.items c.take_plain.new.logged.items in
     let split : rest ≡ front ++ back
     = rw (c.split_at.ensures.front, c.split_at.ensures.back) (sym (take-append-drop c.plain_front-front.result rest)) in
     record {

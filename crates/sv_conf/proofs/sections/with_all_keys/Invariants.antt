@@ -1,6 +1,0 @@
-use Rattle.std.proofs.Common.{◌≡◌}
-use Rattle.sv_conf.specs.Configuration.{with_all_keys}
-use Rattle.sv_conf.proofs.sections.with_all_keys.Given as goal
-
-abbrev pub invariant-loop-key : goal.invariant-loop-key
-invariant-loop-key l = l.all.items ≡ with_all_keys l.initial.all.items l.yielded

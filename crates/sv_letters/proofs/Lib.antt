@@ -1,0 +1,2 @@
+pub mod LetterLaws
+pub mod TextLaws

@@ -1,0 +1,4 @@
+pub mod Homes
+pub mod HomesByName
+pub mod Processes
+pub mod Programs

@@ -1,0 +1,5 @@
+pub mod AllSections
+pub mod FaultTexts
+pub mod Includes
+pub mod SectionFaults
+pub mod ServerSections
