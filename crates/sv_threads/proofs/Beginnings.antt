@@ -1,9 +1,10 @@
 -- How a world begins.
 use Rattle.std.proofs.Common.{◌≡◌, ℕ, Bool, List, Option, subst}
 use Rattle.sv_base.specs.declared.state.Side.TheVariants.{Inet, Unix}
+use Rattle.sv_first_jobs.specs.Handing.{Hands, HandsLinks}
 use Rattle.sv_outside.specs.declared.jobs.JobWord.{JobWord}
 use Rattle.sv_outside.specs.declared.jobs.JobWord.TheVariants.{Console, Ticker}
-use Rattle.sv_threads.specs.Starting.{Hands, HandsLinks, Starts}
+use Rattle.sv_threads.specs.Starting.{Starts}
 
 -- a gate as it is made, and after each job that it was handed
 pub starts : (inet unix : Bool) (kept : Option (List JobWord)) (faults : ℕ) (made first second third last : Option (List JobWord) × ℕ)

@@ -1,22 +1,20 @@
 //! How a world of threads begins.
 ghost use Rattle.std.specs.Prelude.{IfOk, is_some};
-ghost use Rattle.sv_outside.specs.declared.jobs.JobWord.TheVariants.{Console, Ticker};
-ghost use Rattle.sv_threads.specs.Starting.{Hands, HandsLinks, HasNoLink, Starts};
+ghost use Rattle.sv_threads.specs.Starting.{HasNoLink, Starts};
 
 use crate::world::{Accepted, ThreadWorld};
 use std::alloc::{AllocError, Global};
 use std::collections::VecDeque;
 use std::sync::Wait;
 use sv_base::Side;
-use sv_gate::{Ready, hand};
-use sv_job_types::{AnyJob, ConsoleJob, LinksJob, TickerJob};
-use sv_jobs::Note;
+use sv_first_jobs::{hand_console, hand_links, hand_ticker};
+use sv_gate::Ready;
+use sv_job_types::{AnyJob, ConsoleJob, TickerJob};
 use sv_lane::{Poster, Taker, lane};
 use sv_link_orders::LiveLinks;
 use sv_out::files::Shelf;
-use sv_out::sink::Sink;
 use sv_out::source::Source;
-use sv_outside::{Clock, Gate, Job, Listen, Spawner, Waiter};
+use sv_outside::{Clock, Gate, Job, Listen, Spawner};
 use sv_run_orders::LiveRuns;
 
 /// The most items in the lane of the notes.
@@ -113,72 +111,4 @@ fn links_lane<K: Drop>(alloc: Global) -> Result<(Taker<K>, Poster<K>), AllocErro
     let (taker, mut seats) = lane(alloc, LINKS)?;
     let poster = seats.seat()?;
     Ok((taker, poster))
-}
-
-/// Hands the gate the job of the console.
-fn hand_console<
-    K: Sink + Drop,
-    O: Source + Drop,
-    E: Source + Drop,
-    W: Waiter + Drop,
-    L: Listen + Drop,
-    Q: Source + Drop,
-    C: Clock + Drop,
-    B: Job,
-    G: Gate<AnyJob<K, O, E, W, L, Q, C, B>> + Drop,
->(gate: &mut Ready<AnyJob<K, O, E, W, L, Q, C, B>, G>, job: ConsoleJob<Q>)
-    ensures { Hands Console gate.old.0 gate.old.1 gate.new.0 gate.new.1 }
-{
-    hand(gate, AnyJob::Console(job));
-}
-
-/// Hands the gate the job of the ticker.
-fn hand_ticker<
-    K: Sink + Drop,
-    O: Source + Drop,
-    E: Source + Drop,
-    W: Waiter + Drop,
-    L: Listen + Drop,
-    Q: Source + Drop,
-    C: Clock + Drop,
-    B: Job,
-    G: Gate<AnyJob<K, O, E, W, L, Q, C, B>> + Drop,
->(gate: &mut Ready<AnyJob<K, O, E, W, L, Q, C, B>, G>, job: TickerJob<C>)
-    ensures { Hands Ticker gate.old.0 gate.old.1 gate.new.0 gate.new.1 }
-{
-    hand(gate, AnyJob::Ticker(job));
-}
-
-/// Hands the gate the job that accepts the links of a side, where there is a server.
-fn hand_links<
-    K: Sink + Drop,
-    O: Source + Drop,
-    E: Source + Drop,
-    W: Waiter + Drop,
-    L: Listen + Drop,
-    Q: Source + Drop,
-    C: Clock + Drop,
-    B: Job,
-    G: Gate<AnyJob<K, O, E, W, L, Q, C, B>> + Drop,
->(
-    gate: &mut Ready<AnyJob<K, O, E, W, L, Q, C, B>, G>,
-    side: Side,
-    listen: Option<L>,
-    poster: Poster<Note>,
-    links: Poster<L::Link>,
-)
-    ensures { HandsLinks side (is_some listen) gate.old.0 gate.old.1 gate.new.0 gate.new.1 }
-{
-    if let Some(listen) = listen {
-        hand(
-            gate,
-            AnyJob::Links(LinksJob {
-                side,
-                listen,
-                turns: u64::MAX,
-                poster,
-                links,
-            }),
-        );
-    }
 }
