@@ -1,11 +1,9 @@
 -- lines and names
 mod FirstFeed
 mod Walks
-mod RisingNames
 pub mod ProgramNames
 mod Programs
--- what is found of a line, and read of a journal
-mod Judged
+-- what is read of a journal
 mod ReadAll
 mod RunSteps
 pub mod OneReading

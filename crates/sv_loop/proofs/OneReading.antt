@@ -10,14 +10,15 @@ use Rattle.sv_journal.proofs.PlainOrders.{one_order, plain_order}
 use Rattle.sv_journal.specs.JournalLine.{order_line}
 use Rattle.sv_journal.specs.Limits.{line_limit}
 use Rattle.sv_journal.specs.declared.header.Header.{Header}
-use Rattle.sv_journal.specs.declared.header.Header.TheVariants as header_is
-use Rattle.sv_loop.specs.JournalPlaces.{Line, line_text, FitsLine, Stage, Verdict, heads, judged, Walked, behind, walks_on, walked, journal_text, AllFit, IsBadLine, IsNotAccepted, IsNotConfigured}
-use Rattle.sv_loop.specs.JournalPlaces.Line.{Head, Said, Noted}
-use Rattle.sv_loop.specs.JournalPlaces.Stage.{Fresh, Named, Long, Running}
-use Rattle.sv_loop.specs.JournalPlaces.Verdict.{Stands, BadLine, NotAccepted, NotConfigured}
-use Rattle.sv_loop.specs.JournalPlaces.Walked.{Reaches, Stops}
+use Rattle.sv_judge.proofs.Headers.{no_header_behind_go}
+use Rattle.sv_judge.specs.JournalPlaces.{Line, line_text, FitsLine, Stage, Verdict, heads, judged, Walked, behind, walks_on, walked, journal_text, AllFit, IsBadLine, IsNotAccepted, IsNotConfigured}
+use Rattle.sv_judge.specs.JournalPlaces.Line.{Head, Said, Noted}
+use Rattle.sv_judge.specs.JournalPlaces.Stage.{Fresh, Named, Long, Running}
+use Rattle.sv_judge.specs.JournalPlaces.Verdict.{Stands, BadLine, NotAccepted, NotConfigured}
+use Rattle.sv_judge.specs.JournalPlaces.Walked.{Reaches, Stops}
 use Rattle.sv_loop.specs.Reading.{has_feed, IsRead, IsWhole, OutsideGrammar, UnacceptedLine, UnconfiguredLine}
-use Rattle.sv_loop.specs.Replaying.{EndsTooEarly, IsBeforeGo, Replays, TellsWhy, journal_limit, status_number}
+use Rattle.sv_loop.specs.Replaying.{EndsTooEarly, Replays, TellsWhy, journal_limit, status_number}
+use Rattle.sv_judge.specs.JournalPlaces.{IsBeforeGo}
 use Rattle.sv_loop.specs.WholeJournal.{HoldsGoodJournal, IsDoneOrHindered}
 use Rattle.sv_loop.specs.WholeJournal.IsDoneOrHindered.{Is_done, Source_failed, No_memory, Sink_failed}
 use Rattle.sv_loop.specs.declared.replaying.Status.{Status}
@@ -62,18 +63,6 @@ no_longer (c ∷ text) x [] y none e = let same : 10 ≡ c = cc in absurd (begin
 no_longer (c ∷ text) x (d ∷ line) y none e =
     let same : line ++ 10 ∷ y ≡ text ++ x = cc in
     let rest : length text ≤ length line = no_longer text x line y (or_right (c == 10) (has_feed text) none) same in omega arith
-
-pub no_header_behind_go : (m : Model) (header : Header) → heads (Running m) header ≡ BadLine
-no_header_behind_go m (header_is.Journal version) = refl
-no_header_behind_go m (header_is.Program program) = refl
-no_header_behind_go m (header_is.Host name) = refl
-no_header_behind_go m (header_is.Here here) = refl
-no_header_behind_go m (header_is.Pid pid) = refl
-no_header_behind_go m (header_is.Env name value) = refl
-no_header_behind_go m (header_is.Size file size) = refl
-no_header_behind_go m (header_is.Conf text) = refl
-no_header_behind_go m (header_is.Include name more) = refl
-no_header_behind_go m (header_is.Go start) = refl
 
 pub no_head : (m : Model) (header : Header) (to : Stage) (given : List Order) → heads (Running m) header ≡ Stands to given → ⊥
 no_head m header to given e = let both : BadLine ≡ Stands to given = sym (no_header_behind_go m header) ∙ e in cc

@@ -18,7 +18,7 @@ use Rattle.sv_groups.specs.Changes.{with_group}
 use Rattle.sv_groups.specs.StartOrder.{processes}
 use Rattle.sv_journal.specs.declared.header.Program.{Program}
 use Rattle.sv_loop.specs.Generating.{IsNumber, program_of, programs, programs_to}
-use Rattle.sv_loop.specs.ShortHeader.{group_of}
+use Rattle.sv_judge.specs.ShortHeader.{group_of}
 use Rattle.sv_loop.specs.WholeJournal.{groups_of}
 use Rattle.sv_ranks.proofs.Placing.{placed_last}
 

@@ -10,17 +10,19 @@ use Rattle.sv_core.specs.MachineState.{Model, accepts, next, orders}
 use Rattle.sv_groups.specs.Changes.{with_group}
 use Rattle.sv_journal.specs.declared.header.Header.{Header}
 use Rattle.sv_journal.specs.declared.header.Header.TheVariants as header_is
-use Rattle.sv_loop.proofs.OneReading.{no_head, no_header_behind_go, why_misplaced}
-use Rattle.sv_loop.specs.JournalPlaces.{Line, Stage, Verdict, Walked, begins, behind, goes_on, heads, judged, long_heads, moved, titles, walked, walks_on}
-use Rattle.sv_loop.specs.JournalPlaces.Line.{Head, Said, Noted}
-use Rattle.sv_loop.specs.JournalPlaces.Stage.{Fresh, Named, Long, Running}
-use Rattle.sv_loop.specs.JournalPlaces.Verdict.{Stands, BadLine, NotAccepted, NotConfigured}
-use Rattle.sv_loop.specs.JournalPlaces.Walked.{Reaches, Stops}
-use Rattle.sv_loop.specs.Replaying.{IsBeforeGo, TellsWhy}
-use Rattle.sv_loop.specs.LongHeader.{starting_at}
-use Rattle.sv_loop.specs.ShortHeader.{group_of}
-use Rattle.sv_loop.specs.declared.long.LongPlace.{LongPlace}
-use Rattle.sv_loop.specs.declared.long.LongPlace.TheVariants.{Titled, Hosted, Located, Described, Configured}
+use Rattle.sv_loop.proofs.OneReading.{no_head, why_misplaced}
+use Rattle.sv_judge.proofs.Headers.{no_header_behind_go}
+use Rattle.sv_judge.specs.JournalPlaces.{Line, Stage, Verdict, Walked, begins, behind, goes_on, heads, judged, long_heads, moved, titles, walked, walks_on}
+use Rattle.sv_judge.specs.JournalPlaces.Line.{Head, Said, Noted}
+use Rattle.sv_judge.specs.JournalPlaces.Stage.{Fresh, Named, Long, Running}
+use Rattle.sv_judge.specs.JournalPlaces.Verdict.{Stands, BadLine, NotAccepted, NotConfigured}
+use Rattle.sv_judge.specs.JournalPlaces.Walked.{Reaches, Stops}
+use Rattle.sv_loop.specs.Replaying.{TellsWhy}
+use Rattle.sv_judge.specs.JournalPlaces.{IsBeforeGo}
+use Rattle.sv_judge.specs.LongHeader.{starting_at}
+use Rattle.sv_judge.specs.ShortHeader.{group_of}
+use Rattle.sv_judge.specs.declared.long.LongPlace.{LongPlace}
+use Rattle.sv_judge.specs.declared.long.LongPlace.TheVariants.{Titled, Hosted, Located, Described, Configured}
 use Rattle.sv_out.specs.declared.input.Input.{Input}
 use Rattle.sv_out.specs.declared.order.Order.{Order}
 

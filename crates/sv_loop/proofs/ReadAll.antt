@@ -3,7 +3,7 @@ use Rattle.std.proofs.Common.{◌≡◌, ℕ, ◌-◌, ◌≤◌, List, [], ◌�
 use Rattle.std.proofs.KnownBytes.{Consumes-trans}
 use Rattle.std.specs.Io.KnownBytes.{Consumes, IsAtEnd}
 use Rattle.sv_loop.proofs.RunSteps.{goes_further, stops_further}
-use Rattle.sv_loop.specs.JournalPlaces.{Line, Stage}
+use Rattle.sv_judge.specs.JournalPlaces.{Line, Stage}
 use Rattle.sv_loop.specs.Reading.{IsAt, GoesOn, StopsAt}
 use Rattle.sv_loop.specs.Replaying.{Taken, ReadOn, ReadsOn, Ended}
 use Rattle.sv_loop.specs.Telling.{IsBehind}

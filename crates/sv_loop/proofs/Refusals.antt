@@ -5,12 +5,13 @@ use Rattle.sv_journal.proofs.NoLineFeed.{plain_header}
 use Rattle.sv_journal.specs.JournalLine.{FitsHeader, header_line}
 use Rattle.sv_journal.specs.Limits.{line_limit}
 use Rattle.sv_journal.specs.declared.header.Header.{Header}
-use Rattle.sv_loop.proofs.OneReading.{plain_line, feed_in, same_front, no_longer, step_of, never_refused, never_unconfigured, no_header_behind_go, same_line, stands_not, whole_line, why_misplaced, Stood}
-use Rattle.sv_loop.specs.JournalPlaces.{Line, line_text, Stage, Verdict, heads, judged, walked, journal_text, AllFit, IsBadLine, IsNotAccepted, IsNotConfigured}
-use Rattle.sv_loop.specs.JournalPlaces.Line.{Head}
-use Rattle.sv_loop.specs.JournalPlaces.Stage.{Fresh, Named, Long, Running}
-use Rattle.sv_loop.specs.JournalPlaces.Verdict.{Stands}
-use Rattle.sv_loop.specs.JournalPlaces.Walked.{Reaches}
+use Rattle.sv_loop.proofs.OneReading.{plain_line, feed_in, same_front, no_longer, step_of, never_refused, never_unconfigured, same_line, stands_not, whole_line, why_misplaced, Stood}
+use Rattle.sv_judge.proofs.Headers.{no_header_behind_go}
+use Rattle.sv_judge.specs.JournalPlaces.{Line, line_text, Stage, Verdict, heads, judged, walked, journal_text, AllFit, IsBadLine, IsNotAccepted, IsNotConfigured}
+use Rattle.sv_judge.specs.JournalPlaces.Line.{Head}
+use Rattle.sv_judge.specs.JournalPlaces.Stage.{Fresh, Named, Long, Running}
+use Rattle.sv_judge.specs.JournalPlaces.Verdict.{Stands}
+use Rattle.sv_judge.specs.JournalPlaces.Walked.{Reaches}
 use Rattle.sv_loop.specs.Reading.{has_feed, IsRead, OutsideGrammar, UnacceptedLine}
 use Rattle.sv_loop.specs.Replaying.{EndsTooEarly, Replays, TellsWhy, journal_limit, status_number}
 use Rattle.sv_loop.specs.WholeJournal.{HoldsUnconfigured, IsUnconfiguredOrHindered}

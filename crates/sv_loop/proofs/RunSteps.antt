@@ -4,13 +4,13 @@ use Rattle.std.proofs.KnownBytes.{Appends-nil, Appends-trans}
 use Rattle.std.specs.Io.KnownBytes.{Appends}
 use Rattle.sv_journal.specs.Limits.{line_limit}
 use Rattle.sv_loop.proofs.Walks.{journal_text_more, order_text_append, all_fit_more, walked_more}
-use Rattle.sv_loop.specs.JournalPlaces.{Line, line_text, Stage, Verdict, journal_text, order_text, IsBadLine, IsNotAccepted, IsNotConfigured}
-use Rattle.sv_loop.specs.JournalPlaces.Stage.{Fresh}
-use Rattle.sv_loop.specs.JournalPlaces.Verdict.{NotConfigured as As_not_configured}
-use Rattle.sv_loop.specs.Judging.{LeadsTo}
+use Rattle.sv_judge.specs.JournalPlaces.{Line, line_text, Stage, Verdict, journal_text, order_text, IsBadLine, IsNotAccepted, IsNotConfigured}
+use Rattle.sv_judge.specs.JournalPlaces.Stage.{Fresh}
+use Rattle.sv_judge.specs.JournalPlaces.Verdict.{NotConfigured as As_not_configured}
+use Rattle.sv_judge.specs.Judging.{LeadsTo}
 use Rattle.std.proofs.lemmas.List.Folds.{list_any-append}
 use Rattle.sv_loop.specs.Reading.{Holds, has_feed, IsCut, IsRead, IsAt, GoesOn, AtFault, IsWhole, OutsideGrammar, UnacceptedLine, UnconfiguredLine, Anything, HalfWritten, StopsAt, Unwrote}
-use Rattle.sv_loop.specs.declared.judge.JournalProgress.{JournalProgress}
+use Rattle.sv_judge.specs.declared.judging.JournalProgress.{JournalProgress}
 use Rattle.sv_loop.specs.declared.run.End.{End}
 use Rattle.sv_loop.specs.declared.run.End.TheVariants.{BadLine, NotAccepted, NotConfigured, NoMemory, SinkFailed}
 use Rattle.sv_loop.specs.declared.run.Run.{Run}

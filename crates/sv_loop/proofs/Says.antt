@@ -11,15 +11,15 @@ use Rattle.sv_journal.specs.declared.header.Program.{Program as Programs_line}
 use Rattle.sv_loop.proofs.Quiet.{quiet_until}
 use Rattle.sv_loop.proofs.SaysInputs.{says_inputs, quiet}
 use Rattle.sv_loop.proofs.SaysLong.{says_long}
-use Rattle.sv_loop.specs.JournalPlaces.{Line, Stage, titles, walks_on, walked, journal_text, order_text, AllFit}
-use Rattle.sv_loop.specs.JournalPlaces.Line.{Head, Said, Noted}
-use Rattle.sv_loop.specs.JournalPlaces.Stage.{Fresh, Named, Long, Running}
-use Rattle.sv_loop.specs.JournalPlaces.Verdict.{Stands, BadLine}
-use Rattle.sv_loop.specs.JournalPlaces.Walked.{Reaches}
+use Rattle.sv_judge.specs.JournalPlaces.{Line, Stage, titles, walks_on, walked, journal_text, order_text, AllFit}
+use Rattle.sv_judge.specs.JournalPlaces.Line.{Head, Said, Noted}
+use Rattle.sv_judge.specs.JournalPlaces.Stage.{Fresh, Named, Long, Running}
+use Rattle.sv_judge.specs.JournalPlaces.Verdict.{Stands, BadLine}
+use Rattle.sv_judge.specs.JournalPlaces.Walked.{Reaches}
 use Rattle.sv_loop.specs.Replaying.{Done}
-use Rattle.sv_loop.specs.ShortHeader.{config_of, group_of, host_at}
+use Rattle.sv_judge.specs.ShortHeader.{config_of, group_of, host_at}
 use Rattle.sv_loop.specs.WholeJournal.Beginning.{Short as Of_programs, Long as Of_configuration}
-use Rattle.sv_loop.specs.declared.long.LongPlace.TheVariants.{Titled}
+use Rattle.sv_judge.specs.declared.long.LongPlace.TheVariants.{Titled}
 use Rattle.sv_loop.specs.WholeJournal.{Entry, program_lines, entry_lines, inputs_in, groups_of, AllAccepted, SaysJournal, TellsDeeds, WritesDeeds}
 use Rattle.sv_out.specs.declared.input.Input.{Input}
 use Rattle.sv_out.specs.declared.order.Order.{Order}

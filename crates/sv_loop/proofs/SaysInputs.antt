@@ -3,11 +3,11 @@ use Rattle.std.proofs.Common.{◌≡◌, List, [], ◌∷◌, ◌++◌, Bool, tr
 use Rattle.sv_core.specs.Deeds.{after, deeds}
 use Rattle.sv_core.specs.MachineState.{Model, accepts, next, orders}
 use Rattle.sv_journal.specs.declared.header.Header.TheVariants as header_is
-use Rattle.sv_loop.specs.JournalPlaces.{Line, Stage, Walked, behind, walks_on, walked}
-use Rattle.sv_loop.specs.JournalPlaces.Line.{Head, Said, Noted}
-use Rattle.sv_loop.specs.JournalPlaces.Stage.{Running}
-use Rattle.sv_loop.specs.JournalPlaces.Verdict.{Stands, NotAccepted}
-use Rattle.sv_loop.specs.JournalPlaces.Walked.{Reaches, Stops}
+use Rattle.sv_judge.specs.JournalPlaces.{Line, Stage, Walked, behind, walks_on, walked}
+use Rattle.sv_judge.specs.JournalPlaces.Line.{Head, Said, Noted}
+use Rattle.sv_judge.specs.JournalPlaces.Stage.{Running}
+use Rattle.sv_judge.specs.JournalPlaces.Verdict.{Stands, NotAccepted}
+use Rattle.sv_judge.specs.JournalPlaces.Walked.{Reaches, Stops}
 use Rattle.sv_loop.specs.WholeJournal.{Entry, entry_lines, inputs_in, AllAccepted}
 use Rattle.sv_loop.specs.WholeJournal.Entry.{Told, Given}
 use Rattle.sv_out.specs.declared.input.Input.{Input}

@@ -8,13 +8,13 @@ use Rattle.sv_core.specs.Deeds.{after, deeds}
 use Rattle.sv_core.specs.MachineState.{Model, opening}
 use Rattle.sv_journal.specs.declared.header.Header.TheVariants as header_is
 use Rattle.sv_loop.proofs.SaysInputs.{says_inputs, quiet}
-use Rattle.sv_loop.specs.JournalPlaces.{Line, begins, described, moved, walked, walks_on}
-use Rattle.sv_loop.specs.JournalPlaces.Line.{Head, Said, Noted}
-use Rattle.sv_loop.specs.JournalPlaces.Stage.{Long, Running}
-use Rattle.sv_loop.specs.JournalPlaces.Walked.{Reaches}
-use Rattle.sv_loop.specs.LongHeader.{is_behind, host_of, with_variable, starting_at}
+use Rattle.sv_judge.specs.JournalPlaces.{Line, begins, described, moved, walked, walks_on}
+use Rattle.sv_judge.specs.JournalPlaces.Line.{Head, Said, Noted}
+use Rattle.sv_judge.specs.JournalPlaces.Stage.{Long, Running}
+use Rattle.sv_judge.specs.JournalPlaces.Walked.{Reaches}
+use Rattle.sv_judge.specs.LongHeader.{is_behind, host_of, with_variable, starting_at}
 use Rattle.sv_loop.specs.WholeJournal.{Entry, variable_lines, size_lines, include_lines, entry_lines, inputs_in, AllAccepted, IsConfigured}
-use Rattle.sv_loop.specs.declared.long.LongPlace.TheVariants.{Titled, Hosted, Located, Described, Configured}
+use Rattle.sv_judge.specs.declared.long.LongPlace.TheVariants.{Titled, Hosted, Located, Described, Configured}
 use Rattle.sv_out.specs.declared.input.Input.{Input}
 use Rattle.sv_out.specs.declared.order.Order.{Order}
 

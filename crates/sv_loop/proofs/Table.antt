@@ -3,17 +3,19 @@ use Rattle.std.proofs.Common.{◌≡◌, ℕ, ◌+◌, ◌<◌, List, [], ◌∷
 use Rattle.std.proofs.KnownBytes.{Appends-trans}
 use Rattle.std.specs.Io.KnownBytes.{Appends, Consumes, IsAtEnd}
 use Rattle.sv_core.specs.MachineState.{Model}
-use Rattle.sv_loop.proofs.Judged.{before_go}
+use Rattle.sv_judge.proofs.Judged.{before_go}
 use Rattle.sv_loop.proofs.Quiet.{judged_before_go, quiet_until}
-use Rattle.sv_loop.specs.JournalPlaces.{Line, Stage, Verdict, order_text}
-use Rattle.sv_loop.specs.JournalPlaces.Stage.{Fresh, Named, Long, Running}
-use Rattle.sv_loop.specs.JournalPlaces.Verdict.{NotConfigured as As_not_configured}
-use Rattle.sv_loop.specs.Judging.{IsPlace}
+use Rattle.sv_judge.specs.JournalPlaces.{Line, Stage, Verdict, order_text}
+use Rattle.sv_judge.specs.JournalPlaces.Stage.{Fresh, Named, Long, Running}
+use Rattle.sv_judge.specs.JournalPlaces.Verdict.{NotConfigured as As_not_configured}
+use Rattle.sv_judge.specs.Judging.{IsPlace}
 use Rattle.sv_loop.specs.Reading.{IsRead, GoesOn, OutsideGrammar, UnacceptedLine, UnconfiguredLine, StopsAt}
-use Rattle.sv_loop.specs.Replaying.{bad_line, not_accepted, configuration_fault, TellsWhy, Unconfigured, source_failed, too_long, IsBeforeGo, EndsInLine, EndsTooEarly, Taken, Closed, Overfull, BreaksOff, line_behind, Replays, ReadOn, Ended}
-use Rattle.sv_loop.specs.Telling.{IsRunning, Tells, TellsLine, TellsOf, TellsOfLine, TellsOfWhole}
-use Rattle.sv_loop.specs.declared.judge.JournalProgress.{JournalProgress}
-use Rattle.sv_loop.specs.declared.judge.JournalProgress.TheVariants as place_is
+use Rattle.sv_loop.specs.Replaying.{bad_line, not_accepted, configuration_fault, TellsWhy, Unconfigured, source_failed, too_long, EndsInLine, EndsTooEarly, Taken, Closed, Overfull, BreaksOff, line_behind, Replays, ReadOn, Ended}
+use Rattle.sv_judge.specs.JournalPlaces.{IsBeforeGo}
+use Rattle.sv_loop.specs.Telling.{Tells, TellsLine, TellsOf, TellsOfLine, TellsOfWhole}
+use Rattle.sv_judge.specs.Judging.{IsRunning}
+use Rattle.sv_judge.specs.declared.judging.JournalProgress.{JournalProgress}
+use Rattle.sv_judge.specs.declared.judging.JournalProgress.TheVariants as place_is
 use Rattle.sv_loop.specs.declared.replaying.Ending.{Ending}
 use Rattle.sv_loop.specs.declared.replaying.Ending.TheVariants.{Whole, Broken, Full, Stopped}
 use Rattle.sv_loop.specs.declared.replaying.Status.{Status}

@@ -3,9 +3,9 @@ use Rattle.std.proofs.Common.{◌≡◌, List, [], ◌∷◌, ◌++◌, ◌≤�
 use Rattle.std.proofs.lemmas.Grind.{flat_map-append}
 use Rattle.sv_journal.specs.JournalLine.{order_line}
 use Rattle.sv_journal.specs.Limits.{line_limit}
-use Rattle.sv_loop.specs.JournalPlaces.{Line, line_text, FitsLine, Stage, Verdict, judged, Walked, behind, walks_on, walked, journal_text, order_text, AllFit}
-use Rattle.sv_loop.specs.JournalPlaces.Verdict.{Stands, BadLine, NotAccepted, NotConfigured}
-use Rattle.sv_loop.specs.JournalPlaces.Walked.{Reaches, Stops}
+use Rattle.sv_judge.specs.JournalPlaces.{Line, line_text, FitsLine, Stage, Verdict, judged, Walked, behind, walks_on, walked, journal_text, order_text, AllFit}
+use Rattle.sv_judge.specs.JournalPlaces.Verdict.{Stands, BadLine, NotAccepted, NotConfigured}
+use Rattle.sv_judge.specs.JournalPlaces.Walked.{Reaches, Stops}
 use Rattle.sv_out.specs.declared.order.Order.{Order}
 
 pub order_text_append : (one other : List Order) → order_text (one ++ other) ≡ order_text one ++ order_text other

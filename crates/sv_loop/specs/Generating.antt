@@ -9,7 +9,7 @@ use Rattle.sv_generated.specs.Counted.{run_line}
 use Rattle.sv_generated.specs.Generated.{generated, program_name}
 use Rattle.sv_generated.specs.Taken.{Beginning, first_of}
 use Rattle.sv_journal.specs.declared.header.Program.{Program}
-use Rattle.sv_loop.specs.ShortHeader.{config_of, host_at}
+use Rattle.sv_judge.specs.ShortHeader.{config_of, host_at}
 use Rattle.sv_loop.specs.WholeJournal.{groups_of}
 use Rattle.sv_out.specs.Written.{AppendsFront}
 

@@ -1,7 +1,3 @@
-pub mod ShortHeader
-pub mod LongHeader
-pub mod JournalPlaces
-pub mod Judging
 pub mod Reading
 pub mod Replaying
 pub mod Telling

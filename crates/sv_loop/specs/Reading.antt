@@ -6,12 +6,12 @@ use Rattle.std.specs.Io.KnownBytes.{Appends}
 use Rattle.std.specs.List.{list_any}
 use Rattle.sv_base.specs.Ascii.{line_feed}
 use Rattle.sv_journal.specs.Limits.{line_limit}
-use Rattle.sv_loop.specs.JournalPlaces.{Line, Stage, Verdict, walked, journal_text, order_text}
-use Rattle.sv_loop.specs.JournalPlaces.{AllFit, IsBadLine, IsNotAccepted, IsNotConfigured}
-use Rattle.sv_loop.specs.JournalPlaces.Stage.{Fresh}
-use Rattle.sv_loop.specs.JournalPlaces.Verdict.{NotConfigured as As_not_configured}
-use Rattle.sv_loop.specs.JournalPlaces.Walked.{Reaches}
-use Rattle.sv_loop.specs.Judging.{IsPlace}
+use Rattle.sv_judge.specs.JournalPlaces.{Line, Stage, Verdict, walked, journal_text, order_text}
+use Rattle.sv_judge.specs.JournalPlaces.{AllFit, IsBadLine, IsNotAccepted, IsNotConfigured}
+use Rattle.sv_judge.specs.JournalPlaces.Stage.{Fresh}
+use Rattle.sv_judge.specs.JournalPlaces.Verdict.{NotConfigured as As_not_configured}
+use Rattle.sv_judge.specs.JournalPlaces.Walked.{Reaches}
+use Rattle.sv_judge.specs.Judging.{IsPlace}
 use Rattle.sv_loop.specs.declared.run.End.{End}
 use Rattle.sv_loop.specs.declared.run.End.TheVariants.{BadLine, NotAccepted, NotConfigured}
 use Rattle.sv_loop.specs.declared.run.End.TheVariants.{NoMemory, SinkFailed}

@@ -8,9 +8,9 @@ use Rattle.sv_sections.specs.FaultTexts.{fault_text}
 use Rattle.sv_sections.specs.declared.fault.ConfFault.{ConfFault}
 use Rattle.sv_core.specs.MachineState.{Model}
 use Rattle.sv_journal.specs.Limits.{line_limit}
-use Rattle.sv_loop.specs.JournalPlaces.{Line, Stage, Verdict, order_text}
-use Rattle.sv_loop.specs.JournalPlaces.Stage.{Fresh, Named, Long, Running}
-use Rattle.sv_loop.specs.JournalPlaces.Verdict.{NotConfigured}
+use Rattle.sv_judge.specs.JournalPlaces.{IsBeforeGo, Line, Stage, Verdict, order_text}
+use Rattle.sv_judge.specs.JournalPlaces.Stage.{Running}
+use Rattle.sv_judge.specs.JournalPlaces.Verdict.{NotConfigured}
 use Rattle.sv_loop.specs.Reading.{IsRead, OutsideGrammar, UnacceptedLine, UnconfiguredLine, GoesOn}
 use Rattle.sv_loop.specs.Reading.{StopsAt}
 use Rattle.sv_loop.specs.declared.replaying.Ending.{Ending}
@@ -73,13 +73,6 @@ configuration_fault fault = codes "fault 6 conf " ++ fault_text fault ++ line_fe
 abbrev pub TellsWhy : Verdict → List ℕ → Type 0
 TellsWhy (NotConfigured fault) line = line ≡ configuration_fault fault
 TellsWhy verdict line = ⊥
-
--- the place is before `go`
-abbrev pub IsBeforeGo : Stage → Type 0
-IsBeforeGo Fresh = Unit {0}
-IsBeforeGo (Named groups) = Unit {0}
-IsBeforeGo (Long place) = Unit {0}
-IsBeforeGo (Running m) = ⊥
 
 -- the source is at its end, and the journal's end alone makes the fault: a line without a line
 -- feed, or no `go`

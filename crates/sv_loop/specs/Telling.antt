@@ -3,8 +3,7 @@ use Rattle.std.specs.Prelude.{◌≡◌, ℕ, List, [], ◌∷◌, ◌+◌, ◌�
 use Rattle.std.specs.Io.KnownBytes.{Appends, Consumes, IsAtEnd}
 use Rattle.sv_loop.specs.Replaying.{bad_line, not_accepted, configuration_fault, source_failed}
 use Rattle.sv_loop.specs.Replaying.{too_long}
-use Rattle.sv_loop.specs.declared.judge.JournalProgress.{JournalProgress}
-use Rattle.sv_loop.specs.declared.judge.JournalProgress.TheVariants as place
+use Rattle.sv_judge.specs.Judging.{IsRunning}
 use Rattle.sv_loop.specs.declared.replaying.Ending.{Ending}
 use Rattle.sv_loop.specs.declared.replaying.Ending.TheVariants.{Whole, Broken, Full, Stopped}
 use Rattle.sv_loop.specs.declared.replaying.Status.{Status}
@@ -14,11 +13,6 @@ use Rattle.sv_loop.specs.declared.run.End.TheVariants.{BadLine, NotAccepted, Not
 use Rattle.sv_loop.specs.declared.run.End.TheVariants.{NoMemory, SinkFailed}
 use Rattle.sv_loop.specs.declared.run.Run.{Run}
 use Rattle.sv_out.specs.Written.{AppendsFront}
-
--- the machine runs
-abbrev pub IsRunning : JournalProgress → Type 0
-IsRunning (place.Running machine) = Unit {0}
-IsRunning other = ⊥
 
 -- the text was told, or a prefix of it
 abbrev pub Tells : List ℕ → Status → Option (List ℕ) → Option (List ℕ) → Status → Type 0

@@ -14,13 +14,13 @@ use Rattle.sv_journal.specs.Limits.{line_limit}
 use Rattle.sv_journal.specs.declared.header.Header.{Header}
 use Rattle.sv_journal.specs.declared.header.Header.TheVariants as header
 use Rattle.sv_journal.specs.declared.header.Program.{Program}
-use Rattle.sv_loop.specs.JournalPlaces.{Line, Stage, Verdict, heads, journal_text, order_text}
-use Rattle.sv_loop.specs.JournalPlaces.{AllFit, walked}
-use Rattle.sv_loop.specs.JournalPlaces.Line.{Head, Said, Noted}
-use Rattle.sv_loop.specs.JournalPlaces.Stage.{Fresh, Running}
-use Rattle.sv_loop.specs.JournalPlaces.Walked.{Reaches}
+use Rattle.sv_judge.specs.JournalPlaces.{Line, Stage, Verdict, heads, journal_text, order_text}
+use Rattle.sv_judge.specs.JournalPlaces.{AllFit, walked}
+use Rattle.sv_judge.specs.JournalPlaces.Line.{Head, Said, Noted}
+use Rattle.sv_judge.specs.JournalPlaces.Stage.{Fresh, Running}
+use Rattle.sv_judge.specs.JournalPlaces.Walked.{Reaches}
 use Rattle.sv_loop.specs.Replaying.{TellsWhy, journal_limit}
-use Rattle.sv_loop.specs.ShortHeader.{config_of, group_of, host_at}
+use Rattle.sv_judge.specs.ShortHeader.{config_of, group_of, host_at}
 use Rattle.sv_out.specs.declared.input.Input.{Input}
 use Rattle.sv_out.specs.declared.order.Order.{Order}
 

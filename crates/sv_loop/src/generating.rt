@@ -11,7 +11,7 @@ ghost use Rattle.sv_loop.specs.declared.replaying.Status.{Status};
 ghost use Rattle.sv_out.specs.Faults.{Rose};
 
 use crate::replaying::{Status, tell};
-use crate::short::{config_of, group_of, host_at};
+use crate::run_line::line_of_run;
 use std::alloc::{AllocError, Global};
 use sv_base::groups::Groups;
 use sv_base::items::Items;
@@ -22,10 +22,11 @@ use sv_base::spec::GroupSpec;
 use sv_base::state::Autorestart;
 use sv_base::text::Text;
 use sv_core::machine::Machine;
-use sv_generated::{line_of_run, program_name};
+use sv_generated::program_name;
 use sv_journal::code_list::ExitCodes;
 use sv_journal::header::Program;
 use sv_journal::program_name::ProgramName;
+use sv_judge::{config_of, group_of, host_at};
 use sv_out::sink::Sink;
 use sv_ranks::place;
 

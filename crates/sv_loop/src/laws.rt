@@ -1,6 +1,6 @@
 //! What holds of each replay, whatever its status is.
 ghost use Rattle.std.specs.Prelude.{List, ℕ};
-ghost use Rattle.sv_loop.specs.JournalPlaces.{Line, Stage};
+ghost use Rattle.sv_judge.specs.JournalPlaces.{Line, Stage};
 ghost use Rattle.sv_loop.specs.Reading.{IsRead};
 ghost use Rattle.sv_loop.specs.WholeJournal.{TellsDeeds};
 ghost use Rattle.sv_out.specs.declared.order.Order.{Order};

@@ -3,14 +3,11 @@
 
 mod cutting;
 mod generating;
-mod judge;
 mod laws;
-mod long;
 mod orders;
 mod replaying;
 mod run;
-mod short;
-mod sizes;
+mod run_line;
 
 pub use laws::each_row_tells_deeds;
 pub use replaying::{JOURNAL_LIMIT, replay};

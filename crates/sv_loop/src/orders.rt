@@ -1,7 +1,7 @@
 //! The text of orders, and its writing.
 ghost use Rattle.std.specs.Prelude.{◌≡◌, ◌≤◌, IfOk, OnOk, IfErr, OnErr, Err};
 ghost use Rattle.std.specs.Io.KnownBytes.{Appends};
-ghost use Rattle.sv_loop.specs.JournalPlaces.{order_text};
+ghost use Rattle.sv_judge.specs.JournalPlaces.{order_text};
 ghost use Rattle.sv_loop.specs.Reading.{Unwrote};
 ghost use Rattle.sv_out.specs.Faults.{Rose};
 

@@ -4,7 +4,7 @@ ghost use Rattle.std.specs.Prelude.{IfOk, OnErr, length, take, string_bytes};
 ghost use Rattle.std.specs.Fmt.{decimal};
 ghost use Rattle.std.specs.Io.KnownBytes.{Appends, Consumes, IsAtEnd, Keeps};
 ghost use Rattle.sv_loop.specs.Generating.{AreGen, Generates};
-ghost use Rattle.sv_loop.specs.JournalPlaces.Stage.{Fresh};
+ghost use Rattle.sv_judge.specs.JournalPlaces.Stage.{Fresh};
 ghost use Rattle.sv_loop.specs.Reading.{IsAt};
 ghost use Rattle.sv_loop.specs.Replaying.{AreRun, Ended, Refuses, Replays, ReplaysAs, bad_line};
 ghost use Rattle.sv_loop.specs.Replaying.{configuration_fault, fault_line, status_number};

@@ -1,20 +1,20 @@
 //! The lines of a journal, piece by piece.
 ghost use Rattle.std.specs.Prelude.{◌≡◌, ◌↔◌, IsTrue, ◌≤◌, ◌<◌, ◌+◌, ◌^◌, ◌∷◌, ◌++◌, [], List, ℕ};
 ghost use Rattle.std.specs.Prelude.{OnOk, IfErr, Err, Option, false, ◌≢◌, length};
-ghost use Rattle.sv_loop.specs.JournalPlaces.{Line, Stage};
-ghost use Rattle.sv_loop.specs.JournalPlaces.Stage.{Fresh};
-ghost use Rattle.sv_loop.specs.Judging.{JudgedAs};
+ghost use Rattle.sv_judge.specs.JournalPlaces.{Line, Stage};
+ghost use Rattle.sv_judge.specs.JournalPlaces.Stage.{Fresh};
+ghost use Rattle.sv_judge.specs.Judging.{JudgedAs};
 ghost use Rattle.sv_loop.specs.Reading.{Holds, has_feed};
-ghost use Rattle.sv_loop.specs.Telling.{IsRunning};
+ghost use Rattle.sv_judge.specs.Judging.{IsRunning};
 ghost use Rattle.sv_out.specs.Faults.{Rose};
 ghost use Rattle.sv_out.specs.declared.order.Order.{Order};
 
 use crate::cutting::cut;
-use crate::judge::{JournalProgress, Judged, judge};
 use crate::orders::write_orders;
 use std::alloc::Global;
 use std::mem;
 use sv_journal::read::LINE_LIMIT;
+use sv_judge::{JournalProgress, Judged, judge};
 use sv_out::sink::Sink;
 use sv_sections::fault::ConfFault;
 

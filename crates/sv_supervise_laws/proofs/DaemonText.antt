@@ -10,8 +10,8 @@ use Rattle.sv_files.specs.Sizes.{Sizes}
 use Rattle.sv_journal.specs.JournalLine.{input_line, order_line}
 use Rattle.sv_journal.specs.declared.header.Header.{Header}
 use Rattle.sv_journal.specs.declared.header.Header.TheVariants as header_is
-use Rattle.sv_loop.specs.JournalPlaces.{Line, journal_text, line_text}
-use Rattle.sv_loop.specs.JournalPlaces.Line.{Head}
+use Rattle.sv_judge.specs.JournalPlaces.{Line, journal_text, line_text}
+use Rattle.sv_judge.specs.JournalPlaces.Line.{Head}
 use Rattle.sv_loop.specs.WholeJournal.{Entry, entry_lines, include_lines, journal_lines, size_lines, variable_lines}
 use Rattle.sv_loop.specs.WholeJournal.Beginning.{Long}
 use Rattle.sv_loop.specs.WholeJournal.Entry.{Told, Given}

@@ -9,16 +9,16 @@ use Rattle.sv_core.specs.MachineState.{Model, accepts, next, opening, orders}
 use Rattle.sv_daemon.specs.Course.{AreTaken}
 use Rattle.sv_files.specs.Sizes.{Sizes, rise}
 use Rattle.sv_journal.specs.declared.header.Header.TheVariants as header_is
-use Rattle.sv_loop.specs.JournalPlaces.{Line, Stage, Walked, behind, judged, walked, walks_on}
-use Rattle.sv_loop.specs.JournalPlaces.Line.{Head, Said}
-use Rattle.sv_loop.specs.JournalPlaces.Stage.{Fresh, Long, Running}
-use Rattle.sv_loop.specs.JournalPlaces.Verdict.{Stands, NotAccepted}
-use Rattle.sv_loop.specs.JournalPlaces.Walked.{Reaches, Stops}
-use Rattle.sv_loop.specs.LongHeader.{is_behind, host_of}
+use Rattle.sv_judge.specs.JournalPlaces.{Line, Stage, Walked, behind, judged, walked, walks_on}
+use Rattle.sv_judge.specs.JournalPlaces.Line.{Head, Said}
+use Rattle.sv_judge.specs.JournalPlaces.Stage.{Fresh, Long, Running}
+use Rattle.sv_judge.specs.JournalPlaces.Verdict.{Stands, NotAccepted}
+use Rattle.sv_judge.specs.JournalPlaces.Walked.{Reaches, Stops}
+use Rattle.sv_judge.specs.LongHeader.{is_behind, host_of}
 use Rattle.sv_loop.specs.WholeJournal.{Entry, entry_lines, include_lines, inputs_in, journal_lines, size_lines, variable_lines}
 use Rattle.sv_loop.specs.WholeJournal.Beginning.{Long as Of_configuration}
 use Rattle.sv_loop.specs.WholeJournal.Entry.{Told, Given}
-use Rattle.sv_loop.specs.declared.long.LongPlace.TheVariants.{Titled, Hosted, Located, Described, Configured}
+use Rattle.sv_judge.specs.declared.long.LongPlace.TheVariants.{Titled, Hosted, Located, Described, Configured}
 use Rattle.sv_out.specs.declared.input.Input.{Input}
 use Rattle.sv_out.specs.declared.order.Order.{Order}
 use Rattle.sv_supervise.specs.Machines.{core_rules}

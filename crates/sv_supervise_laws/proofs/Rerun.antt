@@ -12,10 +12,10 @@ use Rattle.sv_daemon.specs.Telling.{Told}
 use Rattle.sv_files.specs.Opening.{opening_sizes}
 use Rattle.sv_files.specs.Sizes.{Sizes, rise}
 use Rattle.sv_loop.proofs.OneReading.{not_empty, plain_line, same_front, same_line}
-use Rattle.sv_loop.specs.JournalPlaces.{Line, AllFit, Stage, Verdict, Walked, behind, judged, journal_text, line_text, order_text, walked, walks_on}
-use Rattle.sv_loop.specs.JournalPlaces.Stage.{Fresh, Running}
-use Rattle.sv_loop.specs.JournalPlaces.Verdict.{Stands, BadLine, NotAccepted, NotConfigured}
-use Rattle.sv_loop.specs.JournalPlaces.Walked.{Reaches, Stops}
+use Rattle.sv_judge.specs.JournalPlaces.{Line, AllFit, Stage, Verdict, Walked, behind, judged, journal_text, line_text, order_text, walked, walks_on}
+use Rattle.sv_judge.specs.JournalPlaces.Stage.{Fresh, Running}
+use Rattle.sv_judge.specs.JournalPlaces.Verdict.{Stands, BadLine, NotAccepted, NotConfigured}
+use Rattle.sv_judge.specs.JournalPlaces.Walked.{Reaches, Stops}
 use Rattle.sv_loop.specs.Replaying.{Done}
 use Rattle.sv_loop.specs.WholeJournal.{entry_lines}
 use Rattle.sv_out.specs.Files.{Files}

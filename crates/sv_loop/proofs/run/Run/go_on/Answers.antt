@@ -1,6 +1,6 @@
 use Rattle.std.proofs.Common.{refl}
 use Rattle.sv_loop.proofs.RunSteps.{stood, stopped_at_write, misplaced, refused, unconfigured, no_memory}
-use Rattle.sv_loop.specs.JournalPlaces.Verdict.{NotConfigured}
+use Rattle.sv_judge.specs.JournalPlaces.Verdict.{NotConfigured}
 use Rattle.sv_loop.proofs.run.Run.go_on.Goals as goal
 
 pub returns-in-Ok-clause-goes_on : goal.returns-in-Ok-clause-goes_on

@@ -1,5 +1,5 @@
 use Rattle.std.proofs.Common.{◌≡◌, ◌≤◌, ◌+◌, ◌++◌, ℕ, List, length}
-use Rattle.sv_loop.specs.JournalPlaces.{Line, Stage}
+use Rattle.sv_judge.specs.JournalPlaces.{Line, Stage}
 use Rattle.sv_loop.specs.Reading.{IsAt, GoesOn}
 use Rattle.sv_out.specs.declared.order.Order.{Order}
 use Rattle.sv_loop.proofs.run.Run.take_piece.Given as goal

@@ -1,0 +1,4 @@
+pub mod ShortHeader
+pub mod LongHeader
+pub mod JournalPlaces
+pub mod Judging

@@ -1,0 +1,243 @@
+//! What is to be said of one line at its place.
+ghost use Rattle.std.specs.Prelude.{◌≡◌, ◌≢◌, ◌↔◌, ◌++◌, List, ℕ, [], IsTrue, IsSome, IfOk, IfSome};
+ghost use Rattle.std.specs.Prelude.{MatchOption, codes};
+ghost use Rattle.sv_base.specs.Roster.{is_roster};
+ghost use Rattle.sv_core.specs.MachineState.{Model};
+ghost use Rattle.sv_core.specs.StandsFor.{StandsFor};
+ghost use Rattle.sv_groups.specs.Changes.{with_group};
+ghost use Rattle.sv_journal.specs.declared.header.Header.TheVariants.{Go};
+ghost use Rattle.sv_judge.specs.JournalPlaces.{Stage, adds, heads, titles};
+ghost use Rattle.sv_judge.specs.ShortHeader.{group_of};
+ghost use Rattle.sv_judge.specs.JournalPlaces.Stage.{Fresh, Named, Running};
+ghost use Rattle.sv_judge.specs.JournalPlaces.Verdict.{Stands};
+ghost use Rattle.sv_judge.specs.Judging.{IsPlace, JudgedAs, JudgedHead};
+ghost use Rattle.sv_judge.specs.Judging.{IsRunning};
+
+use crate::long::{LongPlace, judge_long};
+use crate::short::{config_of, group_of, host_at};
+use std::alloc::{AllocError, Global};
+use sv_base::groups::Groups;
+use sv_base::moment::Moment;
+use sv_core::machine::Machine;
+use sv_journal::fault::LineFault;
+use sv_journal::header::{Header, Program, Version};
+use sv_journal::read::{LINE_LIMIT, read_header, read_input};
+use sv_journal::reading_orders::read_order;
+use sv_out::order::Order;
+use sv_ranks::place;
+use sv_sections::fault::ConfFault;
+
+/// The length of the mark that stands before an order's line in a daemon's journal.
+const MARK_LENGTH: usize = 2;
+
+/// Where in a journal the next line stands: at the beginning, after the title and some programs, in a long header, or
+/// after `go`.
+#[derive(Drop)]
+pub enum JournalProgress {
+    Fresh,
+    Named(Groups),
+    Long(LongPlace),
+    Running(Box<Machine>),
+}
+
+impl JournalProgress {
+    /// Whether the machine runs.
+    pub fn is_running(&self) -> bool
+        ensures { IsTrue result ↔ IsRunning self.now }
+    {
+        matches!(self, JournalProgress::Running(_))
+    }
+}
+
+/// What is to be said of a line at its place.
+#[derive(Drop)]
+pub enum Judged {
+    /// It stands, leads to this place and gives these orders.
+    Stands(JournalProgress, Vec<Order>),
+    /// It is outside the grammar of its place.
+    BadLine,
+    /// Its input isn't accepted.
+    NotAccepted,
+    /// The header is whole, and its configuration has this fault.
+    NotConfigured(ConfFault),
+    /// Memory was refused.
+    NoMemory,
+}
+
+/// Judges the line at this place, where the machine takes the line's input.
+pub fn judge(alloc: Global, place: JournalProgress, line: &[u8]) -> Judged
+    ensures { (at : Stage) → IsPlace place at → JudgedAs result at line.now }
+{
+    match place {
+        JournalProgress::Running(machine) => judge_input(alloc, machine, line),
+        place => judge_header(alloc, place, line),
+    }
+}
+
+/// Before `go` stand lines of the header alone.
+fn judge_header(alloc: Global, place: JournalProgress, line: &[u8]) -> Judged
+    requires { IsRunning place → ⊥ }
+    ensures { (at : Stage) → IsPlace place at → JudgedAs result at line.now }
+{
+    match read_header(alloc, line) {
+        Ok(header) => judge_head(alloc, place, header),
+        Err(LineFault::BadLine(_)) => Judged::BadLine,
+        Err(LineFault::OutOfMemory) => Judged::NoMemory,
+    }
+}
+
+#[tactic(auto, using(crate::proofs::Headers::no_header_behind_go))]
+fn judge_head(alloc: Global, place: JournalProgress, header: Header) -> Judged
+    ensures { (at : Stage) → IsPlace place at → JudgedHead result (heads at header) }
+{
+    match place {
+        JournalProgress::Fresh => judge_first(alloc, &header),
+        JournalProgress::Named(groups) => judge_short(alloc, groups, header),
+        JournalProgress::Long(long) => judge_long(alloc, long, header),
+        JournalProgress::Running(_) => Judged::BadLine,
+    }
+}
+
+fn judge_first(alloc: Global, header: &Header) -> Judged
+    ensures judged { JudgedHead result (heads Fresh header.now) }
+    ensures memory { result ≢ Judged.NoMemory }
+{
+    match header {
+        Header::Journal(version) => judge_version(alloc, *version),
+        _ => Judged::BadLine,
+    }
+}
+
+/// Version 0 has a short header, version 1 a long one.
+fn judge_version(alloc: Global, version: Version) -> Judged
+    ensures judged { JudgedHead result (titles version) }
+    ensures memory { result ≢ Judged.NoMemory }
+{
+    match version.get() {
+        0 => Judged::Stands(JournalProgress::Named(Groups::none(alloc)), Vec::new(alloc)),
+        1 => Judged::Stands(JournalProgress::Long(LongPlace::Titled), Vec::new(alloc)),
+        _ => Judged::BadLine,
+    }
+}
+
+/// A line of a short header after the title.
+fn judge_short(alloc: Global, groups: Groups, header: Header) -> Judged
+    ensures { JudgedHead result (heads (Named groups) header) }
+{
+    match header {
+        Header::Program(program) => judge_program(alloc, groups, program),
+        Header::Go(start) => judge_go(alloc, groups, start),
+        _ => Judged::BadLine,
+    }
+}
+
+fn judge_program(alloc: Global, groups: Groups, program: Program) -> Judged
+    ensures { JudgedHead result (adds (with_group (group_of program) groups)) }
+{
+    match with_program(alloc, groups, program) {
+        Ok(Some(groups)) => Judged::Stands(JournalProgress::Named(groups), Vec::new(alloc)),
+        Ok(None) => Judged::BadLine,
+        Err(AllocError) => Judged::NoMemory,
+    }
+}
+
+/// The groups with one more program, unless a configuration can't hold them.
+fn with_program(
+    alloc: Global,
+    groups: Groups,
+    program: Program,
+) -> Result<Option<Groups>, AllocError>
+    ensures some { IfOk result (λ more. IsSome more
+        ↔ IsTrue (is_roster (with_group (group_of program) groups))) }
+    ensures value { IfOk result (λ more. IfSome more (λ given.
+        given ≡ with_group (group_of program) groups)) }
+{
+    let group = group_of(alloc, program)?;
+    let mut groups = groups.into_vec();
+    place(&mut groups, group)?;
+    Ok(Groups::new(groups))
+}
+
+fn judge_go(alloc: Global, groups: Groups, start: Moment) -> Judged
+    ensures { JudgedHead result (heads (Named groups) (Go start)) }
+{
+    if groups.as_slice().is_empty() {
+        return Judged::BadLine;
+    }
+    match Machine::new(
+        alloc,
+        config_of(alloc, groups),
+        Vec::new(alloc),
+        &host_at(alloc, start),
+    ) {
+        Ok(machine) => running(alloc, machine),
+        Err(AllocError) => Judged::NoMemory,
+    }
+}
+
+/// The place of a machine that begins.
+pub(crate) fn running(alloc: Global, machine: Machine) -> Judged
+    ensures { (m : Model) → StandsFor machine m → JudgedHead result (Stands (Running m) []) }
+{
+    match Box::new(alloc, machine) {
+        Ok(machine) => Judged::Stands(JournalProgress::Running(machine), Vec::new(alloc)),
+        Err(_) => Judged::NoMemory,
+    }
+}
+
+/// After `go` stand inputs, and orders after a mark, which are passed over.
+fn judge_input(alloc: Global, machine: Box<Machine>, line: &[u8]) -> Judged
+    ensures { (m : Model) → StandsFor machine.value m → JudgedAs result (Running m) line.now }
+{
+    match behind_mark(line) {
+        Some(order) => judge_noted(alloc, machine, order),
+        None => judge_said(alloc, machine, line),
+    }
+}
+
+/// What stands after the mark of an order's line, if the line begins with it.
+fn behind_mark(line: &[u8]) -> Option<&[u8]>
+    ensures { MatchOption result ((rest : List ℕ) → line.now ≢ codes "> " ++ rest)
+        (λ order. line.now ≡ codes "> " ++ order.now) }
+{
+    match line {
+        [b'>', b' ', order @ ..] => Some(order),
+        _ => None,
+    }
+}
+
+/// The order that stands after the mark was given by a daemon; this machine gives its own.
+fn judge_noted(alloc: Global, machine: Box<Machine>, order: &[u8]) -> Judged
+    ensures { (m : Model) → StandsFor machine.value m
+        → JudgedAs result (Running m) (codes "> " ++ order.now) }
+{
+    if order.len() > LINE_LIMIT - MARK_LENGTH {
+        return Judged::BadLine;
+    }
+    match read_order(alloc, order) {
+        Ok(_) => Judged::Stands(JournalProgress::Running(machine), Vec::new(alloc)),
+        Err(LineFault::BadLine(_)) => Judged::BadLine,
+        Err(LineFault::OutOfMemory) => Judged::NoMemory,
+    }
+}
+
+#[tactic(auto, using(crate::proofs::Judged::misplaced_said))]
+fn judge_said(alloc: Global, machine: Box<Machine>, line: &[u8]) -> Judged
+    requires { (rest : List ℕ) → line.now ≢ codes "> " ++ rest }
+    ensures { (m : Model) → StandsFor machine.value m → JudgedAs result (Running m) line.now }
+{
+    let mut machine = machine;
+    match read_input(alloc, line) {
+        Ok(input) => {
+            if !machine.accepts(&input) {
+                return Judged::NotAccepted;
+            }
+            match machine.step(alloc, input) {
+                Ok(orders) => Judged::Stands(JournalProgress::Running(machine), orders),
+                Err(AllocError) => Judged::NoMemory,
+            }
+        }
+        Err(LineFault::BadLine(_)) => Judged::BadLine,
+        Err(LineFault::OutOfMemory) => Judged::NoMemory,
+    }
+}

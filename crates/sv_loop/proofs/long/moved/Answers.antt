@@ -1,6 +1,0 @@
-use Rattle.std.proofs.Common.{refl}
-use Rattle.sv_loop.specs.JournalPlaces.Stage.{Long}
-use Rattle.sv_loop.proofs.long.moved.Goals as goal
-
-pub returns-in-Some-clause-judged : goal.returns-in-Some-clause-judged
-returns-in-Some-clause-judged c = (Long c.in-Some.place, rw (c.in-Some.is, c.new.ensures.items) refl, refl)
