@@ -1,3 +1,3 @@
 pub mod Headers
-pub mod Judged
+pub mod FoundLines
 mod RisingNames

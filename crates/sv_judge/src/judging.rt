@@ -221,7 +221,7 @@ fn judge_noted(alloc: Global, machine: Box<Machine>, order: &[u8]) -> Judged
     }
 }
 
-#[tactic(auto, using(crate::proofs::Judged::misplaced_said))]
+#[tactic(auto, using(crate::proofs::FoundLines::misplaced_said))]
 fn judge_said(alloc: Global, machine: Box<Machine>, line: &[u8]) -> Judged
     requires { (rest : List ℕ) → line.now ≢ codes "> " ++ rest }
     ensures { (m : Model) → StandsFor machine.value m → JudgedAs result (Running m) line.now }

@@ -3,7 +3,7 @@ use Rattle.std.proofs.Common.{◌≡◌, ℕ, ◌+◌, ◌<◌, List, [], ◌∷
 use Rattle.std.proofs.KnownBytes.{Appends-trans}
 use Rattle.std.specs.Io.KnownBytes.{Appends, Consumes, IsAtEnd}
 use Rattle.sv_core.specs.MachineState.{Model}
-use Rattle.sv_judge.proofs.Judged.{before_go}
+use Rattle.sv_judge.proofs.FoundLines.{before_go}
 use Rattle.sv_loop.proofs.Quiet.{judged_before_go, quiet_until}
 use Rattle.sv_judge.specs.JournalPlaces.{Line, Stage, Verdict, order_text}
 use Rattle.sv_judge.specs.JournalPlaces.Stage.{Fresh, Named, Long, Running}

@@ -1,6 +1,6 @@
 use Rattle.std.proofs.Common.{[], ◌≡◌, false, ◌==◌, length}
 use Rattle.sv_core.specs.MachineState.{opening}
-use Rattle.sv_judge.proofs.Judged.{go_leads}
+use Rattle.sv_judge.proofs.FoundLines.{go_leads}
 use Rattle.sv_judge.specs.ShortHeader.{config_of, host_at}
 use Rattle.sv_judge.proofs.judging.judge_go.Goals as goal
 

@@ -3,7 +3,7 @@ use Rattle.sv_journal.specs.Outcome.{IsOrNoMemory}
 use Rattle.sv_journal.specs.declared.fault.LineFault.{LineFault}
 use Rattle.sv_journal.specs.declared.fault.LineFault.TheVariants.{BadLine}
 use Rattle.sv_journal.specs.declared.header.Header.{Header}
-use Rattle.sv_judge.proofs.Judged.{before_go, head_judged, no_head_there}
+use Rattle.sv_judge.proofs.FoundLines.{before_go, head_judged, no_head_there}
 use Rattle.sv_judge.proofs.judging.judge_header.Goals as goal
 
 pub returns-in-Ok : goal.returns-in-Ok

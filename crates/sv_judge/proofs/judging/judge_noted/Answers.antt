@@ -3,7 +3,7 @@ use Rattle.std.specs.Prelude.{codes}
 use Rattle.sv_journal.specs.Outcome.{IsOrNoMemory}
 use Rattle.sv_journal.specs.declared.fault.LineFault.{LineFault}
 use Rattle.sv_journal.specs.declared.fault.LineFault.TheVariants.{BadLine}
-use Rattle.sv_judge.proofs.Judged.{misplaced_mark}
+use Rattle.sv_judge.proofs.FoundLines.{misplaced_mark}
 use Rattle.sv_judge.specs.JournalPlaces.Line.{Noted}
 use Rattle.sv_judge.specs.JournalPlaces.Stage.{Running}
 use Rattle.sv_judge.specs.JournalPlaces.Verdict.{Stands}

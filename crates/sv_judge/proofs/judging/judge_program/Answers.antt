@@ -1,7 +1,7 @@
 use Rattle.std.proofs.Common.{◌≡◌, true, refl, sym, ap, ◌∙◌}
 use Rattle.sv_base.specs.Roster.{is_roster}
 use Rattle.sv_groups.specs.Changes.{with_group}
-use Rattle.sv_judge.proofs.Judged.{adds_more}
+use Rattle.sv_judge.proofs.FoundLines.{adds_more}
 use Rattle.sv_judge.specs.JournalPlaces.Stage.{Named}
 use Rattle.sv_judge.specs.JournalPlaces.Verdict.{Stands}
 use Rattle.sv_judge.specs.ShortHeader.{group_of}
