@@ -3,9 +3,9 @@
 #![tactic(auto)]
 
 mod counts;
-mod going;
 mod inputs;
+mod taking;
 
 pub use counts::Counts;
-pub use going::run;
 pub use inputs::program_name;
+pub use taking::run;

@@ -1,7 +1,7 @@
 use Rattle.std.proofs.Common.{arith, ◌∙◌, sym}
 use Rattle.sv_generated.proofs.Counting.{all_answered, can_answer_at, none_taken, one_answered, rests_at_end}
 use Rattle.sv_generated.specs.Taken.{first_of}
-use Rattle.sv_generated.proofs.going.answer_all.Goals as goal
+use Rattle.sv_generated.proofs.taking.answer_all.Goals as goal
 
 pub loop-init : goal.loop-init
 loop-init c = record {

@@ -2,7 +2,7 @@ use Rattle.std.proofs.Common.{◌≤◌, ◌+◌, ◌*◌, ◌^◌, List}
 use Rattle.sv_generated.proofs.Counting.{AnswersOn}
 use Rattle.sv_generated.specs.Taken.{Beginning, IsAfter, first_of}
 use Rattle.sv_out.specs.declared.input.Input.{Input}
-use Rattle.sv_generated.proofs.going.answer_all.Given as goal
+use Rattle.sv_generated.proofs.taking.answer_all.Given as goal
 
 abbrev pub invariant-loop : goal.invariant-loop
 invariant-loop l = record {

@@ -1,5 +1,5 @@
 use Rattle.sv_generated.proofs.Counting.{after_more}
-use Rattle.sv_generated.proofs.going.take.Goals as goal
+use Rattle.sv_generated.proofs.taking.take.Goals as goal
 
 pub returns-clause-after : goal.returns-clause-after
 returns-clause-after c = λ first inputs is.
