@@ -1,8 +1,6 @@
 //! The console, over a source in memory.
 
-ghost use Rattle.std.specs.Prelude.{◌≤◌};
-
-use crate::telling::{bytes_of, calls_of, lane_of, letter, notes_of};
+use crate::telling::{bytes_of, calls_of, lane_of, letter, most_of, notes_of};
 use std::alloc::Global;
 use std::process::Abort;
 use std::sync::Wait;
@@ -30,14 +28,22 @@ start a//stop b|9||+a|E
 |9|1||F
 ";
 
-fn most_of(text: &str) -> usize
-    ensures { 1 ≤ result }
-{
-    match text {
-        "1" => 1,
-        "65536" => 65_536,
-        _ => 9,
+/// The bytes of a text, in which a slash is a line feed.
+fn input_of(rt: &impl Abort, alloc: Global, text: &str) -> Vec<u8> {
+    let mut bytes = bytes_of(rt, alloc, text);
+    for byte in bytes.iter_mut() {
+        if *byte == b'/' {
+            *byte = b'\n';
+        }
     }
+    bytes
+}
+
+/// How a console ended, and the notes that it posted.
+fn heard<R: Abort + Wait>(rt: &R, alloc: Global, source: &mut ListSource) -> (PumpEnd, String) {
+    let mut notes = lane_of(rt, alloc);
+    let came = console(rt, alloc, source, &mut notes.poster);
+    (came, notes_of(rt, alloc, &mut notes))
 }
 
 fn console_line<R: Abort + Wait>(rt: &R, alloc: Global, line: &str) {
@@ -45,26 +51,21 @@ fn console_line<R: Abort + Wait>(rt: &R, alloc: Global, line: &str) {
     let (most, rest) = rest.split_once('|').expect(rt, "the most");
     let (failing, rest) = rest.split_once('|').expect(rt, "the calls");
     let (expected, end) = rest.split_once('|').expect(rt, "the notes");
-    let mut bytes = bytes_of(rt, alloc, input);
-    for byte in bytes.iter_mut() {
-        if *byte == b'/' {
-            *byte = b'\n';
-        }
-    }
-    let mut source = ListSource::new(bytes, most_of(most), calls_of(rt, alloc, failing));
-    let (mut taker, mut poster) = lane_of(rt, alloc);
-    let came = console(rt, alloc, &mut source, &mut poster);
-    let notes = notes_of(rt, alloc, &mut taker, &mut poster);
-    if came == PumpEnd::OutOfMemory {
-        assert!(rt; notes.as_str().ends_with("?"), "{line}");
-        return;
-    }
-    assert_eq!(rt; letter(came), end, "{line}");
-    assert_eq!(rt; notes.as_str(), expected, "{line}");
-    assert!(rt;
-        (source.faults() == 1) == (came == PumpEnd::Failed),
-        "{line}"
+    let mut source = ListSource::new(
+        input_of(rt, alloc, input),
+        most_of(most),
+        calls_of(rt, alloc, failing),
     );
+    let (came, notes) = heard(rt, alloc, &mut source);
+    let is_told = match came {
+        PumpEnd::OutOfMemory => notes.as_str().ends_with("?"),
+        _ => {
+            letter(came) == end
+                && notes.as_str() == expected
+                && (source.faults() == 1) == (came == PumpEnd::Failed)
+        }
+    };
+    assert!(rt; is_told, "{line}: {notes}");
 }
 
 #[test]
@@ -87,6 +88,17 @@ fn long_input(rt: &impl Abort, alloc: Global, count: usize) -> Vec<u8> {
     bytes
 }
 
+/// A name of so many bytes gives notes of so many.
+fn long_line<R: Abort + Wait>(rt: &R, alloc: Global, count: usize, most: &str, notes: usize) {
+    let input = long_input(rt, alloc, count);
+    let mut source = ListSource::new(input, most_of(most), Vec::new(alloc));
+    let (came, text) = heard(rt, alloc, &mut source);
+    assert!(rt;
+        came == PumpEnd::Ended && text.as_str().len() == notes,
+        "{count} {most}"
+    );
+}
+
 #[test]
 fn a_line_has_at_most_4096_bytes(rt: HostRuntime) {
     let alloc = rt.alloc();
@@ -97,13 +109,7 @@ fn a_line_has_at_most_4096_bytes(rt: HostRuntime) {
         (4_091, "65536", 2),
         (20_000, "65536", 2),
     ] {
-        let input = long_input(&rt, alloc, count);
-        let mut source = ListSource::new(input, most_of(most), Vec::new(alloc));
-        let (mut taker, mut poster) = lane_of(&rt, alloc);
-        let came = console(&rt, alloc, &mut source, &mut poster);
-        assert!(rt; came == PumpEnd::Ended);
-        let text = notes_of(&rt, alloc, &mut taker, &mut poster);
-        assert_eq!(rt; text.as_str().len(), notes, "{count} {most}");
+        long_line(&rt, alloc, count, most, notes);
     }
 }
 
@@ -117,10 +123,6 @@ fn a_line_that_is_no_text_is_passed_over(rt: HostRuntime) {
         }
     }
     let mut source = ListSource::new(bytes, 9, Vec::new(alloc));
-    let (mut taker, mut poster) = lane_of(&rt, alloc);
-    assert!(rt; console(&rt, alloc, &mut source, &mut poster) == PumpEnd::Ended);
-    assert_eq!(rt;
-        notes_of(&rt, alloc, &mut taker, &mut poster).as_str(),
-        "+c"
-    );
+    let (came, text) = heard(&rt, alloc, &mut source);
+    assert!(rt; came == PumpEnd::Ended && text.as_str() == "+c");
 }

@@ -1,15 +1,13 @@
 //! What serves a link, over a link in memory.
 
-ghost use Rattle.std.specs.Prelude.{◌≤◌};
-
-use crate::telling::{bytes_of, calls_of, lane_of, letter, notes_of};
+use crate::telling::{bytes_of, calls_of, lane_of, letter, most_of, notes_of};
 use std::alloc::Global;
 use std::collections::VecDeque;
 use std::process::Abort;
 use std::sync::Wait;
 use sv_base::{Bytes, LinkId, Place, Text};
 use sv_jobs::{LinkWord, Note, serve_link};
-use sv_lane::Poster;
+use sv_lane::{Poster, Taker};
 use sv_out::{Dial, Link, Script, ScriptDial, ScriptLink};
 use sv_outside::PumpEnd;
 
@@ -29,16 +27,6 @@ abcd|1|3|+ hi .|a .|h|a|F
 |9||.|.|||E
 |9||+|.|||E
 ";
-
-fn most_of(text: &str) -> usize
-    ensures { 1 ≤ result }
-{
-    match text {
-        "1" => 1,
-        "3" => 3,
-        _ => 9,
-    }
-}
 
 /// Posts the words.
 fn post_words<R: Abort + Wait>(rt: &R, alloc: Global, poster: &mut Poster<LinkWord>, words: &str) {
@@ -72,6 +60,31 @@ fn told(rt: &impl Abort, alloc: Global, link: ScriptLink) -> String {
     text
 }
 
+/// How the serving of a link ended that was told these words.
+fn served<R: Abort + Wait>(
+    rt: &R,
+    alloc: Global,
+    link: &mut ScriptLink,
+    words: &str,
+    notes: &mut Poster<Note>,
+) -> PumpEnd {
+    let mut lane = lane_of(rt, alloc);
+    post_words(rt, alloc, &mut lane.poster, words);
+    serve_link(rt, alloc, link, LinkId(7), notes, &mut lane.taker)
+}
+
+/// How the serving of a link ended, and the notes that it posted.
+fn heard<R: Abort + Wait>(
+    rt: &R,
+    alloc: Global,
+    link: &mut ScriptLink,
+    words: &str,
+) -> (PumpEnd, String) {
+    let mut notes = lane_of(rt, alloc);
+    let came = served(rt, alloc, link, words, &mut notes.poster);
+    (came, notes_of(rt, alloc, &mut notes))
+}
+
 fn serve_line<R: Abort + Wait>(rt: &R, alloc: Global, line: &str) {
     let (bytes, rest) = line.split_once('|').expect(rt, "the bytes");
     let (most, rest) = rest.split_once('|').expect(rt, "the most");
@@ -85,26 +98,17 @@ fn serve_line<R: Abort + Wait>(rt: &R, alloc: Global, line: &str) {
         calls_of(rt, alloc, failing),
     );
     let mut link = ScriptLink::new(alloc, Place::Unix(Text::fixed("/s")), script);
-    let (mut taker, mut poster) = lane_of(rt, alloc);
-    let (mut words_taker, mut words_poster) = lane_of(rt, alloc);
-    post_words(rt, alloc, &mut words_poster, words);
-    let came = serve_link(
-        rt,
-        alloc,
-        &mut link,
-        LinkId(7),
-        &mut poster,
-        &mut words_taker,
-    );
-    let notes = notes_of(rt, alloc, &mut taker, &mut poster);
-    if came == PumpEnd::OutOfMemory {
-        assert!(rt; notes.as_str().ends_with("? ."), "{line}");
-        return;
-    }
-    assert_eq!(rt; letter(came), end, "{line}");
-    assert_eq!(rt; notes.as_str(), expected, "{line}");
-    assert!(rt; (link.faults() == 1) == (came == PumpEnd::Failed), "{line}");
-    assert_eq!(rt; told(rt, alloc, link).as_str(), exchanged, "{line}");
+    let (came, notes) = heard(rt, alloc, &mut link, words);
+    let is_told = match came {
+        PumpEnd::OutOfMemory => notes.as_str().ends_with("? ."),
+        _ => {
+            letter(came) == end
+                && notes.as_str() == expected
+                && (link.faults() == 1) == (came == PumpEnd::Failed)
+                && told(rt, alloc, link).as_str() == exchanged
+        }
+    };
+    assert!(rt; is_told, "{line}: {notes}");
 }
 
 #[test]
@@ -114,32 +118,35 @@ fn a_link_is_served_word_by_word(rt: HostRuntime) {
     }
 }
 
+/// A link that gives 200000 bytes.
+fn large_link(rt: &impl Abort, alloc: Global) -> ScriptLink {
+    let bytes = Vec::from_elem(alloc, b'x', 200_000).expect(rt, "ample memory");
+    let script = Script::new(bytes, 65_536, Vec::new(alloc));
+    ScriptLink::new(alloc, Place::Unix(Text::fixed("/s")), script)
+}
+
+/// The next note is a piece of so many bytes.
+fn piece_comes<R: Abort + Wait>(rt: &R, taker: &mut Taker<Note>, expected: usize) {
+    match taker.take(rt) {
+        Note::Piece(number, piece) => {
+            assert!(rt;
+                number == LinkId(7) && piece.as_slice().len() == expected,
+                "{expected}"
+            );
+        }
+        note => assert!(rt; false, "{note:?}"),
+    }
+}
+
 #[test]
 fn pieces_of_a_link_grow_while_reads_fill_them(rt: HostRuntime) {
     let alloc = rt.alloc();
-    let bytes = Vec::from_elem(alloc, b'x', 200_000).expect(&rt, "ample memory");
-    let script = Script::new(bytes, 65_536, Vec::new(alloc));
-    let mut link = ScriptLink::new(alloc, Place::Unix(Text::fixed("/s")), script);
-    let (mut taker, mut poster) = lane_of(&rt, alloc);
-    let (mut words_taker, mut words_poster) = lane_of(&rt, alloc);
-    post_words(&rt, alloc, &mut words_poster, "+ + + + + + + .");
-    let came = serve_link(
-        &rt,
-        alloc,
-        &mut link,
-        LinkId(7),
-        &mut poster,
-        &mut words_taker,
-    );
+    let mut link = large_link(&rt, alloc);
+    let mut notes = lane_of(&rt, alloc);
+    let came = served(&rt, alloc, &mut link, "+ + + + + + + .", &mut notes.poster);
     assert!(rt; came == PumpEnd::Ended);
     for expected in [4_096, 8_192, 16_384, 32_768, 65_536, 65_536, 7_488] {
-        match taker.take(&rt) {
-            Note::Piece(number, piece) => {
-                assert!(rt; number == LinkId(7));
-                assert_eq!(rt; piece.as_slice().len(), expected);
-            }
-            note => assert!(rt; false, "{note:?}"),
-        }
+        piece_comes(&rt, &mut notes.taker, expected);
     }
-    assert!(rt; matches!(taker.take(&rt), Note::LinkEnd(LinkId(7))));
+    assert!(rt; matches!(notes.taker.take(&rt), Note::LinkEnd(LinkId(7))));
 }

@@ -1,13 +1,12 @@
 //! The pump, over a source in memory.
 
-ghost use Rattle.std.specs.Prelude.{◌≤◌};
-
-use crate::telling::{bytes_of, calls_of, lane_of, letter, notes_of};
+use crate::telling::{bytes_of, calls_of, lane_of, letter, most_of, notes_of};
 use std::alloc::Global;
 use std::process::Abort;
 use std::sync::Wait;
 use sv_base::{Run, Stream};
 use sv_jobs::{Note, pump};
+use sv_lane::Taker;
 use sv_out::source::ListSource;
 use sv_outside::PumpEnd;
 
@@ -26,14 +25,11 @@ abcdefgh|9||abcdefgh .|E
 |9|1|.|F
 ";
 
-fn most_of(text: &str) -> usize
-    ensures { 1 ≤ result }
-{
-    match text {
-        "1" => 1,
-        "3" => 3,
-        _ => 9,
-    }
+/// How a pump ended, and the notes that it posted.
+fn pumped<R: Abort + Wait>(rt: &R, alloc: Global, source: &mut ListSource) -> (PumpEnd, String) {
+    let mut notes = lane_of(rt, alloc);
+    let came = pump(rt, alloc, source, Run(7), Stream::Err, &mut notes.poster);
+    (came, notes_of(rt, alloc, &mut notes))
 }
 
 fn pump_line<R: Abort + Wait>(rt: &R, alloc: Global, line: &str) {
@@ -46,19 +42,16 @@ fn pump_line<R: Abort + Wait>(rt: &R, alloc: Global, line: &str) {
         most_of(most),
         calls_of(rt, alloc, failing),
     );
-    let (mut taker, mut poster) = lane_of(rt, alloc);
-    let came = pump(rt, alloc, &mut source, Run(7), Stream::Err, &mut poster);
-    let notes = notes_of(rt, alloc, &mut taker, &mut poster);
-    if came == PumpEnd::OutOfMemory {
-        assert!(rt; notes.as_str().ends_with("? ."), "{line}");
-        return;
-    }
-    assert_eq!(rt; letter(came), end, "{line}");
-    assert_eq!(rt; notes.as_str(), expected, "{line}");
-    assert!(rt;
-        (source.faults() == 1) == (came == PumpEnd::Failed),
-        "{line}"
-    );
+    let (came, notes) = pumped(rt, alloc, &mut source);
+    let is_told = match came {
+        PumpEnd::OutOfMemory => notes.as_str().ends_with("? ."),
+        _ => {
+            letter(came) == end
+                && notes.as_str() == expected
+                && (source.faults() == 1) == (came == PumpEnd::Failed)
+        }
+    };
+    assert!(rt; is_told, "{line}: {notes}");
 }
 
 #[test]
@@ -68,22 +61,41 @@ fn a_pump_posts_each_piece_and_the_end(rt: HostRuntime) {
     }
 }
 
+/// A source of 200000 bytes.
+fn large_source(rt: &impl Abort, alloc: Global) -> ListSource {
+    let bytes = Vec::from_elem(alloc, b'x', 200_000).expect(rt, "ample memory");
+    ListSource::new(bytes, 65_536, Vec::new(alloc))
+}
+
+/// The next note is a piece of so many bytes.
+fn piece_comes<R: Abort + Wait>(rt: &R, taker: &mut Taker<Note>, expected: usize) {
+    match taker.take(rt) {
+        Note::Out(run, stream, piece) => {
+            assert!(rt;
+                run == Run(7) && stream == Stream::Out && piece.as_slice().len() == expected,
+                "{expected}"
+            );
+        }
+        note => assert!(rt; false, "{note:?}"),
+    }
+}
+
 #[test]
 fn pieces_grow_while_reads_fill_them(rt: HostRuntime) {
     let alloc = rt.alloc();
-    let bytes = Vec::from_elem(alloc, b'x', 200_000).expect(&rt, "ample memory");
-    let mut source = ListSource::new(bytes, 65_536, Vec::new(alloc));
-    let (mut taker, mut poster) = lane_of(&rt, alloc);
-    let came = pump(&rt, alloc, &mut source, Run(7), Stream::Out, &mut poster);
+    let mut source = large_source(&rt, alloc);
+    let mut notes = lane_of(&rt, alloc);
+    let came = pump(
+        &rt,
+        alloc,
+        &mut source,
+        Run(7),
+        Stream::Out,
+        &mut notes.poster,
+    );
     assert!(rt; came == PumpEnd::Ended);
     for expected in [4_096, 8_192, 16_384, 32_768, 65_536, 65_536, 7_488] {
-        match taker.take(&rt) {
-            Note::Out(run, stream, piece) => {
-                assert!(rt; run == Run(7) && stream == Stream::Out);
-                assert_eq!(rt; piece.as_slice().len(), expected);
-            }
-            note => assert!(rt; false, "{note:?}"),
-        }
+        piece_comes(&rt, &mut notes.taker, expected);
     }
-    assert!(rt; matches!(taker.take(&rt), Note::OutEnd(Run(7), Stream::Out)));
+    assert!(rt; matches!(notes.taker.take(&rt), Note::OutEnd(Run(7), Stream::Out)));
 }

@@ -7,6 +7,7 @@ use std::process::Abort;
 use std::sync::Wait;
 use sv_base::{ExitSignal, How, Moment, Place, Run, Side, Text};
 use sv_jobs::{Note, accept_links, ticker, watch};
+use sv_lane::{Poster, Taker};
 use sv_out::{Link, Script, ScriptLink};
 use sv_outside::{FixedClock, ScriptListen, ScriptWaiter};
 
@@ -19,23 +20,26 @@ fn watch_one<R: Abort + Wait>(
     end: &str,
 ) {
     let mut waiter = ScriptWaiter::new(how, calls_of(rt, alloc, failing));
-    let (mut taker, mut poster) = lane_of(rt, alloc);
-    let came = watch(rt, &mut waiter, Run(7), &mut poster);
-    assert_eq!(rt; letter(came), end);
-    assert_eq!(rt;
-        notes_of(rt, alloc, &mut taker, &mut poster).as_str(),
-        expected
+    let mut notes = lane_of(rt, alloc);
+    let came = watch(rt, &mut waiter, Run(7), &mut notes.poster);
+    let notes = notes_of(rt, alloc, &mut notes);
+    assert!(rt;
+        letter(came) == end && notes.as_str() == expected,
+        "{expected}: {notes}"
     );
 }
 
 #[test]
 fn a_watch_posts_one_exit(rt: HostRuntime) {
-    let alloc = rt.alloc();
     let killed = ExitSignal::new(9).expect(&rt, "a signal");
-    watch_one(&rt, alloc, How::Code(0), "", "0", "E");
-    watch_one(&rt, alloc, How::Code(3), "2", "3", "E");
-    watch_one(&rt, alloc, How::Code(3), "1", "255", "F");
-    watch_one(&rt, alloc, How::Signal(killed), "", "signal-9", "E");
+    for (how, failing, expected, end) in [
+        (How::Code(0), "", "0", "E"),
+        (How::Code(3), "2", "3", "E"),
+        (How::Code(3), "1", "255", "F"),
+        (How::Signal(killed), "", "signal-9", "E"),
+    ] {
+        watch_one(&rt, rt.alloc(), how, failing, expected, end);
+    }
 }
 
 /// The links of these texts.
@@ -61,35 +65,42 @@ const ACCEPTS: &str = "\
 123|o
 ";
 
+/// The notes of four accepts, whose links are posted here.
+fn heard<R: Abort + Wait>(
+    rt: &R,
+    alloc: Global,
+    listen: &mut ScriptListen,
+    links: &mut Poster<ScriptLink>,
+) -> String {
+    let mut notes = lane_of(rt, alloc);
+    accept_links(rt, listen, Side::Inet, 4, &mut notes.poster, links);
+    notes_of(rt, alloc, &mut notes)
+}
+
+/// The next link gives this byte.
+fn link_gives<R: Abort + Wait>(rt: &R, links: &mut Taker<ScriptLink>, byte: u8, line: &str) {
+    let mut link = links.take(rt);
+    let mut buffer = [0u8; 2];
+    assert!(rt;
+        link.read(&mut buffer).is_ok() && buffer[0] == byte,
+        "{line}"
+    );
+}
+
 fn accept_line<R: Abort + Wait>(rt: &R, alloc: Global, line: &str) {
     let (failing, expected) = line.split_once('|').expect(rt, "the calls");
     let mut listen = ScriptListen::new(links_of(rt, alloc, "a b c"), calls_of(rt, alloc, failing));
-    let (mut taker, mut poster) = lane_of(rt, alloc);
-    let (mut links_taker, mut links_poster) = lane_of(rt, alloc);
-    accept_links(
-        rt,
-        &mut listen,
-        Side::Inet,
-        4,
-        &mut poster,
-        &mut links_poster,
+    let mut links = lane_of(rt, alloc);
+    let notes = heard(rt, alloc, &mut listen, &mut links.poster);
+    assert!(rt;
+        notes.as_str() == expected && listen.given().wrapping_add(listen.faults()) == 4,
+        "{line}: {notes}"
     );
-    assert_eq!(rt;
-        notes_of(rt, alloc, &mut taker, &mut poster).as_str(),
-        expected,
-        "{line}"
-    );
-    assert_eq!(rt; listen.given().wrapping_add(listen.faults()), 4, "{line}");
     for (count, byte) in [b'a', b'b', b'c'].iter().enumerate() {
         if count as u64 >= listen.given() {
             break;
         }
-        let mut link: ScriptLink = links_taker.take(rt);
-        let mut buffer = [0u8; 2];
-        assert!(rt;
-            link.read(&mut buffer).is_ok() && buffer[0] == *byte,
-            "{line}"
-        );
+        link_gives(rt, &mut links.taker, *byte, line);
     }
 }
 
@@ -107,12 +118,12 @@ fn a_ticker_pauses_before_each_tick(rt: HostRuntime) {
         &rt,
         "ample memory",
     );
-    let (mut taker, mut poster) = lane_of(&rt, alloc);
-    ticker(&rt, &mut clock, 3, &mut poster);
-    poster.post(&rt, Note::NoMemory);
+    let mut notes = lane_of(&rt, alloc);
+    ticker(&rt, &mut clock, 3, &mut notes.poster);
+    notes.poster.post(&rt, Note::NoMemory);
     for _ in 0..3 {
-        assert!(rt; matches!(taker.take(&rt), Note::Tick));
+        assert!(rt; matches!(notes.taker.take(&rt), Note::Tick));
     }
-    assert!(rt; matches!(taker.take(&rt), Note::NoMemory));
+    assert!(rt; matches!(notes.taker.take(&rt), Note::NoMemory));
     assert!(rt; clock.pauses().expect(&rt, "all told") == [1_000, 1_000, 1_000].as_slice());
 }

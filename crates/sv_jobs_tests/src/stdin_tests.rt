@@ -1,13 +1,11 @@
 //! What writes a standard input, over a sink in memory.
 
-ghost use Rattle.std.specs.Prelude.{◌≤◌};
-
-use crate::telling::{bytes_of, calls_of, lane_of, letter, notes_of};
+use crate::telling::{bytes_of, calls_of, lane_of, letter, most_of, notes_of};
 use std::alloc::Global;
 use std::process::Abort;
 use std::sync::Wait;
 use sv_base::{Bytes, Run};
-use sv_jobs::{StdinWord, write_stdin};
+use sv_jobs::{Note, StdinWord, write_stdin};
 use sv_lane::Poster;
 use sv_out::sink::ListSink;
 use sv_outside::PumpEnd;
@@ -25,16 +23,6 @@ a . b .|9||s .|a|E
 a b c .|1|3|s s .|ab|F
 ";
 
-fn most_of(text: &str) -> usize
-    ensures { 1 ≤ result }
-{
-    match text {
-        "1" => 1,
-        "2" => 2,
-        _ => 9,
-    }
-}
-
 /// Posts the words.
 fn post_words<R: Abort + Wait>(rt: &R, alloc: Global, poster: &mut Poster<StdinWord>, words: &str) {
     for word in words.split(' ') {
@@ -48,6 +36,31 @@ fn post_words<R: Abort + Wait>(rt: &R, alloc: Global, poster: &mut Poster<StdinW
     }
 }
 
+/// How the writing of these words ended.
+fn wrote<R: Abort + Wait>(
+    rt: &R,
+    alloc: Global,
+    sink: &mut ListSink,
+    words: &str,
+    notes: &mut Poster<Note>,
+) -> PumpEnd {
+    let mut lane = lane_of(rt, alloc);
+    post_words(rt, alloc, &mut lane.poster, words);
+    write_stdin(rt, sink, Run(7), notes, &mut lane.taker)
+}
+
+/// How the writing of these words ended, and the notes that it posted.
+fn heard<R: Abort + Wait>(
+    rt: &R,
+    alloc: Global,
+    sink: &mut ListSink,
+    words: &str,
+) -> (PumpEnd, String) {
+    let mut notes = lane_of(rt, alloc);
+    let came = wrote(rt, alloc, sink, words, &mut notes.poster);
+    (came, notes_of(rt, alloc, &mut notes))
+}
+
 fn write_line<R: Abort + Wait>(rt: &R, alloc: Global, line: &str) {
     let (words, rest) = line.split_once('|').expect(rt, "the words");
     let (most, rest) = rest.split_once('|').expect(rt, "the most");
@@ -55,18 +68,14 @@ fn write_line<R: Abort + Wait>(rt: &R, alloc: Global, line: &str) {
     let (expected, rest) = rest.split_once('|').expect(rt, "the notes");
     let (written, end) = rest.split_once('|').expect(rt, "what was written");
     let mut sink = ListSink::new(alloc, most_of(most), calls_of(rt, alloc, failing));
-    let (mut taker, mut poster) = lane_of(rt, alloc);
-    let (mut words_taker, mut words_poster) = lane_of(rt, alloc);
-    post_words(rt, alloc, &mut words_poster, words);
-    let came = write_stdin(rt, &mut sink, Run(7), &mut poster, &mut words_taker);
-    assert_eq!(rt; letter(came), end, "{line}");
-    assert_eq!(rt;
-        notes_of(rt, alloc, &mut taker, &mut poster).as_str(),
-        expected,
-        "{line}"
+    let (came, notes) = heard(rt, alloc, &mut sink, words);
+    assert!(rt;
+        letter(came) == end
+            && notes.as_str() == expected
+            && sink.written() == written.as_bytes()
+            && (sink.faults() == 1) == (came == PumpEnd::Failed),
+        "{line}: {notes}"
     );
-    assert!(rt; sink.written() == written.as_bytes(), "{line}");
-    assert!(rt; (sink.faults() == 1) == (came == PumpEnd::Failed), "{line}");
 }
 
 #[test]

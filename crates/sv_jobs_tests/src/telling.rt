@@ -1,5 +1,7 @@
 //! Lanes for the tests, and notes as texts.
 
+ghost use Rattle.std.specs.Prelude.{◌≤◌};
+
 use std::alloc::Global;
 use std::process::Abort;
 use std::sync::Wait;
@@ -8,11 +10,18 @@ use sv_jobs::Note;
 use sv_lane::{Poster, Taker, lane};
 use sv_outside::PumpEnd;
 
+/// The taker of a lane and its one poster.
+#[derive(Drop)]
+pub(crate) struct Lane<T: Drop> {
+    pub(crate) taker: Taker<T>,
+    pub(crate) poster: Poster<T>,
+}
+
 /// A lane with one seat.
-pub(crate) fn lane_of<T: Drop>(rt: &impl Abort, alloc: Global) -> (Taker<T>, Poster<T>) {
+pub(crate) fn lane_of<T: Drop>(rt: &impl Abort, alloc: Global) -> Lane<T> {
     let (taker, mut seats) = lane(alloc, 64).expect(rt, "ample memory");
     let poster = seats.seat().expect(rt, "ample memory");
-    (taker, poster)
+    Lane { taker, poster }
 }
 
 /// The bytes of a text.
@@ -31,6 +40,19 @@ pub(crate) fn calls_of(rt: &impl Abort, alloc: Global, text: &str) -> Vec<u64> {
     calls
 }
 
+/// The most bytes of a call.
+pub(crate) fn most_of(text: &str) -> usize
+    ensures { 1 ≤ result }
+{
+    match text {
+        "1" => 1,
+        "2" => 2,
+        "3" => 3,
+        "65536" => 65_536,
+        _ => 9,
+    }
+}
+
 /// A letter for the end of a job.
 pub(crate) fn letter(end: PumpEnd) -> &'static str {
     match end {
@@ -42,16 +64,11 @@ pub(crate) fn letter(end: PumpEnd) -> &'static str {
 
 /// The notes that were posted, each as a word: a piece as it stands, `.` for the end of a stream or a link, `s` for a
 /// whole write, `o` for an open, the number or the name of what ended a process, and what the console asks for.
-pub(crate) fn notes_of<R: Abort + Wait>(
-    rt: &R,
-    alloc: Global,
-    taker: &mut Taker<Note>,
-    poster: &mut Poster<Note>,
-) -> String {
-    poster.post(rt, Note::Tick);
+pub(crate) fn notes_of<R: Abort + Wait>(rt: &R, alloc: Global, notes: &mut Lane<Note>) -> String {
+    notes.poster.post(rt, Note::Tick);
     let mut text = String::new(alloc);
     for _ in 0..64 {
-        let note = taker.take(rt);
+        let note = notes.taker.take(rt);
         if let Note::Tick = note {
             break;
         }

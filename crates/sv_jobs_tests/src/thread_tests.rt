@@ -1,52 +1,98 @@
 //! Jobs in threads of their own.
 
-use crate::telling::{bytes_of, lane_of};
-use std::alloc::AllocError;
+use crate::telling::{Lane, bytes_of, lane_of};
+use std::alloc::Global;
+use std::process::Abort;
+use std::sync::Wait;
 use std::thread;
+use std::thread::{JoinHandle, Threads};
 use sv_base::{Bytes, Run, Stream};
 use sv_jobs::{Note, StdinWord, pump, write_stdin};
-use sv_lane::lane;
+use sv_lane::{Poster, Seats, Taker, lane};
 use sv_out::sink::ListSink;
 use sv_out::source::ListSource;
 use sv_outside::PumpEnd;
 
-#[test]
-fn two_pumps_and_a_writer_beside_the_loop(rt: HostRuntime) -> Result<(), AllocError> {
-    let alloc = rt.alloc();
-    let (mut taker, mut seats) = lane(alloc, 4)?;
-    let (mut out_seat, mut err_seat, mut stdin_seat) = (
-        seats.seat()?,
-        seats.seat()?,
-        seats.seat()?,
-    );
-    let mut out = ListSource::new(Vec::from_elem(alloc, b'o', 1_000)?, 1, Vec::new(alloc));
-    let mut err = ListSource::new(
-        Vec::from_elem(alloc, b'e', 100_000)?,
-        65_536,
-        Vec::new(alloc),
-    );
+/// A source of so many of this byte, which gives one at a time where it is slow.
+fn source_of(rt: &impl Abort, alloc: Global, byte: u8, count: usize, is_slow: bool) -> ListSource {
+    let bytes = Vec::from_elem(alloc, byte, count).expect(rt, "memory");
+    ListSource::new(bytes, if is_slow { 1 } else { 65_536 }, Vec::new(alloc))
+}
+
+/// A pump of a source in a thread of its own.
+fn start_pump<R: Abort + Threads + Wait + Copy + Send + 'static>(
+    rt: R,
+    alloc: Global,
+    source: ListSource,
+    stream: Stream,
+    seats: &mut Seats<Note>,
+) -> JoinHandle<PumpEnd> {
+    let mut source = source;
+    let mut seat = seats.seat().expect(&rt, "memory");
+    thread::spawn(&rt, move || {
+        pump(&rt, alloc, &mut source, Run(1), stream, &mut seat)
+    })
+    .expect(&rt, "memory")
+}
+
+/// A writer of these words in a thread of its own.
+fn start_writer<R: Abort + Threads + Wait + Copy + Send + 'static>(
+    rt: R,
+    alloc: Global,
+    words: Taker<StdinWord>,
+    seats: &mut Seats<Note>,
+) -> JoinHandle<PumpEnd> {
+    let mut words = words;
+    let mut seat = seats.seat().expect(&rt, "memory");
     let mut sink = ListSink::new(alloc, 3, Vec::new(alloc));
-    let (mut words_taker, mut words) = lane_of(&rt, alloc);
-    let first = thread::spawn(&rt, move || {
-        pump(&rt, alloc, &mut out, Run(1), Stream::Out, &mut out_seat)
-    })?;
-    let second = thread::spawn(&rt, move || {
-        pump(&rt, alloc, &mut err, Run(1), Stream::Err, &mut err_seat)
-    })?;
-    let third = thread::spawn(&rt, move || {
-        write_stdin(&rt, &mut sink, Run(1), &mut stdin_seat, &mut words_taker)
-    })?;
+    thread::spawn(&rt, move || {
+        write_stdin(&rt, &mut sink, Run(1), &mut seat, &mut words)
+    })
+    .expect(&rt, "memory")
+}
+
+/// Two pumps and a writer, each in a thread of its own, and the poster of the writer's words.
+#[derive(Drop)]
+struct Jobs {
+    out: JoinHandle<PumpEnd>,
+    err: JoinHandle<PumpEnd>,
+    stdin: JoinHandle<PumpEnd>,
+    words: Poster<StdinWord>,
+}
+
+fn start_jobs<R: Abort + Threads + Wait + Copy + Send + 'static>(
+    rt: R,
+    alloc: Global,
+    seats: &mut Seats<Note>,
+) -> Jobs {
+    let Lane { taker, poster } = lane_of(&rt, alloc);
+    let out = source_of(&rt, alloc, b'o', 1_000, true);
+    let err = source_of(&rt, alloc, b'e', 100_000, false);
+    Jobs {
+        out: start_pump(rt, alloc, out, Stream::Out, seats),
+        err: start_pump(rt, alloc, err, Stream::Err, seats),
+        stdin: start_writer(rt, alloc, taker, seats),
+        words: poster,
+    }
+}
+
+/// Has `in` written, and the standard input closed.
+fn post_words<R: Abort + Wait>(rt: &R, alloc: Global, words: &mut Poster<StdinWord>) {
     words.post(
-        &rt,
-        StdinWord::Write(Bytes::from_vec(bytes_of(&rt, alloc, "in"))),
+        rt,
+        StdinWord::Write(Bytes::from_vec(bytes_of(rt, alloc, "in"))),
     );
-    words.post(&rt, StdinWord::Close);
+    words.post(rt, StdinWord::Close);
+}
+
+/// Hears all bytes of both streams, a whole write and three ends.
+fn hear_jobs<R: Abort + Wait>(rt: &R, notes: &mut Taker<Note>) {
     let (mut out_bytes, mut err_bytes, mut wrote, mut ends) = (0usize, 0usize, 0u8, 0u8);
     for _ in 0..2_000 {
         if ends == 3 {
             break;
         }
-        match taker.take(&rt) {
+        match notes.take(rt) {
             Note::Out(_, Stream::Out, piece) => {
                 out_bytes = out_bytes.wrapping_add(piece.as_slice().len())
             }
@@ -59,8 +105,20 @@ fn two_pumps_and_a_writer_beside_the_loop(rt: HostRuntime) -> Result<(), AllocEr
         }
     }
     assert!(rt; out_bytes == 1_000 && err_bytes == 100_000 && wrote == 1 && ends == 3);
-    assert!(rt; first.join(&rt) == PumpEnd::Ended);
-    assert!(rt; second.join(&rt) == PumpEnd::Ended);
-    assert!(rt; third.join(&rt) == PumpEnd::Ended);
-    Ok(())
+}
+
+/// All three jobs end.
+fn join_jobs<R: Abort + Threads>(rt: &R, jobs: Jobs) {
+    assert!(rt; jobs.out.join(rt) == PumpEnd::Ended);
+    assert!(rt; jobs.err.join(rt) == PumpEnd::Ended);
+    assert!(rt; jobs.stdin.join(rt) == PumpEnd::Ended);
+}
+
+#[test]
+fn two_pumps_and_a_writer_beside_the_loop(rt: HostRuntime) {
+    let (mut notes, mut seats) = lane(rt.alloc(), 4).expect(&rt, "memory");
+    let mut jobs = start_jobs(rt, rt.alloc(), &mut seats);
+    post_words(&rt, rt.alloc(), &mut jobs.words);
+    hear_jobs(&rt, &mut notes);
+    join_jobs(&rt, jobs);
 }

@@ -1,12 +1,13 @@
 //! Starting, stopping and signalling, and texts for a process and for the listeners: what is asked for, or the fault.
 
-use crate::said::planned_said;
+use crate::said::say_planned;
 use crate::scenes::{BUSY, DOWN, ENDED, NOW, Scene, UP, running, stand};
 use crate::told::call;
 use std::alloc::Global;
 use std::process::Abort;
 use sv_base::moment::Moment;
 use sv_methods::{Planned, plan};
+use sv_xmlcall::call::Call;
 
 // Each line is a call and what comes of it: the requests, whether the answer waits for the children, whether it is
 // a status array, the name, and the rows.
@@ -148,74 +149,56 @@ stopProcessGroup web => none | wait array web | none
 signalAllProcesses HUP => none | now array - | none
 signalProcess w HUP => fault 70 NOT_RUNNING: w";
 
-fn moment(rt: &impl Abort) -> Moment {
-    Moment::new(NOW).expect(rt, "a moment")
+/// Names that are empty.
+const EMPTY: &str =
+    "startProcess ' => fault 10 BAD_NAME: \nstopProcessGroup ' => fault 10 BAD_NAME: \nsignalProcess cat ' => fault 11 BAD_SIGNAL: ";
+
+/// What comes of a call.
+pub fn outcome_of(rt: &impl Abort, alloc: Global, scene: &Scene, call: &Call) -> Planned {
+    let now = Moment::new(NOW).expect(rt, "a moment");
+    plan(alloc, &stand(scene), call, now).expect(rt, "memory")
 }
 
 /// What comes of the call of a line.
-pub fn outcome(rt: &impl Abort, alloc: Global, scene: &Scene, line: &str) -> Planned {
+fn outcome(rt: &impl Abort, alloc: Global, scene: &Scene, line: &str) -> Planned {
     let call = call(rt, alloc, line);
-    plan(alloc, &stand(scene), &call, moment(rt)).expect(rt, "memory")
+    outcome_of(rt, alloc, scene, &call)
 }
 
-/// A call of a line gives what the line says.
-pub fn comes_out(rt: &impl Abort, alloc: Global, scene: &Scene, row: &str) {
-    let (line, wanted) = row.split_once(" => ").expect(rt, "two cells");
-    let planned = outcome(rt, alloc, scene, line);
-    let said = planned_said(rt, alloc, &planned);
-    assert_eq!(rt; said.as_str(), wanted, "{row}");
+/// What comes of the call of a line over these processes.
+pub fn outcome_over(rt: &impl Abort, alloc: Global, lives: &str, line: &str) -> Planned {
+    let scene = running(rt, alloc, lives);
+    outcome(rt, alloc, &scene, line)
+}
+
+/// This is what came of a call.
+fn is_said(rt: &impl Abort, alloc: Global, planned: &Planned, wanted: &str) {
+    let mut said = String::new(alloc);
+    say_planned(rt, &mut said, planned);
+    assert_eq!(rt; said.as_str(), wanted);
 }
 
 /// Each call of a table gives what its line says.
 pub fn all_come_out(rt: &impl Abort, alloc: Global, scene: &Scene, rows: &str) {
     for row in rows.split('\n') {
-        comes_out(rt, alloc, scene, row);
+        let (line, wanted) = row.split_once(" => ").expect(rt, "two cells");
+        let planned = outcome(rt, alloc, scene, line);
+        is_said(rt, alloc, &planned, wanted);
     }
 }
 
-#[test]
-fn acts_on_busy_processes(rt: HostRuntime) {
-    let scene = running(&rt, rt.alloc(), BUSY);
-    all_come_out(&rt, rt.alloc(), &scene, ON_BUSY);
+/// Each call of a table gives what its line says over these processes.
+pub fn come_out_over(rt: &impl Abort, alloc: Global, lives: &str, rows: &str) {
+    let scene = running(rt, alloc, lives);
+    all_come_out(rt, alloc, &scene, rows);
 }
 
 #[test]
-fn acts_on_ended_processes(rt: HostRuntime) {
-    let scene = running(&rt, rt.alloc(), ENDED);
-    all_come_out(&rt, rt.alloc(), &scene, ON_ENDED);
-}
-
-#[test]
-fn acts_on_processes_that_are_up(rt: HostRuntime) {
-    let scene = running(&rt, rt.alloc(), UP);
-    all_come_out(&rt, rt.alloc(), &scene, ON_UP);
-}
-
-#[test]
-fn acts_on_processes_that_are_down(rt: HostRuntime) {
-    let scene = running(&rt, rt.alloc(), DOWN);
-    all_come_out(&rt, rt.alloc(), &scene, ON_DOWN);
-}
-
-#[test]
-fn an_empty_name_is_bad(rt: HostRuntime) {
-    let scene = running(&rt, rt.alloc(), BUSY);
-    comes_out(
-        &rt,
-        rt.alloc(),
-        &scene,
-        "startProcess ' => fault 10 BAD_NAME: ",
-    );
-    comes_out(
-        &rt,
-        rt.alloc(),
-        &scene,
-        "stopProcessGroup ' => fault 10 BAD_NAME: ",
-    );
-    comes_out(
-        &rt,
-        rt.alloc(),
-        &scene,
-        "signalProcess cat ' => fault 11 BAD_SIGNAL: ",
-    );
+fn acts_on_processes(rt: HostRuntime) {
+    let alloc = rt.alloc();
+    come_out_over(&rt, alloc, BUSY, ON_BUSY);
+    come_out_over(&rt, alloc, ENDED, ON_ENDED);
+    come_out_over(&rt, alloc, UP, ON_UP);
+    come_out_over(&rt, alloc, DOWN, ON_DOWN);
+    come_out_over(&rt, alloc, BUSY, EMPTY);
 }

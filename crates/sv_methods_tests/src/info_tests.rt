@@ -1,7 +1,7 @@
 //! What is said of the daemon and of its processes: the short answers, the structs, and descriptions at their borders.
 
-use crate::act_tests::{all_come_out, comes_out, outcome};
-use crate::scenes::{BUSY, ENDED, running};
+use crate::act_tests::{come_out_over, outcome_over};
+use crate::scenes::{BUSY, ENDED};
 use std::alloc::Global;
 use std::process::Abort;
 use sv_base::bytes::Bytes;
@@ -90,21 +90,11 @@ STOPPING pid=9 start=5 stop=5 fault=x =>
 UNKNOWN pid=9 start=5 stop=5 fault=x => "#;
 
 #[test]
-fn gives_short_answers(rt: HostRuntime) {
-    let scene = running(&rt, rt.alloc(), BUSY);
-    all_come_out(&rt, rt.alloc(), &scene, SHORT);
-}
-
-#[test]
-fn tells_of_each_process(rt: HostRuntime) {
-    let scene = running(&rt, rt.alloc(), BUSY);
-    all_come_out(&rt, rt.alloc(), &scene, ONE_BY_ONE);
-}
-
-#[test]
-fn tells_of_all_processes(rt: HostRuntime) {
-    let scene = running(&rt, rt.alloc(), ENDED);
-    comes_out(&rt, rt.alloc(), &scene, ALL_AT_ONCE);
+fn tells_of_the_daemon_and_of_processes(rt: HostRuntime) {
+    let alloc = rt.alloc();
+    come_out_over(&rt, alloc, BUSY, SHORT);
+    come_out_over(&rt, alloc, BUSY, ONE_BY_ONE);
+    come_out_over(&rt, alloc, ENDED, ALL_AT_ONCE);
 }
 
 /// The description in a struct of a process, or a word that none is.
@@ -127,8 +117,7 @@ fn text_of(value: &Value) -> &str {
 
 fn is_described(rt: &impl Abort, alloc: Global, row: &str) {
     let (life, wanted) = row.split_once(" => ").expect(rt, "two cells");
-    let scene = running(rt, alloc, life);
-    let planned = outcome(rt, alloc, &scene, "getProcessInfo cat");
+    let planned = outcome_over(rt, alloc, life, "getProcessInfo cat");
     assert_eq!(rt; description(&planned), wanted, "{row}");
 }
 
@@ -149,28 +138,29 @@ fn reply(rt: &impl Abort, alloc: Global, planned: &Planned) -> Bytes {
     bytes.expect(rt, "memory")
 }
 
-/// The written answer of a call that has one at once.
-fn written(rt: &impl Abort, alloc: Global, line: &str) -> String {
-    let scene = running(rt, alloc, BUSY);
-    let planned = outcome(rt, alloc, &scene, line);
-    let bytes = reply(rt, alloc, &planned);
-    String::from_utf8_lossy(alloc, bytes.as_slice()).expect(rt, "memory")
+/// The reply to the call of a line over the busy processes.
+fn reply_to(rt: &impl Abort, alloc: Global, line: &str) -> Bytes {
+    let planned = outcome_over(rt, alloc, BUSY, line);
+    reply(rt, alloc, &planned)
 }
 
-#[test]
-fn writes_the_mood(rt: HostRuntime) {
-    let said = written(&rt, rt.alloc(), "getState");
-    assert_eq!(rt;
-        said.as_str(),
-        "<?xml version='1.0'?><methodResponse><params><param><value><struct><member><name>statecode</name><value><int>1</int></value></member><member><name>statename</name><value><string>RUNNING</string></value></member></struct></value></param></params></methodResponse>"
-    );
+/// The reply to the call of a line over the busy processes is this text.
+fn is_written(rt: &impl Abort, alloc: Global, line: &str, wanted: &str) {
+    let bytes = reply_to(rt, alloc, line);
+    let text = std::str::from_utf8(bytes.as_slice()).unwrap_or("");
+    assert_eq!(rt; text, wanted);
 }
 
+/// The reply that tells the mood.
+const MOOD: &str =
+    "<?xml version='1.0'?><methodResponse><params><param><value><struct><member><name>statecode</name><value><int>1</int></value></member><member><name>statename</name><value><string>RUNNING</string></value></member></struct></value></param></params></methodResponse>";
+
+/// The reply that says that a process was already started.
+const ALREADY_STARTED: &str =
+    "<?xml version='1.0'?><methodResponse><fault><value><struct><member><name>faultCode</name><value><int>60</int></value></member><member><name>faultString</name><value><string>ALREADY_STARTED: cat</string></value></member></struct></value></fault></methodResponse>";
+
 #[test]
-fn writes_that_it_was_already_started(rt: HostRuntime) {
-    let said = written(&rt, rt.alloc(), "startProcess cat");
-    assert_eq!(rt;
-        said.as_str(),
-        "<?xml version='1.0'?><methodResponse><fault><value><struct><member><name>faultCode</name><value><int>60</int></value></member><member><name>faultString</name><value><string>ALREADY_STARTED: cat</string></value></member></struct></value></fault></methodResponse>"
-    );
+fn writes_replies(rt: HostRuntime) {
+    is_written(&rt, rt.alloc(), "getState", MOOD);
+    is_written(&rt, rt.alloc(), "startProcess cat", ALREADY_STARTED);
 }

@@ -1,7 +1,7 @@
 //! Reading and clearing logs: which part of which file is read, what is cleared, or the fault.
 
-use crate::act_tests::all_come_out;
-use crate::scenes::{BUSY, DOWN, running, scene_with};
+use crate::act_tests::{all_come_out, come_out_over};
+use crate::scenes::{BUSY, DOWN, scene_with};
 use sv_base::state::Mood;
 
 /// The main log has 10 bytes, as has the log of cat:cat.
@@ -106,27 +106,12 @@ readLog -4 1 => fault 20 NO_FILE
 clearLog => fault 20 NO_FILE";
 
 #[test]
-fn reads_parts(rt: HostRuntime) {
-    let scene = running(&rt, rt.alloc(), BUSY);
-    all_come_out(&rt, rt.alloc(), &scene, READS);
-}
-
-#[test]
-fn reads_at_most_a_million_bytes(rt: HostRuntime) {
-    let scene = running(&rt, rt.alloc(), BUSY);
-    all_come_out(&rt, rt.alloc(), &scene, SPANS);
-}
-
-#[test]
-fn reads_ends(rt: HostRuntime) {
-    let scene = running(&rt, rt.alloc(), BUSY);
-    all_come_out(&rt, rt.alloc(), &scene, TAILS);
-}
-
-#[test]
-fn clears_logs(rt: HostRuntime) {
-    let scene = running(&rt, rt.alloc(), DOWN);
-    all_come_out(&rt, rt.alloc(), &scene, CLEARS);
+fn reads_and_clears_logs(rt: HostRuntime) {
+    let alloc = rt.alloc();
+    come_out_over(&rt, alloc, BUSY, READS);
+    come_out_over(&rt, alloc, BUSY, SPANS);
+    come_out_over(&rt, alloc, BUSY, TAILS);
+    come_out_over(&rt, alloc, DOWN, CLEARS);
 }
 
 #[test]

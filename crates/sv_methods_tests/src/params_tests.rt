@@ -1,8 +1,10 @@
 //! What each method takes, which methods are there, and the moods: the faults that each call can have, and the
 //! signatures.
 
-use crate::act_tests::{all_come_out, comes_out};
-use crate::scenes::{BUSY, running, scene_with};
+use crate::act_tests::{all_come_out, come_out_over};
+use crate::scenes::{BUSY, scene_with};
+use std::alloc::Global;
+use std::process::Abort;
 use sv_base::state::Mood;
 
 /// Too few parameters, too many, and those of other types.
@@ -255,56 +257,36 @@ const LIST: &str =
     "system.listMethods => ['supervisor.clearAllProcessLogs', 'supervisor.clearLog', 'supervisor.clearProcessLogs', 'supervisor.getAPIVersion', 'supervisor.getAllProcessInfo', 'supervisor.getIdentification', 'supervisor.getPID', 'supervisor.getProcessInfo', 'supervisor.getState', 'supervisor.getSupervisorVersion', 'supervisor.readLog', 'supervisor.readProcessStderrLog', 'supervisor.readProcessStdoutLog', 'supervisor.sendProcessStdin', 'supervisor.sendRemoteCommEvent', 'supervisor.shutdown', 'supervisor.signalAllProcesses', 'supervisor.signalProcess', 'supervisor.signalProcessGroup', 'supervisor.startAllProcesses', 'supervisor.startProcess', 'supervisor.startProcessGroup', 'supervisor.stopAllProcesses', 'supervisor.stopProcess', 'supervisor.stopProcessGroup', 'supervisor.tailProcessStderrLog', 'supervisor.tailProcessStdoutLog', 'system.listMethods', 'system.methodSignature', 'system.multicall']";
 
 #[test]
-fn refuses_parameters(rt: HostRuntime) {
-    let scene = running(&rt, rt.alloc(), BUSY);
-    all_come_out(&rt, rt.alloc(), &scene, BAD_PARAMS);
-}
-
-#[test]
-fn refuses_unknown_methods(rt: HostRuntime) {
-    let scene = running(&rt, rt.alloc(), BUSY);
-    all_come_out(&rt, rt.alloc(), &scene, NO_METHODS);
-}
-
-#[test]
-fn refuses_during_shutdown(rt: HostRuntime) {
+fn refuses_parameters_and_methods_and_has_signatures(rt: HostRuntime) {
     let alloc = rt.alloc();
-    let scene = scene_with(&rt, alloc, BUSY, Mood::Shutdown, true, true);
-    all_come_out(&rt, alloc, &scene, SHUT);
-    comes_out(&rt, alloc, &scene, LIST);
-    comes_out(
-        &rt,
-        alloc,
-        &scene,
-        "getState => {statecode -1, statename 'SHUTDOWN'}",
-    );
+    come_out_over(&rt, alloc, BUSY, BAD_PARAMS);
+    come_out_over(&rt, alloc, BUSY, NO_METHODS);
+    come_out_over(&rt, alloc, BUSY, SIGNATURES);
+    come_out_over(&rt, alloc, BUSY, LIST);
+}
+
+/// What the mood is during a shutdown, and during a restart.
+const SHUT_MOOD: &str = "getState => {statecode -1, statename 'SHUTDOWN'}";
+
+const RESTARTING_MOOD: &str = "getState => {statecode 0, statename 'RESTARTING'}";
+
+/// Nearly all calls are refused in this mood, which is told so.
+fn refuses_in(rt: &impl Abort, alloc: Global, mood: Mood, told: &str) {
+    let scene = scene_with(rt, alloc, BUSY, mood, true, true);
+    all_come_out(rt, alloc, &scene, SHUT);
+    all_come_out(rt, alloc, &scene, LIST);
+    all_come_out(rt, alloc, &scene, told);
 }
 
 #[test]
-fn refuses_during_a_restart(rt: HostRuntime) {
-    let alloc = rt.alloc();
-    let scene = scene_with(&rt, alloc, BUSY, Mood::Restarting, true, true);
-    all_come_out(&rt, alloc, &scene, SHUT);
-    comes_out(&rt, alloc, &scene, LIST);
-    comes_out(
-        &rt,
-        alloc,
-        &scene,
-        "getState => {statecode 0, statename 'RESTARTING'}",
-    );
+fn refuses_during_a_shutdown_and_a_restart(rt: HostRuntime) {
+    refuses_in(&rt, rt.alloc(), Mood::Shutdown, SHUT_MOOD);
+    refuses_in(&rt, rt.alloc(), Mood::Restarting, RESTARTING_MOOD);
 }
 
 #[test]
 fn has_only_general_methods(rt: HostRuntime) {
-    let alloc = rt.alloc();
-    let scene = scene_with(&rt, alloc, BUSY, Mood::Running, true, false);
-    all_come_out(&rt, alloc, &scene, WITHOUT_RPC);
-    comes_out(&rt, alloc, &scene, LIST);
-}
-
-#[test]
-fn has_signatures(rt: HostRuntime) {
-    let scene = running(&rt, rt.alloc(), BUSY);
-    all_come_out(&rt, rt.alloc(), &scene, SIGNATURES);
-    comes_out(&rt, rt.alloc(), &scene, LIST);
+    let scene = scene_with(&rt, rt.alloc(), BUSY, Mood::Running, true, false);
+    all_come_out(&rt, rt.alloc(), &scene, WITHOUT_RPC);
+    all_come_out(&rt, rt.alloc(), &scene, LIST);
 }

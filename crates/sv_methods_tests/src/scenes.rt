@@ -34,11 +34,23 @@ RUNNING pid=20 start=999816155500|UNKNOWN|BACKOFF start=1000000000000 fault=fork
 #[derive(Drop)]
 pub struct Scene {
     mood: Mood,
+    daemon: Daemon,
+    lives: Lives,
+}
+
+/// What a daemon was configured with, and the sizes that it knows.
+#[derive(Drop)]
+struct Daemon {
     config: Config,
     roster: Roster,
+    sizes: Vec<(Text, u64)>,
+}
+
+/// The children, and of each whether its stdin was closed.
+#[derive(Drop)]
+struct Lives {
     children: Vec<Child>,
     closed: Vec<bool>,
-    sizes: Vec<(Text, u64)>,
 }
 
 fn state(word: &str) -> State {
@@ -90,23 +102,37 @@ fn child(rt: &impl Abort, alloc: Global, life: &str) -> Child {
     child
 }
 
-fn children(rt: &impl Abort, alloc: Global, lives: &str) -> Vec<Child> {
-    let mut children = Vec::new(alloc);
-    for life in lives.split('|') {
-        children.push(child(rt, alloc, life)).expect(rt, "memory");
-    }
-    children
+/// A child and whether its stdin was closed, which the last word of its life tells.
+fn push_life(rt: &impl Abort, alloc: Global, lives: &mut Lives, life: &str) {
+    let child = child(rt, alloc, life);
+    lives.children.push(child).expect(rt, "memory");
+    let closed = life.ends_with("closed=yes");
+    lives.closed.push(closed).expect(rt, "memory");
 }
 
-/// Of each child whether its stdin was closed, which its last word tells.
-fn closed(rt: &impl Abort, alloc: Global, lives: &str) -> Vec<bool> {
-    let mut closed = Vec::new(alloc);
+/// The children of these lives.
+fn lives_of(rt: &impl Abort, alloc: Global, lives: &str) -> Lives {
+    let mut found = Lives {
+        children: Vec::new(alloc),
+        closed: Vec::new(alloc),
+    };
     for life in lives.split('|') {
-        closed
-            .push(life.ends_with("closed=yes"))
-            .expect(rt, "memory");
+        push_life(rt, alloc, &mut found, life);
     }
-    closed
+    found
+}
+
+fn roster(rt: &impl Abort, alloc: Global, config: &Config) -> Roster {
+    Roster::new(alloc, config).expect(rt, "memory")
+}
+
+fn configured(rt: &impl Abort, alloc: Global, has_main: bool, rpc: bool) -> Daemon {
+    let config = config(alloc, groups(rt, alloc), has_main, rpc);
+    Daemon {
+        roster: roster(rt, alloc, &config),
+        config,
+        sizes: sizes(rt, alloc),
+    }
 }
 
 /// The six processes with these children, in this mood, with a main log or without one, with the methods of
@@ -119,15 +145,10 @@ pub fn scene_with(
     has_main: bool,
     rpc: bool,
 ) -> Scene {
-    let config = config(alloc, groups(rt, alloc), has_main, rpc);
-    let roster = Roster::new(alloc, &config).expect(rt, "memory");
     Scene {
         mood,
-        config,
-        roster,
-        children: children(rt, alloc, lives),
-        closed: closed(rt, alloc, lives),
-        sizes: sizes(rt, alloc),
+        daemon: configured(rt, alloc, has_main, rpc),
+        lives: lives_of(rt, alloc, lives),
     }
 }
 
@@ -141,11 +162,11 @@ pub fn stand(scene: &Scene) -> Stand {
     Stand {
         mood: scene.mood,
         pid: 4_294_967_295,
-        config: &scene.config,
-        roster: &scene.roster,
-        children: scene.children.as_slice(),
-        closed: scene.closed.as_slice(),
-        sizes: scene.sizes.as_slice(),
+        config: &scene.daemon.config,
+        roster: &scene.daemon.roster,
+        children: scene.lives.children.as_slice(),
+        closed: scene.lives.closed.as_slice(),
+        sizes: scene.daemon.sizes.as_slice(),
     }
 }
 

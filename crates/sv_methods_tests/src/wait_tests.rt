@@ -1,6 +1,6 @@
 //! Waits with the states of the children, and what each then answers.
 
-use crate::said::answered_said;
+use crate::said::say_answered;
 use crate::scenes::{Scene, running, stand};
 use crate::told::waiting;
 use std::alloc::Global;
@@ -75,38 +75,36 @@ now array z | none @ STOPPED => []
 wait array z: | none @ STARTING => []
 wait array z: | started 5 @ STARTING|STARTING|STARTING|STARTING|STARTING|EXITED => [{name 'q', group 'z', status 40, description 'ABNORMAL_TERMINATION: z:q'}]";
 
-/// What the wait of a line is answered.
-fn answer(rt: &impl Abort, alloc: Global, scene: &Scene, line: &str) -> Option<Answered> {
+/// What the wait of a line is answered over these processes.
+fn answer(rt: &impl Abort, alloc: Global, lives: &str, line: &str) -> Option<Answered> {
+    let scene = running(rt, alloc, lives);
+    answer_in(rt, alloc, &scene, line)
+}
+
+fn answer_in(rt: &impl Abort, alloc: Global, scene: &Scene, line: &str) -> Option<Answered> {
     let waiting = waiting(rt, alloc, line);
     check(alloc, &stand(scene), &waiting).expect(rt, "memory")
 }
 
-fn is_answered(rt: &impl Abort, alloc: Global, row: &str) {
-    let (given, wanted) = row.split_once(" => ").expect(rt, "two cells");
-    let (line, lives) = given.split_once(" @ ").expect(rt, "two cells");
-    let scene = running(rt, alloc, lives);
-    let answered = answer(rt, alloc, &scene, line);
-    let said = answered_said(rt, alloc, &answered);
-    assert_eq!(rt; said.as_str(), wanted, "{row}");
+/// This is the answer.
+fn is_said(rt: &impl Abort, alloc: Global, answered: &Option<Answered>, wanted: &str) {
+    let mut said = String::new(alloc);
+    say_answered(rt, &mut said, answered);
+    assert_eq!(rt; said.as_str(), wanted);
 }
 
-#[test]
-fn a_start_is_answered(rt: HostRuntime) {
-    for row in STARTS.split('\n') {
-        is_answered(&rt, rt.alloc(), row);
+fn are_answered(rt: &impl Abort, alloc: Global, rows: &str) {
+    for row in rows.split('\n') {
+        let (given, wanted) = row.split_once(" => ").expect(rt, "two cells");
+        let (line, lives) = given.split_once(" @ ").expect(rt, "two cells");
+        let answered = answer(rt, alloc, lives, line);
+        is_said(rt, alloc, &answered, wanted);
     }
 }
 
 #[test]
-fn other_requests_are_answered(rt: HostRuntime) {
-    for row in OTHERS.split('\n') {
-        is_answered(&rt, rt.alloc(), row);
-    }
-}
-
-#[test]
-fn arrays_are_answered(rt: HostRuntime) {
-    for row in ARRAYS.split('\n') {
-        is_answered(&rt, rt.alloc(), row);
-    }
+fn waits_are_answered(rt: HostRuntime) {
+    are_answered(&rt, rt.alloc(), STARTS);
+    are_answered(&rt, rt.alloc(), OTHERS);
+    are_answered(&rt, rt.alloc(), ARRAYS);
 }

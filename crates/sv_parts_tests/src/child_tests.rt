@@ -1,18 +1,18 @@
 //! Lives of a child, worked out by hand.
+use crate::sample::{moment, process, seconds};
 use std::alloc::Global;
 use std::process::Abort;
 use sv_base::ids::Run;
-use sv_base::items::Items;
 use sv_base::moment::Moment;
-use sv_base::number::{Backups, CaptureBytes, ExitSignal, Pid, Retries, Seconds, Tries};
+use sv_base::number::{ExitSignal, Pid, Retries, Tries};
 use sv_base::signal::Signal;
-use sv_base::spec::{LogSpec, Spec};
+use sv_base::spec::Spec;
 use sv_base::state::{Autorestart, How, Mood, State};
 use sv_base::text::Text;
 use sv_child::{Child, ChildDeed, Edge, Step};
 
 /// What befalls the child.
-#[derive(Clone, Copy, Debug)]
+#[derive(Clone, Copy)]
 enum Line {
     Tick,
     Pid(u32),
@@ -24,7 +24,7 @@ enum Line {
 }
 
 /// What the child does then.
-#[derive(Clone, Copy, Debug)]
+#[derive(Clone, Copy)]
 enum Wanted {
     Nothing,
     Goes(State, State),
@@ -34,62 +34,65 @@ enum Wanted {
     Kills,
 }
 
-fn no_log() -> LogSpec {
-    LogSpec {
-        file: None,
-        maxbytes: 0,
-        backups: Backups::least(),
-        capture: CaptureBytes::least(),
-        events: false,
-    }
-}
-
-/// A program that expects the exit code 0 and is stopped by TERM.
-fn program(
-    rt: &impl Abort,
-    alloc: Global,
-    start: (u32, u32),
+/// How a program starts, how often it is tried, whether it starts again, and how long it may take to stop.
+#[derive(Clone, Copy)]
+struct Habits {
+    startsecs: u32,
+    startretries: u32,
     autorestart: Autorestart,
     stopwaitsecs: u32,
-) -> Spec {
-    let mut exitcodes = Items::new(alloc);
-    exitcodes.push(0).expect(rt, "memory");
-    Spec {
-        group: Text::fixed("x"),
-        name: Text::fixed("x"),
-        words: Items::new(alloc),
-        priority: 999,
-        autostart: true,
-        startsecs: seconds(rt, start.0),
-        startretries: Retries::new(start.1).expect(rt, "retries"),
-        autorestart,
-        exitcodes,
-        stopsignal: Signal::Term,
-        stopwaitsecs: seconds(rt, stopwaitsecs),
-        stopasgroup: false,
-        killasgroup: false,
-        redirect_stderr: false,
-        stdout: no_log(),
-        stderr: no_log(),
-        environment: Items::new(alloc),
-        directory: Text::fixed(""),
-        umask: Text::fixed(""),
-        user: Text::fixed(""),
-    }
 }
 
-fn seconds(rt: &impl Abort, number: u32) -> Seconds {
-    Seconds::new(number).expect(rt, "seconds")
+const USUAL: Habits = Habits {
+    startsecs: 1,
+    startretries: 3,
+    autorestart: Autorestart::Unexpected,
+    stopwaitsecs: 10,
+};
+
+const WITHOUT_RETRIES: Habits = Habits {
+    startsecs: 1,
+    startretries: 0,
+    autorestart: Autorestart::Unexpected,
+    stopwaitsecs: 10,
+};
+
+const AT_ONCE: Habits = Habits {
+    startsecs: 0,
+    startretries: 3,
+    autorestart: Autorestart::Unexpected,
+    stopwaitsecs: 10,
+};
+
+const STUBBORN: Habits = Habits {
+    startsecs: 1,
+    startretries: 3,
+    autorestart: Autorestart::Never,
+    stopwaitsecs: 2,
+};
+
+const AT_LIMITS: Habits = Habits {
+    startsecs: 1_000_000,
+    startretries: 1_000_000,
+    autorestart: Autorestart::Always,
+    stopwaitsecs: 1_000_000,
+};
+
+/// A program that expects the exit code 0 and is stopped by TERM.
+fn program(rt: &impl Abort, alloc: Global, habits: Habits) -> Spec {
+    let mut spec = process(alloc, "x", "x");
+    spec.exitcodes.push(0).expect(rt, "memory");
+    spec.startsecs = seconds(rt, habits.startsecs);
+    spec.startretries = Retries::new(habits.startretries).expect(rt, "retries");
+    spec.autorestart = habits.autorestart;
+    spec.stopwaitsecs = seconds(rt, habits.stopwaitsecs);
+    spec
 }
 
-fn at(rt: &impl Abort, milliseconds: u64) -> Moment {
-    Moment::new(milliseconds).expect(rt, "a moment")
-}
-
-/// A child in this state, with so many failed starts.
-fn child_in(rt: &impl Abort, state: State, tries: u32) -> Child {
+/// A child that is starting, after so many failed starts.
+fn starting(rt: &impl Abort, tries: u32) -> Child {
     let mut child = Child::new();
-    child.state = state;
+    child.state = State::Starting;
     child.tries = Tries::new(tries).expect(rt, "tries");
     child
 }
@@ -165,7 +168,7 @@ fn check(
     fault: &str,
 ) {
     for (now, line, wanted) in life {
-        let told = play(rt, spec, &mut child, at(rt, *now), *line);
+        let told = play(rt, spec, &mut child, moment(rt, *now), *line);
         assert!(rt; told == step(*wanted), "at {now}");
     }
     assert!(rt; child.fault.as_str() == fault);
@@ -297,32 +300,29 @@ const KILL_AT_EACH_DEADLINE: [(u64, Line, Wanted); 9] = [
     (5_600, Line::Tick, Wanted::Nothing),
 ];
 
+/// The life of a new child of a program with these habits.
+fn life(rt: &impl Abort, alloc: Global, habits: Habits, life: &[(u64, Line, Wanted)], fault: &str) {
+    let spec = program(rt, alloc, habits);
+    check(rt, &spec, Child::new(), life, fault);
+}
+
 #[test]
 fn lives(rt: HostRuntime) {
     let alloc = rt.alloc();
-    let usual = program(&rt, alloc, (1, 3), Autorestart::Unexpected, 10);
-    let without_retries = program(&rt, alloc, (1, 0), Autorestart::Unexpected, 10);
-    let up_at_once = program(&rt, alloc, (0, 3), Autorestart::Unexpected, 10);
-    let stubborn = program(&rt, alloc, (1, 3), Autorestart::Never, 2);
-    check(&rt, &usual, Child::new(), &STARTS_STAYS_UP_AND_EXITS, "");
-    check(
+    life(&rt, alloc, USUAL, &STARTS_STAYS_UP_AND_EXITS, "");
+    life(
         &rt,
-        &without_retries,
-        Child::new(),
+        alloc,
+        WITHOUT_RETRIES,
         &FATAL_WITHOUT_RETRIES,
         "no room",
     );
-    check(
-        &rt,
-        &usual,
-        Child::new(),
-        &THREE_RETRIES_THEN_FATAL,
-        TOO_QUICK,
-    );
-    check(&rt, &up_at_once, Child::new(), &UP_AT_ONCE, "");
-    check(&rt, &usual, Child::new(), &CLOCK_GOES_BACK, TOO_QUICK);
-    check(&rt, &usual, Child::new(), &STOP_IN_BACKOFF, TOO_QUICK);
-    check(&rt, &stubborn, Child::new(), &KILL_AT_EACH_DEADLINE, "");
+    life(&rt, alloc, USUAL, &THREE_RETRIES_THEN_FATAL, TOO_QUICK);
+    life(&rt, alloc, AT_ONCE, &UP_AT_ONCE, "");
+    life(&rt, alloc, USUAL, &CLOCK_GOES_BACK, TOO_QUICK);
+    life(&rt, alloc, USUAL, &STOP_IN_BACKOFF, TOO_QUICK);
+    life(&rt, alloc, STUBBORN, &KILL_AT_EACH_DEADLINE, "");
+    life(&rt, alloc, AT_LIMITS, &FORWARD_AND_BACK, "");
 }
 
 /// The last moment.
@@ -371,27 +371,24 @@ const MILLIONTH_TRY: [(u64, Line, Wanted); 6] = [
     (LAST, Line::Tick, Wanted::Goes(State::Backoff, State::Fatal)),
 ];
 
+/// A start fails at the last moment, after as many failed starts as are counted.
+fn fails_once_more(rt: &impl Abort, spec: &Spec) {
+    let mut child = starting(rt, 1_000_001);
+    play(rt, spec, &mut child, moment(rt, LAST), Line::Refused);
+    assert!(rt; child.tries.get() == 1_000_001);
+    let deadline = child.deadline.expect(rt, "a deadline");
+    assert!(rt; deadline.milliseconds() == 253_001_000_001_000);
+}
+
 #[test]
 fn limits(rt: HostRuntime) {
-    let alloc = rt.alloc();
-    let spec = program(
-        &rt,
-        alloc,
-        (1_000_000, 1_000_000),
-        Autorestart::Always,
-        1_000_000,
-    );
-    check(&rt, &spec, Child::new(), &FORWARD_AND_BACK, "");
+    let spec = program(&rt, rt.alloc(), AT_LIMITS);
     check(
         &rt,
         &spec,
-        child_in(&rt, State::Starting, 999_999),
+        starting(&rt, 999_999),
         &MILLIONTH_TRY,
         "no room",
     );
-    let mut child = child_in(&rt, State::Starting, 1_000_001);
-    play(&rt, &spec, &mut child, at(&rt, LAST), Line::Refused);
-    assert!(rt; child.tries.get() == 1_000_001);
-    let deadline = child.deadline.expect(&rt, "a deadline");
-    assert!(rt; deadline.milliseconds() == 253_001_000_001_000);
+    fails_once_more(&rt, &spec);
 }

@@ -9,180 +9,179 @@ use sv_base::text::Text;
 use sv_events::covers::covers;
 use sv_events::{Event, Fact, Ticks, body, envelope};
 
-#[test]
-fn each_event_has_its_text(rt: HostRuntime) {
-    let alloc = rt.alloc();
-    check(
-        &rt,
-        alloc,
+/// What an event tells. A process is the cat of the group pets, and where it writes its pid is 58597.
+#[derive(Clone, Copy)]
+enum Told {
+    Trying(State, u32),
+    Living(State, u32),
+    Ended(bool, u32),
+    GaveUp,
+    Communication(&'static str),
+    Log(Stream, &'static str),
+    Remote(&'static str, &'static str),
+    Tick(u64),
+    GroupChange(&'static str),
+    Supervisor,
+}
+
+/// A type, what its event tells, and the body and the head of the event.
+const EVENTS: [(Kind, Told, &str, &str); 14] = [
+    (
         Kind::ProcessStateStarting,
-        trying(State::Stopped, 0),
+        Told::Trying(State::Stopped, 0),
         "processname:cat groupname:pets from_state:STOPPED tries:0",
         "ver:3.0 server:supervisor serial:21 pool:ear poolserial:10 eventname:PROCESS_STATE_STARTING len:57\n",
-    );
-    check(
-        &rt,
-        alloc,
+    ),
+    (
         Kind::ProcessStateBackoff,
-        trying(State::Starting, 12),
+        Told::Trying(State::Starting, 12),
         "processname:cat groupname:pets from_state:STARTING tries:12",
         "ver:3.0 server:supervisor serial:21 pool:ear poolserial:10 eventname:PROCESS_STATE_BACKOFF len:59\n",
-    );
-    check(
-        &rt,
-        alloc,
+    ),
+    (
         Kind::ProcessStateRunning,
-        living(State::Starting, 2766),
+        Told::Living(State::Starting, 2766),
         "processname:cat groupname:pets from_state:STARTING pid:2766",
         "ver:3.0 server:supervisor serial:21 pool:ear poolserial:10 eventname:PROCESS_STATE_RUNNING len:59\n",
-    );
-    check(
-        &rt,
-        alloc,
+    ),
+    (
         Kind::ProcessStateStopped,
-        living(State::Backoff, 0),
+        Told::Living(State::Backoff, 0),
         "processname:cat groupname:pets from_state:BACKOFF pid:0",
         "ver:3.0 server:supervisor serial:21 pool:ear poolserial:10 eventname:PROCESS_STATE_STOPPED len:55\n",
-    );
-    check(
-        &rt,
-        alloc,
+    ),
+    (
         Kind::ProcessStateExited,
-        ended(true, 2766),
+        Told::Ended(true, 2766),
         "processname:cat groupname:pets from_state:RUNNING expected:1 pid:2766",
         "ver:3.0 server:supervisor serial:21 pool:ear poolserial:10 eventname:PROCESS_STATE_EXITED len:69\n",
-    );
-    check(
-        &rt,
-        alloc,
+    ),
+    (
         Kind::ProcessStateExited,
-        ended(false, 1),
+        Told::Ended(false, 1),
         "processname:cat groupname:pets from_state:RUNNING expected:0 pid:1",
         "ver:3.0 server:supervisor serial:21 pool:ear poolserial:10 eventname:PROCESS_STATE_EXITED len:66\n",
-    );
-    check(
-        &rt,
-        alloc,
+    ),
+    (
         Kind::ProcessStateFatal,
-        gave_up(),
+        Told::GaveUp,
         "processname:cat groupname:pets from_state:BACKOFF",
         "ver:3.0 server:supervisor serial:21 pool:ear poolserial:10 eventname:PROCESS_STATE_FATAL len:49\n",
-    );
-    check(
-        &rt,
-        alloc,
+    ),
+    (
         Kind::ProcessCommunicationStdout,
-        communication(bytes(&rt, alloc, "a\nb")),
+        Told::Communication("a\nb"),
         "processname:cat groupname:pets pid:58597\na\nb",
         "ver:3.0 server:supervisor serial:21 pool:ear poolserial:10 eventname:PROCESS_COMMUNICATION_STDOUT len:44\n",
-    );
-    check(
-        &rt,
-        alloc,
+    ),
+    (
         Kind::ProcessLogStderr,
-        log(Stream::Err, bytes(&rt, alloc, "oh")),
+        Told::Log(Stream::Err, "oh"),
         "processname:cat groupname:pets pid:58597 channel:stderr\noh",
         "ver:3.0 server:supervisor serial:21 pool:ear poolserial:10 eventname:PROCESS_LOG_STDERR len:58\n",
-    );
-    check(
-        &rt,
-        alloc,
+    ),
+    (
         Kind::ProcessLogStdout,
-        log(Stream::Out, bytes(&rt, alloc, "")),
+        Told::Log(Stream::Out, ""),
         "processname:cat groupname:pets pid:58597 channel:stdout\n",
         "ver:3.0 server:supervisor serial:21 pool:ear poolserial:10 eventname:PROCESS_LOG_STDOUT len:56\n",
-    );
-    check(
-        &rt,
-        alloc,
+    ),
+    (
         Kind::RemoteCommunication,
-        Fact::Remote {
-            sort: Text::fixed("news"),
-            bytes: bytes(&rt, alloc, "x=1"),
-        },
+        Told::Remote("news", "x=1"),
         "type:news\nx=1",
         "ver:3.0 server:supervisor serial:21 pool:ear poolserial:10 eventname:REMOTE_COMMUNICATION len:13\n",
-    );
-    check(
-        &rt,
-        alloc,
+    ),
+    (
         Kind::Tick5,
-        Fact::Tick { when: 1201063880 },
+        Told::Tick(1201063880),
         "when:1201063880",
         "ver:3.0 server:supervisor serial:21 pool:ear poolserial:10 eventname:TICK_5 len:15\n",
-    );
-    check(
-        &rt,
-        alloc,
+    ),
+    (
         Kind::ProcessGroupAdded,
-        Fact::GroupChange {
-            group: Text::fixed("pets"),
-        },
+        Told::GroupChange("pets"),
         "groupname:pets\n",
         "ver:3.0 server:supervisor serial:21 pool:ear poolserial:10 eventname:PROCESS_GROUP_ADDED len:15\n",
-    );
-    check(
-        &rt,
-        alloc,
+    ),
+    (
         Kind::SupervisorStateChangeRunning,
-        Fact::Supervisor,
+        Told::Supervisor,
         "",
         "ver:3.0 server:supervisor serial:21 pool:ear poolserial:10 eventname:SUPERVISOR_STATE_CHANGE_RUNNING len:0\n",
-    );
-}
+    ),
+];
 
-fn trying(from: State, tries: u32) -> Fact {
-    Fact::Trying {
-        name: Text::fixed("cat"),
-        group: Text::fixed("pets"),
-        from,
-        tries,
+#[test]
+fn each_event_has_its_text(rt: HostRuntime) {
+    for (kind, told, text, head) in EVENTS {
+        let body = body_of(&rt, rt.alloc(), told);
+        assert!(rt; body.as_slice() == text.as_bytes(), "the body of {head}");
+        is_enveloped(&rt, rt.alloc(), kind, body, text, head);
     }
 }
 
-fn living(from: State, pid: u32) -> Fact {
-    Fact::Living {
-        name: Text::fixed("cat"),
-        group: Text::fixed("pets"),
-        from,
-        pid,
+/// The body of the event that tells this.
+fn body_of(rt: &impl Abort, alloc: Global, told: Told) -> Bytes {
+    let fact = fact_of(rt, alloc, told);
+    body(alloc, &fact).expect(rt, "memory")
+}
+
+fn fact_of(rt: &impl Abort, alloc: Global, told: Told) -> Fact {
+    match told {
+        Told::Communication(text) => Fact::Communication {
+            name: Text::fixed("cat"),
+            group: Text::fixed("pets"),
+            pid: 58597,
+            bytes: bytes(rt, alloc, text),
+        },
+        Told::Log(stream, text) => Fact::Log {
+            name: Text::fixed("cat"),
+            group: Text::fixed("pets"),
+            pid: 58597,
+            stream,
+            bytes: bytes(rt, alloc, text),
+        },
+        Told::Remote(sort, text) => Fact::Remote {
+            sort: Text::fixed(sort),
+            bytes: bytes(rt, alloc, text),
+        },
+        Told::Tick(when) => Fact::Tick { when },
+        Told::GroupChange(group) => Fact::GroupChange {
+            group: Text::fixed(group),
+        },
+        Told::Supervisor => Fact::Supervisor,
+        told => fact_of_state(Text::fixed("cat"), Text::fixed("pets"), told),
     }
 }
 
-fn ended(expected: bool, pid: u32) -> Fact {
-    Fact::Ended {
-        name: Text::fixed("cat"),
-        group: Text::fixed("pets"),
-        from: State::Running,
-        expected,
-        pid,
-    }
-}
-
-fn gave_up() -> Fact {
-    Fact::GaveUp {
-        name: Text::fixed("cat"),
-        group: Text::fixed("pets"),
-        from: State::Backoff,
-    }
-}
-
-fn communication(bytes: Bytes) -> Fact {
-    Fact::Communication {
-        name: Text::fixed("cat"),
-        group: Text::fixed("pets"),
-        pid: 58597,
-        bytes,
-    }
-}
-
-fn log(stream: Stream, bytes: Bytes) -> Fact {
-    Fact::Log {
-        name: Text::fixed("cat"),
-        group: Text::fixed("pets"),
-        pid: 58597,
-        stream,
-        bytes,
+/// What is told of the state of the process of this name in this group.
+fn fact_of_state(name: Text, group: Text, told: Told) -> Fact {
+    match told {
+        Told::Trying(from, tries) => Fact::Trying {
+            name,
+            group,
+            from,
+            tries,
+        },
+        Told::Living(from, pid) => Fact::Living {
+            name,
+            group,
+            from,
+            pid,
+        },
+        Told::Ended(expected, pid) => Fact::Ended {
+            name,
+            group,
+            from: State::Running,
+            expected,
+            pid,
+        },
+        _ => Fact::GaveUp {
+            name,
+            group,
+            from: State::Backoff,
+        },
     }
 }
 
@@ -190,19 +189,22 @@ fn bytes(rt: &impl Abort, alloc: Global, text: &str) -> Bytes {
     Bytes::from_slice(alloc, text.as_bytes()).expect(rt, "memory")
 }
 
-/// Whether the fact has this body, and its event this head before that body.
-fn check(rt: &impl Abort, alloc: Global, kind: Kind, fact: Fact, text: &str, head: &str) {
-    let body = body(alloc, &fact).expect(rt, "memory");
-    assert!(rt; body.as_slice() == text.as_bytes(), "the body of {head}");
+/// The event of this type with this body.
+fn enveloped(rt: &impl Abort, alloc: Global, kind: Kind, body: Bytes) -> Bytes {
     let event = Event {
         kind,
         serial: 21,
         body,
     };
-    let whole = envelope(alloc, "supervisor", "ear", 10, &event).expect(rt, "memory");
-    let wanted = format!(in alloc; "{head}{text}").expect(rt, "memory");
+    envelope(alloc, "supervisor", "ear", 10, &event).expect(rt, "memory")
+}
+
+/// Whether the event of this type with this body has this head before the body's text.
+fn is_enveloped(rt: &impl Abort, alloc: Global, kind: Kind, body: Bytes, text: &str, head: &str) {
+    let whole = enveloped(rt, alloc, kind, body);
+    let whole = std::str::from_utf8(whole.as_slice()).unwrap_or("");
     assert!(rt;
-        whole.as_slice() == wanted.as_bytes(),
+        whole.strip_prefix(head) == Some(text),
         "the envelope of {head}"
     );
 }

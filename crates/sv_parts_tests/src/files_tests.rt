@@ -1,20 +1,25 @@
 //! Known sizes and the orders of logs, worked out by hand.
-use std::alloc::{AllocError, Global};
+use crate::orders::are_of_daemon;
+use crate::sample::{config, group_of_one, logging};
+use std::alloc::Global;
 use std::process::Abort;
-use sv_base::config::{ClientSpec, Config};
-use sv_base::groups::Groups;
-use sv_base::items::Items;
-use sv_base::number::{Backups, CaptureBytes, Retries, Seconds};
-use sv_base::signal::Signal;
-use sv_base::spec::{GroupSpec, LogSpec, Spec};
-use sv_base::state::{Autorestart, Level};
+use sv_base::config::Config;
+use sv_base::number::{Backups, CaptureBytes};
+use sv_base::spec::{GroupSpec, LogSpec};
 use sv_base::text::Text;
 use sv_files::KnownSizes;
 use sv_out::order::Order;
 
-fn log(rt: &impl Abort, file: Option<&'static str>, maxbytes: u64, backups: u32) -> LogSpec {
+/// The file of a log, the size from which it is rotated, and how many backups it keeps.
+type Log = (Option<&'static str>, u64, u32);
+
+fn spec_of(rt: &impl Abort, log: Log) -> LogSpec {
+    let (file, maxbytes, backups) = log;
     LogSpec {
-        file: file.map(|file| Text::fixed(file)),
+        file: match file {
+            Some(file) => Some(Text::fixed(file)),
+            None => None,
+        },
         maxbytes,
         backups: Backups::new(backups).expect(rt, "a number of backups"),
         capture: CaptureBytes::least(),
@@ -22,197 +27,153 @@ fn log(rt: &impl Abort, file: Option<&'static str>, maxbytes: u64, backups: u32)
     }
 }
 
-/// A process with these files for its two logs.
-fn process(
+/// A group of a process with these logs.
+fn group_of(
     rt: &impl Abort,
     alloc: Global,
-    stdout: Option<&'static str>,
-    stderr: Option<&'static str>,
-) -> Spec {
-    Spec {
-        group: Text::fixed("g"),
-        name: Text::fixed("p"),
-        words: Items::new(alloc),
-        priority: 999,
-        autostart: true,
-        startsecs: Seconds::least(),
-        startretries: Retries::least(),
-        autorestart: Autorestart::Never,
-        exitcodes: Items::new(alloc),
-        stopsignal: Signal::Term,
-        stopwaitsecs: Seconds::least(),
-        stopasgroup: false,
-        killasgroup: false,
-        redirect_stderr: false,
-        stdout: log(rt, stdout, 0, 0),
-        stderr: log(rt, stderr, 0, 0),
-        environment: Items::new(alloc),
-        directory: Text::fixed(""),
-        umask: Text::fixed(""),
-        user: Text::fixed(""),
-    }
+    name: &'static str,
+    stdout: Log,
+    stderr: Log,
+) -> GroupSpec {
+    let spec = logging(alloc, "g", "p", spec_of(rt, stdout), spec_of(rt, stderr));
+    group_of_one(rt, alloc, name, spec)
+}
+
+/// A log of this file that is never rotated.
+fn kept(file: &'static str) -> Log {
+    (Some(file), 0, 0)
 }
 
 /// The main log `/m`, a process that logs to `/p` and `/e`, and one that logs to `/p` alone.
-fn config(rt: &impl Abort, alloc: Global) -> Config {
+fn configured(rt: &impl Abort, alloc: Global) -> Config {
     let mut groups = Vec::new(alloc);
-    group(rt, alloc, &mut groups, "g", Some("/p"), Some("/e"));
-    group(rt, alloc, &mut groups, "h", Some("/p"), None);
-    Config {
-        identifier: Text::fixed("sv"),
-        main: log(rt, Some("/m"), 0, 0),
-        level: Level::Info,
-        groups: Groups::new(groups).expect(rt, "a roster"),
-        servers: Items::new(alloc),
-        client: ClientSpec {
-            url: Text::fixed(""),
-            username: Text::fixed(""),
-            password: Text::fixed(""),
-        },
-        rpc: false,
-    }
-}
-
-fn group(
-    rt: &impl Abort,
-    alloc: Global,
-    groups: &mut Vec<GroupSpec>,
-    name: &'static str,
-    stdout: Option<&'static str>,
-    stderr: Option<&'static str>,
-) {
-    let mut members = Items::new(alloc);
-    members
-        .push(process(rt, alloc, stdout, stderr))
+    groups
+        .push(group_of(rt, alloc, "g", kept("/p"), kept("/e")))
         .expect(rt, "memory");
-    let group = GroupSpec {
-        name: Text::fixed(name),
-        priority: 999,
-        members,
-        pool: None,
-    };
-    groups.push(group).expect(rt, "memory");
+    groups
+        .push(group_of(rt, alloc, "h", kept("/p"), (None, 0, 0)))
+        .expect(rt, "memory");
+    config(rt, alloc, spec_of(rt, kept("/m")), groups)
 }
 
-/// The sizes as text: each name with its size after it.
-fn told(alloc: Global, sizes: &KnownSizes) -> Result<String, AllocError> {
-    let mut text = String::new(alloc);
-    for (name, size) in sizes.as_slice() {
-        let name = name.as_str();
-        write!(text, "{name} {size};")?;
-    }
-    Ok(text)
+fn known(rt: &impl Abort, alloc: Global) -> KnownSizes {
+    let config = configured(rt, alloc);
+    KnownSizes::new(&config, Vec::new(alloc)).expect(rt, "memory")
 }
 
-fn push_order(text: &mut String, order: &Order) -> Result<(), AllocError> {
-    match order {
-        Order::Append { file, bytes } => {
-            let file = file.as_str();
-            let bytes = std::str::from_utf8(bytes.as_slice()).unwrap_or("");
-            write!(text, "append {file} {bytes};")
-        }
-        Order::Shift { from, to } => {
-            let from = from.as_str();
-            let to = to.as_str();
-            write!(text, "shift {from} {to};")
-        }
-        Order::Fresh { file } => {
-            let file = file.as_str();
-            write!(text, "fresh {file};")
-        }
-        _ => text.push_str("other;"),
+/// Whether this file with this size is what is wanted.
+fn is_sized(file: &Text, size: u64, wanted: &str) -> bool {
+    match wanted.split_once(' ') {
+        Some((name, digits)) => file.as_str() == name && digits.parse::<u64>() == Ok(size),
+        None => false,
     }
 }
 
-fn orders(alloc: Global, given: &[Order]) -> Result<String, AllocError> {
-    let mut text = String::new(alloc);
-    for order in given {
-        push_order(&mut text, order)?;
+/// These are the sizes, each after its file and with a semicolon behind it.
+fn are_known(rt: &impl Abort, sizes: &[(Text, u64)], wanted: &str) {
+    let mut left = wanted;
+    for (file, size) in sizes {
+        let (first, others) = left.split_once(';').unwrap_or(("", left));
+        assert!(rt; is_sized(file, *size, first), "{left}");
+        left = others;
     }
-    Ok(text)
+    assert!(rt; left.is_empty(), "{left}");
 }
 
-fn is_told(rt: &impl Abort, alloc: Global, sizes: &KnownSizes, text: &str) {
-    let told = told(alloc, sizes).expect(rt, "memory");
-    assert_eq!(rt; told.as_str(), text);
-}
-
-/// Logs a piece, which gives these orders and leaves these sizes.
-fn logs(
+/// The orders that a piece of a log gives.
+fn given(
     rt: &impl Abort,
     alloc: Global,
     sizes: &mut KnownSizes,
-    log: &LogSpec,
+    log: Log,
     piece: &str,
-    text: &str,
-    after: &str,
-) {
+) -> Vec<Order> {
+    let spec = spec_of(rt, log);
     let mut given = Vec::new(alloc);
-    sizes
-        .append(alloc, log, piece.as_bytes(), &mut given)
-        .expect(rt, "memory");
-    let given = orders(alloc, given.as_slice()).expect(rt, "memory");
-    assert_eq!(rt; given.as_str(), text);
-    is_told(rt, alloc, sizes, after);
+    let done = sizes.append(alloc, &spec, piece.as_bytes(), &mut given);
+    done.expect(rt, "memory");
+    given
 }
+
+/// A log, a piece of it, and after it the orders for the piece and the sizes.
+type Row = (Log, &'static str, &'static str, &'static str);
+
+/// The pieces of a table come, one after the other.
+fn come(rt: &impl Abort, alloc: Global, sizes: &mut KnownSizes, rows: &[Row]) {
+    for (log, piece, orders, after) in rows {
+        let given = given(rt, alloc, sizes, *log, piece);
+        are_of_daemon(rt, given.as_slice(), orders);
+        are_known(rt, sizes.as_slice(), after);
+    }
+}
+
+/// Logs of files that the configuration names or doesn't.
+const GROWING: [Row; 4] = [
+    (
+        (Some("/z"), 0, 0),
+        "ab",
+        "append /z ab;",
+        "/e 0;/m 0;/p 0;/z 2;",
+    ),
+    (
+        (Some("/a"), 0, 0),
+        "ab",
+        "append /a ab;",
+        "/a 2;/e 0;/m 0;/p 0;/z 2;",
+    ),
+    (
+        (Some("/m"), 0, 0),
+        "ab",
+        "append /m ab;",
+        "/a 2;/e 0;/m 2;/p 0;/z 2;",
+    ),
+    (
+        (Some("/a"), 0, 0),
+        "ab",
+        "append /a ab;",
+        "/a 4;/e 0;/m 2;/p 0;/z 2;",
+    ),
+];
 
 #[test]
 fn sizes_of_a_configuration(rt: HostRuntime) {
-    let alloc = rt.alloc();
-    let config = config(&rt, alloc);
-    let mut sizes = KnownSizes::new(&config, Vec::new(alloc)).expect(&rt, "memory");
-    is_told(&rt, alloc, &sizes, "/e 0;/m 0;/p 0;");
-    grows(&rt, alloc, &mut sizes, "/z", "/e 0;/m 0;/p 0;/z 2;");
-    grows(&rt, alloc, &mut sizes, "/a", "/a 2;/e 0;/m 0;/p 0;/z 2;");
-    grows(&rt, alloc, &mut sizes, "/m", "/a 2;/e 0;/m 2;/p 0;/z 2;");
-    grows(&rt, alloc, &mut sizes, "/a", "/a 4;/e 0;/m 2;/p 0;/z 2;");
+    let mut sizes = known(&rt, rt.alloc());
+    are_known(&rt, sizes.as_slice(), "/e 0;/m 0;/p 0;");
+    come(&rt, rt.alloc(), &mut sizes, &GROWING);
     is_size(&rt, &sizes, "/a", 4);
     is_size(&rt, &sizes, "/n", 0);
-    sizes.clear(&Text::fixed("/a"));
-    sizes.clear(&Text::fixed("/n"));
-    is_told(&rt, alloc, &sizes, "/a 0;/e 0;/m 2;/p 0;/z 2;");
-}
-
-/// Two bytes are logged to this file, which leaves these sizes.
-fn grows(rt: &impl Abort, alloc: Global, sizes: &mut KnownSizes, file: &'static str, after: &str) {
-    let log = log(rt, Some(file), 0, 0);
-    let mut given = Vec::new(alloc);
-    sizes
-        .append(alloc, &log, b"ab", &mut given)
-        .expect(rt, "memory");
-    is_told(rt, alloc, sizes, after);
+    is_cleared(&mut sizes, "/a");
+    is_cleared(&mut sizes, "/n");
+    are_known(&rt, sizes.as_slice(), "/a 0;/e 0;/m 2;/p 0;/z 2;");
 }
 
 fn is_size(rt: &impl Abort, sizes: &KnownSizes, file: &'static str, size: u64) {
     assert_eq!(rt; sizes.size(&Text::fixed(file)), size);
 }
 
-/// The greatest size of a log and how many backups it keeps, its file, a piece, and after it the orders for the piece and the
-/// sizes of `/e` and `/p`.
-const PIECES: [(u64, u32, Option<&str>, &str, &str, &str); 6] = [
-    (2, 1, None, "abc", "", "/e 0;/m 0;/p 0;"),
-    (0, 1, Some("/p"), "ab", "append /p ab;", "/e 0;/m 0;/p 2;"),
+fn is_cleared(sizes: &mut KnownSizes, file: &'static str) {
+    sizes.clear(&Text::fixed(file));
+}
+
+/// Logs without a file, without a limit, without backups, and with some.
+const PIECES: [Row; 6] = [
+    ((None, 2, 1), "abc", "", "/e 0;/m 0;/p 0;"),
+    ((Some("/p"), 0, 1), "ab", "append /p ab;", "/e 0;/m 0;/p 2;"),
     (
-        3,
-        0,
-        Some("/p"),
+        (Some("/p"), 3, 0),
         "c",
         "append /p c;fresh /p;",
         "/e 0;/m 0;/p 0;",
     ),
-    (2, 1, Some("/p"), "d", "append /p d;", "/e 0;/m 0;/p 1;"),
+    ((Some("/p"), 2, 1), "d", "append /p d;", "/e 0;/m 0;/p 1;"),
     (
-        2,
-        1,
-        Some("/p"),
+        (Some("/p"), 2, 1),
         "e",
         "append /p e;shift /p /p.1;fresh /p;",
         "/e 0;/m 0;/p 0;",
     ),
     (
-        2,
-        3,
-        Some("/e"),
+        (Some("/e"), 2, 3),
         "fgh",
         "append /e fgh;shift /e.2 /e.3;shift /e.1 /e.2;shift /e /e.1;fresh /e;",
         "/e 0;/m 0;/p 0;",
@@ -221,11 +182,6 @@ const PIECES: [(u64, u32, Option<&str>, &str, &str, &str); 6] = [
 
 #[test]
 fn pieces_of_logs(rt: HostRuntime) {
-    let alloc = rt.alloc();
-    let config = config(&rt, alloc);
-    let mut sizes = KnownSizes::new(&config, Vec::new(alloc)).expect(&rt, "memory");
-    for (maxbytes, backups, file, piece, orders, after) in PIECES {
-        let log = log(&rt, file, maxbytes, backups);
-        logs(&rt, alloc, &mut sizes, &log, piece, orders, after);
-    }
+    let mut sizes = known(&rt, rt.alloc());
+    come(&rt, rt.alloc(), &mut sizes, &PIECES);
 }

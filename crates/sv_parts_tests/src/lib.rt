@@ -22,8 +22,14 @@ mod lines_tests;
 #[cfg(test)]
 mod logs_tests;
 #[cfg(test)]
+mod one_child;
+#[cfg(test)]
+mod orders;
+#[cfg(test)]
 mod pool_tests;
 #[cfg(test)]
 mod pools_tests;
+#[cfg(test)]
+mod sample;
 #[cfg(test)]
 mod timers_tests;

@@ -1,15 +1,13 @@
 //! Calls of a daemon's pools, and what they order, worked out by hand.
+use crate::sample::{config, group, no_log, process};
 use std::alloc::Global;
 use std::process::Abort;
-use sv_base::config::{ClientSpec, Config};
-use sv_base::groups::Groups;
+use sv_base::config::Config;
 use sv_base::ids::{ChildId, Run};
 use sv_base::items::Items;
 use sv_base::kind::Kind;
-use sv_base::number::{Backups, BufferSize, CaptureBytes, Retries, Seconds};
-use sv_base::signal::Signal;
-use sv_base::spec::{GroupSpec, LogSpec, PoolSpec, Spec};
-use sv_base::state::{Autorestart, Level};
+use sv_base::number::BufferSize;
+use sv_base::spec::{GroupSpec, PoolSpec};
 use sv_base::text::Text;
 use sv_events::Fact;
 use sv_groups::Roster;
@@ -34,188 +32,208 @@ t h3:13>t0/0 t r3:t1/1 h3:13>t0/0 k3 h3
 s k1 r1 h1:11>s0/0 k0 k3 k1 k1 r1 h1
 ";
 
-const HEADS: [(&str, &str, &str); 2] = [
-    ("s", "SUPERVISOR_STATE_CHANGE_RUNNING", ""),
-    ("t", "TICK_5", "when:5"),
-];
-
 #[test]
 fn plays_scripts(rt: HostRuntime) {
-    let alloc = rt.alloc();
     for script in SCRIPTS.lines() {
-        let roster = Roster::new(alloc, &config(&rt, alloc)).expect(&rt, "memory");
-        let mut pools = Pools::new(alloc, &roster).expect(&rt, "memory");
+        let mut pools = pools(&rt, rt.alloc());
         for word in script.split(' ') {
-            play(&rt, alloc, &mut pools, word);
+            play(&rt, rt.alloc(), &mut pools, word);
         }
     }
 }
 
 /// Makes one step of a script, and looks at what it orders.
 fn play(rt: &impl Abort, alloc: Global, pools: &mut Pools, word: &str) {
-    let mut given = Vec::new(alloc);
     let (step, wanted) = word.split_once(':').unwrap_or((word, ""));
+    let mut given = Vec::new(alloc);
+    make(rt, alloc, pools, step, wanted, &mut given);
+    are_ordered(rt, alloc, given.as_slice(), wanted);
+}
+
+/// Makes the step.
+fn make(
+    rt: &impl Abort,
+    alloc: Global,
+    pools: &mut Pools,
+    step: &str,
+    wanted: &str,
+    given: &mut Vec<Order>,
+) {
     match step.as_bytes() {
-        [b's'] => {
-            let kind = Kind::SupervisorStateChangeRunning;
-            let done = pools.offer(alloc, kind, &Fact::Supervisor, &mut given);
-            done.expect(rt, "memory");
-        }
-        [b't'] => {
-            let done = pools.offer(alloc, Kind::Tick5, &Fact::Tick { when: 5 }, &mut given);
-            done.expect(rt, "memory");
-        }
+        [b's'] => is_offered(
+            rt,
+            alloc,
+            pools,
+            Kind::SupervisorStateChangeRunning,
+            Fact::Supervisor,
+            given,
+        ),
+        [b't'] => is_offered(rt, alloc, pools, Kind::Tick5, Fact::Tick { when: 5 }, given),
         [b'h', place] => {
-            let run = Run(10 + u32::from(place.saturating_sub(b'0')));
-            let done = pools.hand_to(alloc, "sv", child(*place), run, &mut given);
-            let is_handed = done.expect(rt, "memory");
-            assert!(rt; is_handed != wanted.is_empty(), "handed in {word}");
-            assert!(rt; !is_handed || pools.holds(child(*place)), "held in {word}");
+            let is_handed = is_handed(rt, alloc, pools, *place, given);
+            assert!(rt; is_handed != wanted.is_empty(), "handed in {step}");
+            assert!(rt; !is_handed || pools.holds(child(*place)), "held in {step}");
         }
         [b'k', place] => pools.acknowledge(child(*place)),
-        [b'r', place] => pools.reject(child(*place), &mut given).expect(rt, "memory"),
-        _ => panic!(rt; "no step is {word}"),
+        [b'r', place] => pools.reject(child(*place), given).expect(rt, "memory"),
+        _ => panic!(rt; "no step is {step}"),
     }
-    match given.as_slice() {
-        [] => assert!(rt; wanted.is_empty(), "{word} orders nothing"),
-        [order] => assert!(rt;
-            told(rt, alloc, order).as_str() == wanted,
-            "what {word} orders"
-        ),
-        _ => panic!(rt; "{word} orders more"),
-    }
+}
+
+fn is_offered(
+    rt: &impl Abort,
+    alloc: Global,
+    pools: &mut Pools,
+    kind: Kind,
+    fact: Fact,
+    given: &mut Vec<Order>,
+) {
+    let done = pools.offer(alloc, kind, &fact, given);
+    done.expect(rt, "memory");
+}
+
+/// Whether an event is handed to the process of this place.
+fn is_handed(
+    rt: &impl Abort,
+    alloc: Global,
+    pools: &mut Pools,
+    place: u8,
+    given: &mut Vec<Order>,
+) -> bool {
+    let run = Run(10 + u32::from(place.saturating_sub(b'0')));
+    let done = pools.hand_to(alloc, "sv", child(place), run, given);
+    done.expect(rt, "memory")
 }
 
 fn child(digit: u8) -> ChildId {
     ChildId(u32::from(digit.saturating_sub(b'0')))
 }
 
-/// An order as the scripts write it.
-fn told(rt: &impl Abort, alloc: Global, order: &Order) -> String {
+/// Nothing is ordered, or what a script writes.
+fn are_ordered(rt: &impl Abort, alloc: Global, orders: &[Order], wanted: &str) {
+    match orders {
+        [] => assert!(rt; wanted.is_empty(), "{wanted} isn't ordered"),
+        [order] => is_ordered(rt, alloc, order, wanted),
+        _ => panic!(rt; "more than {wanted}"),
+    }
+}
+
+/// The order is this one.
+fn is_ordered(rt: &impl Abort, alloc: Global, order: &Order, wanted: &str) {
     match order {
         Order::Dropped {
             pool,
             serial,
             poolserial,
-        } => format!(in alloc; "{}{poolserial}/{serial}", pool.as_str()).expect(rt, "memory"),
+        } => {
+            let numbers = wanted.strip_prefix(pool.as_str()).unwrap_or("");
+            assert!(rt;
+                are_numbers(numbers, *poolserial, *serial),
+                "{wanted} is dropped"
+            );
+        }
         Order::Stdin { run, bytes } => {
             let text = std::str::from_utf8(bytes.as_slice()).unwrap_or("");
-            written(rt, alloc, run.0, text)
+            is_handed_over(rt, alloc, run.0, text, wanted);
         }
         _ => panic!(rt; "no such order is given"),
     }
 }
 
-/// The event that this envelope holds, as the scripts write it.
-fn written(rt: &impl Abort, alloc: Global, run: u32, text: &str) -> String {
-    let pool = if run == 13 { "t" } else { "e" };
-    for (letter, name, body) in HEADS {
-        for serial in 0..3u8 {
-            for poolserial in 0..3u8 {
-                let length = body.len();
-                let whole = format!(in alloc;
-                    "ver:3.0 server:sv serial:{serial} pool:{pool} poolserial:{poolserial} eventname:{name} len:{length}\n{body}"
-                );
-                if whole.expect(rt, "memory").as_str() == text {
-                    let told = format!(in alloc; "{run}>{letter}{serial}/{poolserial}");
-                    return told.expect(rt, "memory");
-                }
-            }
+/// Whether these are written with a stroke between them.
+fn are_numbers(text: &str, first: u64, second: u64) -> bool {
+    match text.split_once('/') {
+        Some((one, other)) => {
+            one.parse::<u64>() == Ok(first) && other.parse::<u64>() == Ok(second)
         }
-    }
-    String::new(alloc)
-}
-
-fn no_log() -> LogSpec {
-    LogSpec {
-        file: None,
-        maxbytes: 0,
-        backups: Backups::least(),
-        capture: CaptureBytes::least(),
-        events: false,
+        None => false,
     }
 }
 
-fn process(alloc: Global, group: &'static str, name: &'static str) -> Spec {
-    Spec {
-        group: Text::fixed(group),
-        name: Text::fixed(name),
-        words: Items::new(alloc),
-        priority: 999,
-        autostart: true,
-        startsecs: Seconds::least(),
-        startretries: Retries::least(),
-        autorestart: Autorestart::Never,
-        exitcodes: Items::new(alloc),
-        stopsignal: Signal::Term,
-        stopwaitsecs: Seconds::least(),
-        stopasgroup: false,
-        killasgroup: false,
-        redirect_stderr: false,
-        stdout: no_log(),
-        stderr: no_log(),
-        environment: Items::new(alloc),
-        directory: Text::fixed(""),
-        umask: Text::fixed(""),
-        user: Text::fixed(""),
-    }
+/// The run gets the event that a script writes.
+fn is_handed_over(rt: &impl Abort, alloc: Global, run: u32, text: &str, wanted: &str) {
+    let (digits, event) = wanted.split_once('>').expect(rt, "a run");
+    assert!(rt; digits.parse::<u32>() == Ok(run), "{wanted} is handed over");
+    let pool = if run == 13 { "t" } else { "e" };
+    let envelope = envelope(rt, alloc, pool, event);
+    assert!(rt; envelope.as_str() == text, "{wanted} is handed over");
 }
 
-/// A group of these processes, with a pool of this size for events of this type, if one is given.
-fn group(
+/// The envelope of the event that a script writes by its letter, its number among all and its number in this pool.
+fn envelope(rt: &impl Abort, alloc: Global, pool: &str, event: &str) -> String {
+    let (serial, poolserial) = event.split_once('/').expect(rt, "two numbers");
+    let (serial, head) = match serial.strip_prefix('s') {
+        Some(serial) => (serial, "eventname:SUPERVISOR_STATE_CHANGE_RUNNING len:0\n"),
+        None => (
+            serial.strip_prefix('t').expect(rt, "a tick"),
+            "eventname:TICK_5 len:6\nwhen:5",
+        ),
+    };
+    let text = format!(in alloc;
+        "ver:3.0 server:sv serial:{serial} pool:{pool} poolserial:{poolserial} {head}"
+    );
+    text.expect(rt, "memory")
+}
+
+/// A group of these processes.
+fn group_of(
     rt: &impl Abort,
     alloc: Global,
     name: &'static str,
     members: &[&'static str],
-    pool: Option<(Kind, u32)>,
 ) -> GroupSpec {
     let mut specs = Items::new(alloc);
     for member in members {
-        specs
-            .push(process(alloc, name, *member))
-            .expect(rt, "memory");
+        let spec = process(alloc, name, *member);
+        specs.push(spec).expect(rt, "memory");
     }
-    let pool = match pool {
-        Some((kind, buffer)) => {
-            let mut kinds = Items::new(alloc);
-            kinds.push(kind).expect(rt, "memory");
-            let buffer = BufferSize::new(buffer).expect(rt, "a size");
-            Some(PoolSpec { kinds, buffer })
-        }
-        None => None,
-    };
-    GroupSpec {
-        name: Text::fixed(name),
-        priority: 999,
-        members: specs,
-        pool,
+    group(Text::fixed(name), specs)
+}
+
+/// A pool of this size for events of this type.
+fn pool(rt: &impl Abort, alloc: Global, kind: Kind, buffer: u32) -> PoolSpec {
+    let mut kinds = Items::new(alloc);
+    kinds.push(kind).expect(rt, "memory");
+    PoolSpec {
+        kinds,
+        buffer: BufferSize::new(buffer).expect(rt, "a size"),
     }
 }
 
-fn config(rt: &impl Abort, alloc: Global) -> Config {
+/// A group of these listeners, with a pool of this size for events of this type.
+fn listeners(
+    rt: &impl Abort,
+    alloc: Global,
+    name: &'static str,
+    members: &[&'static str],
+    kind: Kind,
+    buffer: u32,
+) -> GroupSpec {
+    let mut group = group_of(rt, alloc, name, members);
+    group.pool = Some(pool(rt, alloc, kind, buffer));
+    group
+}
+
+fn configured(rt: &impl Abort, alloc: Global) -> Config {
     let mut groups = Vec::new(alloc);
     groups
-        .push(group(rt, alloc, "a", &["a"], None))
+        .push(group_of(rt, alloc, "a", &["a"]))
         .expect(rt, "memory");
-    let all = Some((Kind::Event, 2));
     groups
-        .push(group(rt, alloc, "e", &["x", "y"], all))
+        .push(listeners(rt, alloc, "e", &["x", "y"], Kind::Event, 2))
         .expect(rt, "memory");
-    let ticks = Some((Kind::Tick, 1));
     groups
-        .push(group(rt, alloc, "t", &["t"], ticks))
+        .push(listeners(rt, alloc, "t", &["t"], Kind::Tick, 1))
         .expect(rt, "memory");
-    Config {
-        identifier: Text::fixed("sv"),
-        main: no_log(),
-        level: Level::Info,
-        groups: Groups::new(groups).expect(rt, "a roster"),
-        servers: Items::new(alloc),
-        client: ClientSpec {
-            url: Text::fixed(""),
-            username: Text::fixed(""),
-            password: Text::fixed(""),
-        },
-        rpc: false,
-    }
+    config(rt, alloc, no_log(), groups)
+}
+
+fn roster(rt: &impl Abort, alloc: Global) -> Roster {
+    let config = configured(rt, alloc);
+    Roster::new(alloc, &config).expect(rt, "memory")
+}
+
+fn pools(rt: &impl Abort, alloc: Global) -> Pools {
+    let roster = roster(rt, alloc);
+    Pools::new(alloc, &roster).expect(rt, "memory")
 }

@@ -1,0 +1,96 @@
+//! One child, and what the words of a script have befall it.
+use crate::sample::{config, group_of_one, moment, no_log, process, seconds};
+use std::alloc::Global;
+use std::process::Abort;
+use sv_base::ids::Run;
+use sv_base::moment::Moment;
+use sv_base::number::{ExitSignal, Pid, Retries};
+use sv_base::spec::Spec;
+use sv_base::state::{How, Mood};
+use sv_base::text::Text;
+use sv_child::step::Step;
+use sv_children::{Children, News, Told};
+
+/// A moment of a script, a run of the child, and what befalls it then: a word, and the number after it.
+#[derive(Clone, Copy)]
+pub struct Happening<'a> {
+    pub now: Moment,
+    pub run: Run,
+    pub word: &'a str,
+    pub number: u32,
+}
+
+/// What these words have befall the child at this second.
+pub fn what_happens<'a>(rt: &impl Abort, second: u64, run: Run, words: &'a str) -> Happening<'a> {
+    let (word, number) = words.split_once(' ').unwrap_or((words, "0"));
+    Happening {
+        now: moment(rt, second.saturating_mul(1_000)),
+        run,
+        word,
+        number: number.parse::<u32>().unwrap_or(0),
+    }
+}
+
+/// Whether its spawn is answered.
+pub fn is_answer(happening: &Happening<'_>) -> bool {
+    matches!(happening.word, "pid" | "refused")
+}
+
+/// Answers the spawn of the child's run: it has a process with this pid, or none.
+pub fn answered(
+    rt: &impl Abort,
+    children: &mut Children,
+    happening: &Happening<'_>,
+) -> Option<Step> {
+    let told = match happening.word {
+        "pid" => Told::Started(Pid::new(happening.number).expect(rt, "a pid")),
+        _ => Told::NotStarted(Text::fixed("no room")),
+    };
+    children.answer(0, happening.run, told, happening.now)
+}
+
+/// Brings the child its news.
+pub fn brought(children: &mut Children, news: &News, now: Moment) -> Option<Step> {
+    children.bring(0, news, Mood::Running, now)
+}
+
+/// The news that come to the child.
+pub fn news(rt: &impl Abort, happening: &Happening<'_>) -> News {
+    match happening.word {
+        "start" => News::Start,
+        "stop" => News::Stop,
+        "code" => News::Exit(happening.run, code(happening.number)),
+        "signal" => News::Exit(happening.run, killed(rt, happening.number)),
+        "tick" => News::Time,
+        word => panic!(rt; "no news are {word}"),
+    }
+}
+
+fn code(number: u32) -> How {
+    How::Code(u8::try_from(number).unwrap_or(0))
+}
+
+fn killed(rt: &impl Abort, number: u32) -> How {
+    How::Signal(ExitSignal::new(number).expect(rt, "a signal"))
+}
+
+/// The process p, which says that it is of another group than its own.
+fn process_p(rt: &impl Abort, alloc: Global) -> Spec {
+    let mut spec = process(alloc, "other", "p");
+    spec.exitcodes.push(0).expect(rt, "memory");
+    spec.exitcodes.push(3).expect(rt, "memory");
+    spec.startsecs = seconds(rt, 2);
+    spec.startretries = Retries::new(1).expect(rt, "retries");
+    spec.stopwaitsecs = seconds(rt, 3);
+    spec
+}
+
+/// The process p alone in the group g.
+pub fn one_child(rt: &impl Abort, alloc: Global) -> Children {
+    let mut groups = Vec::new(alloc);
+    groups
+        .push(group_of_one(rt, alloc, "g", process_p(rt, alloc)))
+        .expect(rt, "memory");
+    let config = config(rt, alloc, no_log(), groups);
+    Children::new(alloc, &config).expect(rt, "memory")
+}
