@@ -1,10 +1,10 @@
 //! Examples of whole configurations, and what they tell.
 
-use crate::tests::{fault_said, host, order_said, put, words_said};
+use crate::tests::{fault_said, host, included, order_said, put_ended, words_said};
 use std::alloc::Global;
 use std::process::Abort;
-use sv_base::bytes::Bytes;
 use sv_base::config::{Config, Host};
+use sv_base::spec::Spec;
 use sv_base::text::Text;
 use sv_conf::config::config;
 use sv_sections::fault::ConfFault;
@@ -174,14 +174,17 @@ const EXAMPLES: [Example; 4] = [
 ];
 
 fn patterns_said(rt: &impl Abort, alloc: Global, host: &Host, text: &str) -> String {
+    match includes(alloc, text.as_bytes(), host) {
+        Ok(patterns) => all_said(rt, alloc, patterns.as_slice()),
+        Err(_) => String::new(alloc),
+    }
+}
+
+/// The patterns, each ended by a bar.
+fn all_said(rt: &impl Abort, alloc: Global, patterns: &[Text]) -> String {
     let mut said = String::new(alloc);
-    let patterns = match includes(alloc, text.as_bytes(), host) {
-        Ok(patterns) => patterns,
-        Err(_) => Vec::new(alloc),
-    };
-    for pattern in patterns.as_slice() {
-        put(rt, &mut said, pattern.as_str());
-        put(rt, &mut said, "|");
+    for pattern in patterns {
+        put_ended(rt, &mut said, pattern.as_str(), "|");
     }
     said
 }
@@ -194,11 +197,7 @@ fn configured(
     text: &str,
     extra: &str,
 ) -> Result<Config, ConfFault> {
-    let bytes = Bytes::from_slice(alloc, extra.as_bytes()).expect(rt, "ample memory");
-    let mut included = Vec::new(alloc);
-    included
-        .push((Text::fixed("extra"), bytes))
-        .expect(rt, "ample memory");
+    let included = included(rt, alloc, extra);
     config(alloc, text.as_bytes(), included.as_slice(), host)
 }
 
@@ -222,12 +221,15 @@ fn all_words_said(rt: &impl Abort, alloc: Global, config: &Config) -> String {
     let mut said = String::new(alloc);
     for group in config.groups.as_slice() {
         for member in group.members.as_slice() {
-            let words = words_said(rt, alloc, member);
-            put(rt, &mut said, words.as_str());
-            put(rt, &mut said, "~");
+            put_words(rt, alloc, &mut said, member);
         }
     }
     said
+}
+
+fn put_words(rt: &impl Abort, alloc: Global, said: &mut String, member: &Spec) {
+    let words = words_said(rt, alloc, member);
+    put_ended(rt, said, words.as_str(), "~");
 }
 
 fn example_row(rt: &impl Abort, alloc: Global, host: &Host, example: &Example) {

@@ -1,6 +1,6 @@
 //! Configurations of 1,048,576 bytes, and of one more, with ample memory.
 
-use crate::tests::{fault_said, host, order_said};
+use crate::tests::{fault_said, host, included, order_said};
 use std::alloc::Global;
 use std::process::Abort;
 use sv_base::bytes::Bytes;
@@ -33,10 +33,14 @@ fn filled(rt: &impl Abort, alloc: Global, parts: (&str, &str)) -> String {
     let mut text = String::from_str(alloc, parts.0).expect(rt, "memory");
     let (before, after) = parts.1.split_once('#').unwrap_or(("", ""));
     for number in 10_000..26_383u32 {
-        write!(text, "{before}{number}{after}").expect(rt, "memory");
+        put_block(rt, &mut text, before, number, after);
     }
     assert_eq!(rt; text.as_str().len(), MOST);
     text
+}
+
+fn put_block(rt: &impl Abort, text: &mut String, before: &str, number: u32, after: &str) {
+    write!(text, "{before}{number}{after}").expect(rt, "memory");
 }
 
 /// A text that begins so, and then has so many words of 16 bytes with their spaces.
@@ -49,34 +53,41 @@ fn with_words(rt: &impl Abort, alloc: Global, begin: &str, count: usize) -> Stri
     text
 }
 
+fn configured(
+    rt: &impl Abort,
+    alloc: Global,
+    main: &str,
+    more: &[(Text, Bytes)],
+) -> Result<Config, ConfFault> {
+    let host = host(rt, alloc);
+    config(alloc, main.as_bytes(), more, &host)
+}
+
 /// The order of the processes, or the fault.
 fn said(rt: &impl Abort, alloc: Global, main: &str, more: &[(Text, Bytes)]) -> String {
-    match config(alloc, main.as_bytes(), more, &host(rt, alloc)) {
+    match configured(rt, alloc, main, more) {
         Ok(config) => order_said(rt, alloc, &config),
         Err(fault) => fault_said(rt, alloc, &fault),
     }
 }
 
-fn is_said(rt: &impl Abort, alloc: Global, main: &str, wanted: &str) {
-    let said = said(rt, alloc, main, &[]);
+fn is_said(rt: &impl Abort, alloc: Global, main: &str, more: &[(Text, Bytes)], wanted: &str) {
+    let said = said(rt, alloc, main, more);
     assert_eq!(rt; said.as_str(), wanted);
 }
 
 /// The same of a text that another includes.
 fn is_said_included(rt: &impl Abort, alloc: Global, text: &str, wanted: &str) {
-    let mut more = Vec::new(alloc);
-    let bytes = Bytes::from_slice(alloc, text.as_bytes()).expect(rt, "memory");
-    more.push((Text::fixed("i"), bytes)).expect(rt, "memory");
-    let said = said(rt, alloc, "[other]\nkey=value\n", more.as_slice());
-    assert_eq!(rt; said.as_str(), wanted);
+    let more = included(rt, alloc, text);
+    is_said(rt, alloc, "[other]\nkey=value\n", more.as_slice(), wanted);
 }
 
 #[test]
 fn a_text_of_the_most_bytes_and_of_one_more(rt: HostRuntime) {
     let mut text = filled(&rt, rt.alloc(), SECTIONS);
-    is_said(&rt, rt.alloc(), text.as_str(), "p:p");
+    is_said(&rt, rt.alloc(), text.as_str(), &[], "p:p");
     text.push('\n').expect(&rt, "memory");
-    is_said(&rt, rt.alloc(), text.as_str(), TOO_LONG);
+    is_said(&rt, rt.alloc(), text.as_str(), &[], TOO_LONG);
 }
 
 /// One value: sections and keys of included texts are looked up one by one, so many of them would take long.
@@ -91,28 +102,47 @@ fn an_included_text_of_the_most_bytes_and_of_one_more(rt: HostRuntime) {
 #[test]
 fn a_command_of_the_most_bytes(rt: HostRuntime) {
     let text = with_words(&rt, rt.alloc(), "[program:p]\ncommand=/bin/progra ", 65_534);
-    let host = host(&rt, rt.alloc());
-    let found = config(rt.alloc(), text.as_str().as_bytes(), &[], &host);
-    has_words(&rt, &found.expect(&rt, "a configuration"), 65_535);
+    has_words(&rt, rt.alloc(), text.as_str(), 65_535);
 }
 
-/// The first process has a command of so many words.
-fn has_words(rt: &impl Abort, config: &Config, count: usize) {
+/// The first process of the text's configuration has a command of so many words.
+fn has_words(rt: &impl Abort, alloc: Global, text: &str, count: usize) {
+    match configured(rt, alloc, text, &[]) {
+        Ok(config) => assert_eq!(rt; count_of_words(rt, &config), count),
+        Err(_) => panic!(rt; "no configuration"),
+    }
+}
+
+fn count_of_words(rt: &impl Abort, config: &Config) -> usize {
     let group = config.groups.as_slice().first().expect(rt, "a group");
     let member = group.members.as_slice().first().expect(rt, "a process");
-    assert_eq!(rt; member.words.as_slice().len(), count);
+    member.words.as_slice().len()
 }
 
 #[test]
 fn patterns_of_the_most_bytes_and_of_one_more(rt: HostRuntime) {
     let mut text = with_words(&rt, rt.alloc(), "[include]\nfiles=", 65_535);
-    let host = host(&rt, rt.alloc());
-    let patterns = includes(rt.alloc(), text.as_str().as_bytes(), &host);
-    assert!(rt; patterns.is_ok_and(|patterns| patterns.len() == 65_535));
+    has_patterns(&rt, rt.alloc(), text.as_str(), 65_535);
     text.push('a').expect(&rt, "memory");
-    match includes(rt.alloc(), text.as_str().as_bytes(), &host) {
-        Err(fault) => is_refused(&rt, rt.alloc(), &fault, TOO_LONG),
+    has_no_patterns(&rt, rt.alloc(), text.as_str(), TOO_LONG);
+}
+
+fn patterns(rt: &impl Abort, alloc: Global, text: &str) -> Result<Vec<Text>, ConfFault> {
+    let host = host(rt, alloc);
+    includes(alloc, text.as_bytes(), &host)
+}
+
+fn has_patterns(rt: &impl Abort, alloc: Global, text: &str, count: usize) {
+    match patterns(rt, alloc, text) {
+        Ok(patterns) => assert_eq!(rt; patterns.len(), count),
+        Err(_) => panic!(rt; "no patterns"),
+    }
+}
+
+fn has_no_patterns(rt: &impl Abort, alloc: Global, text: &str, wanted: &str) {
+    match patterns(rt, alloc, text) {
         Ok(_) => panic!(rt; "one byte too many"),
+        Err(fault) => is_refused(rt, alloc, &fault, wanted),
     }
 }
 

@@ -302,20 +302,39 @@ fn copy_of(rt: &impl Abort, alloc: Global, text: &str) -> String {
     String::from_str(alloc, text).expect(rt, "ample memory")
 }
 
+/// Adds a text and what ends it.
+pub fn put_ended(rt: &impl Abort, said: &mut String, text: &str, end: &str) {
+    put(rt, said, text);
+    put(rt, said, end);
+}
+
 pub fn host(rt: &impl Abort, alloc: Global) -> Host {
-    let mut environment = Items::new(alloc);
-    for (name, value) in [("H", "/r"), ("N", "7"), ("H", "late")] {
-        environment
-            .push((Text::fixed(name), Text::fixed(value)))
-            .expect(rt, "ample memory");
-    }
     Host {
         name: Text::fixed("box"),
         here: Text::fixed("/etc"),
         pid: 7,
-        environment,
+        environment: environment(rt, alloc),
         start: Moment::zero(),
     }
+}
+
+fn environment(rt: &impl Abort, alloc: Global) -> Items<(Text, Text)> {
+    let mut environment = Items::new(alloc);
+    set(rt, &mut environment, "H", "/r");
+    set(rt, &mut environment, "N", "7");
+    set(rt, &mut environment, "H", "late");
+    environment
+}
+
+fn set(
+    rt: &impl Abort,
+    environment: &mut Items<(Text, Text)>,
+    name: &'static str,
+    value: &'static str,
+) {
+    environment
+        .push((Text::fixed(name), Text::fixed(value)))
+        .expect(rt, "ample memory");
 }
 
 fn text_of(rt: &impl Abort, alloc: Global, cell: &str) -> String {
@@ -348,8 +367,7 @@ fn log_said(rt: &impl Abort, alloc: Global, log: &LogSpec) -> String {
 pub fn words_said(rt: &impl Abort, alloc: Global, spec: &Spec) -> String {
     let mut said = String::new(alloc);
     for word in spec.words.as_slice() {
-        put(rt, &mut said, word.as_str());
-        put(rt, &mut said, "|");
+        put_ended(rt, &mut said, word.as_str(), "|");
     }
     said
 }
@@ -374,7 +392,7 @@ fn spec_said(rt: &impl Abort, alloc: Global, spec: &Spec, question: &str) -> Str
     }
 }
 
-/// A number, a choice or a truth.
+/// A number, a choice, a truth or a text.
 fn value_said(alloc: Global, spec: &Spec, question: &str) -> Result<String, AllocError> {
     match question {
         "priority" => format!(in alloc; "{}", spec.priority),
@@ -386,40 +404,41 @@ fn value_said(alloc: Global, spec: &Spec, question: &str) -> Result<String, Allo
         "stopasgroup" => format!(in alloc; "{}", spec.stopasgroup),
         "killasgroup" => format!(in alloc; "{}", spec.killasgroup),
         "redirect_stderr" => format!(in alloc; "{}", spec.redirect_stderr),
-        question => String::from_str(alloc, text_said(spec, question)),
-    }
-}
-
-fn text_said<'a>(spec: &'a Spec, question: &str) -> &'a str {
-    match question {
-        "name" => spec.name.as_str(),
-        "stopsignal" => spec.stopsignal.name(),
-        "directory" => spec.directory.as_str(),
-        "umask" => spec.umask.as_str(),
-        "user" => spec.user.as_str(),
-        _ => "no such question",
+        "name" => String::from_str(alloc, spec.name.as_str()),
+        "stopsignal" => String::from_str(alloc, spec.stopsignal.name()),
+        "directory" => String::from_str(alloc, spec.directory.as_str()),
+        "umask" => String::from_str(alloc, spec.umask.as_str()),
+        "user" => String::from_str(alloc, spec.user.as_str()),
+        _ => String::from_str(alloc, "no such question"),
     }
 }
 
 fn environment_said(rt: &impl Abort, alloc: Global, spec: &Spec) -> String {
     let mut said = String::new(alloc);
     for variable in spec.environment.as_slice() {
-        put(rt, &mut said, variable.0.as_str());
-        put(rt, &mut said, "=");
-        put(rt, &mut said, variable.1.as_str());
-        put(rt, &mut said, "|");
+        put_variable(rt, &mut said, variable);
     }
     said
+}
+
+fn put_variable(rt: &impl Abort, said: &mut String, variable: &(Text, Text)) {
+    put_ended(rt, said, variable.0.as_str(), "=");
+    put_ended(rt, said, variable.1.as_str(), "|");
 }
 
 fn url_said(rt: &impl Abort, alloc: Global, spec: &Spec) -> String {
     let mut said = String::new(alloc);
     for variable in spec.environment.as_slice() {
-        if variable.0.as_str() == "SUPERVISOR_SERVER_URL" {
-            put(rt, &mut said, variable.1.as_str());
-        }
+        put_url(rt, &mut said, variable);
     }
     said
+}
+
+/// Adds the value of the variable if it has the URL of the server.
+fn put_url(rt: &impl Abort, said: &mut String, variable: &(Text, Text)) {
+    if variable.0.as_str() == "SUPERVISOR_SERVER_URL" {
+        put(rt, said, variable.1.as_str());
+    }
 }
 
 pub fn order_said(rt: &impl Abort, alloc: Global, config: &Config) -> String {
@@ -437,8 +456,7 @@ fn put_process(rt: &impl Abort, said: &mut String, group: &GroupSpec, member: &S
     if !said.as_str().is_empty() {
         put(rt, said, " ");
     }
-    put(rt, said, group.name.as_str());
-    put(rt, said, ":");
+    put_ended(rt, said, group.name.as_str(), ":");
     put(rt, said, member.name.as_str());
 }
 
@@ -454,8 +472,7 @@ fn group_said(rt: &impl Abort, alloc: Global, group: &GroupSpec) -> String {
 
 fn put_pool(rt: &impl Abort, said: &mut String, pool: &PoolSpec) {
     for kind in pool.kinds.as_slice() {
-        put(rt, said, kind.name());
-        put(rt, said, ",");
+        put_ended(rt, said, kind.name(), ",");
     }
     write!(said, "{}", pool.buffer.get()).expect(rt, "ample memory");
 }
@@ -473,30 +490,34 @@ fn put_server(rt: &impl Abort, said: &mut String, server: &ServerSpec) {
     let username = server.username.as_str();
     let shown = if username.is_empty() { "-" } else { username };
     put(rt, said, " ");
-    put(rt, said, shown);
-    put(rt, said, " ");
+    put_ended(rt, said, shown, " ");
     put_password(rt, said, &server.password);
     put(rt, said, "|");
 }
 
 fn put_place(rt: &impl Abort, said: &mut String, place: &Place) {
-    let done = match place {
-        Place::Inet(host, port) => write!(said, "{}:{}", host.as_str(), *port),
-        Place::Unix(file) => said.push_str(file.as_str()),
-    };
-    done.expect(rt, "ample memory");
+    match place {
+        Place::Inet(host, port) => put_port(rt, said, host.as_str(), *port),
+        Place::Unix(file) => put(rt, said, file.as_str()),
+    }
+}
+
+fn put_port(rt: &impl Abort, said: &mut String, host: &str, port: u16) {
+    put_ended(rt, said, host, ":");
+    write!(said, "{port}").expect(rt, "ample memory");
 }
 
 fn put_password(rt: &impl Abort, said: &mut String, password: &Password) {
-    let done = match password {
-        Password::None => said.push_str("none"),
-        Password::Plain(password) => said.push_str(password.as_str()),
-        Password::Sha(digest) => {
-            let (first, last) = (digest[0], digest[19]);
-            write!(said, "sha {first} {last}")
-        }
-    };
-    done.expect(rt, "ample memory");
+    match password {
+        Password::None => put(rt, said, "none"),
+        Password::Plain(password) => put(rt, said, password.as_str()),
+        Password::Sha(digest) => put_digest(rt, said, digest[0], digest[19]),
+    }
+}
+
+/// Adds the first and the last byte of a digest.
+fn put_digest(rt: &impl Abort, said: &mut String, first: u8, last: u8) {
+    write!(said, "sha {first} {last}").expect(rt, "ample memory");
 }
 
 fn client_said(rt: &impl Abort, alloc: Global, client: &ClientSpec) -> String {
@@ -531,21 +552,56 @@ fn first_said(rt: &impl Abort, alloc: Global, config: &Config, question: &str) -
 }
 
 /// Reads a row's texts, of which those after `$` are included.
-fn read(rt: &impl Abort, alloc: Global, host: &Host, cell: &str) -> Result<Config, ConfFault> {
-    let mut parts = cell.split('$');
-    let main = text_of(rt, alloc, parts.next().unwrap_or(""));
-    let mut included = Vec::new(alloc);
-    for part in parts {
-        included
-            .push((Text::fixed("i"), bytes_of(rt, alloc, part)))
-            .expect(rt, "ample memory");
-    }
-    config(alloc, main.as_str().as_bytes(), included.as_slice(), host)
+fn read(rt: &impl Abort, alloc: Global, host: &Host, cells: &str) -> Result<Config, ConfFault> {
+    let included = included_in(rt, alloc, cells);
+    read_main(rt, alloc, host, main_of(cells), included.as_slice())
 }
 
-fn bytes_of(rt: &impl Abort, alloc: Global, cell: &str) -> Bytes {
+fn read_main(
+    rt: &impl Abort,
+    alloc: Global,
+    host: &Host,
+    cell: &str,
+    included: &[(Text, Bytes)],
+) -> Result<Config, ConfFault> {
     let text = text_of(rt, alloc, cell);
-    Bytes::from_slice(alloc, text.as_str().as_bytes()).expect(rt, "ample memory")
+    config(alloc, text.as_str().as_bytes(), included, host)
+}
+
+fn main_of(cells: &str) -> &str {
+    match cells.split_once('$') {
+        Some((main, _)) => main,
+        None => cells,
+    }
+}
+
+fn included_in(rt: &impl Abort, alloc: Global, cells: &str) -> Vec<(Text, Bytes)> {
+    let mut included = Vec::new(alloc);
+    if let Some((_, cells)) = cells.split_once('$') {
+        for cell in cells.split('$') {
+            put_cell(rt, alloc, &mut included, cell);
+        }
+    }
+    included
+}
+
+fn put_cell(rt: &impl Abort, alloc: Global, included: &mut Vec<(Text, Bytes)>, cell: &str) {
+    let text = text_of(rt, alloc, cell);
+    put_included(rt, alloc, included, text.as_str());
+}
+
+fn put_included(rt: &impl Abort, alloc: Global, included: &mut Vec<(Text, Bytes)>, text: &str) {
+    let bytes = Bytes::from_slice(alloc, text.as_bytes()).expect(rt, "ample memory");
+    included
+        .push((Text::fixed("i"), bytes))
+        .expect(rt, "ample memory");
+}
+
+/// One included text.
+pub fn included(rt: &impl Abort, alloc: Global, text: &str) -> Vec<(Text, Bytes)> {
+    let mut included = Vec::new(alloc);
+    put_included(rt, alloc, &mut included, text);
+    included
 }
 
 pub fn fault_said(rt: &impl Abort, alloc: Global, fault: &ConfFault) -> String {
@@ -556,11 +612,27 @@ pub fn fault_said(rt: &impl Abort, alloc: Global, fault: &ConfFault) -> String {
 fn value_row(rt: &impl Abort, alloc: Global, host: &Host, row: &str) {
     let (text, answer) = row.split_once(" => ").expect(rt, "two cells");
     let (question, expected) = answer.split_once(": ").expect(rt, "a question");
-    let said = match read(rt, alloc, host, text) {
+    value_is(rt, alloc, host, text, question, expected);
+}
+
+fn value_is(
+    rt: &impl Abort,
+    alloc: Global,
+    host: &Host,
+    text: &str,
+    question: &str,
+    expected: &str,
+) {
+    let said = value_of(rt, alloc, host, text, question);
+    assert_eq!(rt; said.as_str(), expected, "{question} of {text}");
+}
+
+/// The answer of the configuration of a row's texts, or the fault.
+fn value_of(rt: &impl Abort, alloc: Global, host: &Host, text: &str, question: &str) -> String {
+    match read(rt, alloc, host, text) {
         Ok(config) => config_said(rt, alloc, &config, question),
         Err(fault) => fault_said(rt, alloc, &fault),
-    };
-    assert_eq!(rt; said.as_str(), expected, "the value of {row}");
+    }
 }
 
 fn fault_row(rt: &impl Abort, alloc: Global, host: &Host, row: &str) {
@@ -587,9 +659,13 @@ fn is_said(rt: &impl Abort, alloc: Global, fault: &ConfFault, expected: &str, ro
 fn programs(rt: &impl Abort, alloc: Global, count: u32) -> String {
     let mut text = String::new(alloc);
     for number in 0..count {
-        write!(text, "[program:p{number}]\ncommand=c\n").expect(rt, "ample memory");
+        put_program(rt, &mut text, number);
     }
     text
+}
+
+fn put_program(rt: &impl Abort, text: &mut String, number: u32) {
+    write!(text, "[program:p{number}]\ncommand=c\n").expect(rt, "ample memory");
 }
 
 fn groups_row(rt: &impl Abort, alloc: Global, host: &Host, count: u32, expected: &str) {
