@@ -12,7 +12,7 @@ use sv_base::signal::Signal;
 use sv_base::spec::{GroupSpec, LogSpec, Spec};
 use sv_base::state::{Autorestart, How, Level, Mood, State};
 use sv_base::text::Text;
-use sv_child::step::ChildDeed;
+use sv_child::step::{ChildDeed, Step};
 use sv_children::{Children, News, Told};
 use sv_groups::Span;
 use sv_out::order::Order;
@@ -112,43 +112,68 @@ fn names_are_the_rosters(rt: HostRuntime) {
     }
 }
 
+/// The news have the child b take a step with this deed.
+fn steps(rt: &impl Abort, children: &mut Children, news: &News, deed: ChildDeed) -> Step {
+    let step = children
+        .bring(2, news, Mood::Running, Moment::zero())
+        .expect(rt, "a step");
+    assert!(rt; step.deed == Some(deed));
+    step
+}
+
+/// The order that spawns the child b names the group g.
+fn has_its_spawn(rt: &impl Abort, children: &Children) {
+    let spawn = children
+        .spawn_order(2, Run(7))
+        .expect(rt, "memory")
+        .expect(rt, "a process");
+    assert!(rt; spawn.group.as_str() == "g");
+    assert!(rt; spawn.name.as_str() == "b");
+    assert!(rt; spawn.directory.as_str() == "/var");
+}
+
+/// The child of this place has a process of run 7.
+fn has_its_pid(rt: &impl Abort, children: &mut Children, place: usize) {
+    let pid = Pid::new(12).expect(rt, "a pid");
+    let _told = children.answer(place, Run(7), Told::Started(pid), Moment::zero());
+}
+
+/// The end of another run doesn't concern the child b.
+fn leaves_another_run(rt: &impl Abort, children: &mut Children) {
+    let other = News::Exit(Run(8), How::Code(0));
+    let step = children.bring(2, &other, Mood::Running, Moment::zero());
+    assert!(rt; step.is_none());
+}
+
 /// The child b is started as run 7, and stopped: its reports, its spawn and its signal name the group g.
 #[test]
 fn one_child_is_started_and_stopped(rt: HostRuntime) {
     let alloc = rt.alloc();
     let mut children = one_and_three(&rt, alloc);
-    let now = Moment::zero();
+    let given = given_by_the_child(&rt, alloc, &mut children);
+    assert!(rt; is_reported(given.as_slice()));
+}
+
+/// What that child gives.
+fn given_by_the_child(rt: &impl Abort, alloc: Global, children: &mut Children) -> Vec<Order> {
     let mut given = Vec::new(alloc);
-    let start = children
-        .bring(2, &News::Start, Mood::Running, now)
-        .expect(&rt, "a step");
-    assert!(rt; start.deed == Some(ChildDeed::Spawn));
+    let start = steps(rt, children, &News::Start, ChildDeed::Spawn);
     children
         .report(2, &start.edges, &mut given)
-        .expect(&rt, "memory");
-    let spawn = children
-        .spawn_order(2, Run(7))
-        .expect(&rt, "memory")
-        .expect(&rt, "a process");
-    assert!(rt; spawn.group.as_str() == "g");
-    assert!(rt; spawn.name.as_str() == "b");
-    assert!(rt; spawn.directory.as_str() == "/var");
-    let pid = Pid::new(12).expect(&rt, "a pid");
-    let _told = children.answer(2, Run(7), Told::Started(pid), now);
-    let other = News::Exit(Run(8), How::Code(0));
-    assert!(rt; children.bring(2, &other, Mood::Running, now).is_none());
-    let stop = children
-        .bring(2, &News::Stop, Mood::Running, now)
-        .expect(&rt, "a step");
-    assert!(rt; stop.deed == Some(ChildDeed::Kill(Signal::Term, false)));
+        .expect(rt, "memory");
+    has_its_spawn(rt, children);
+    has_its_pid(rt, children, 2);
+    leaves_another_run(rt, children);
+    let term = ChildDeed::Kill(Signal::Term, false);
+    let stop = steps(rt, children, &News::Stop, term);
     assert!(rt; !children.are_at_rest(Span { from: 0, to: 4 }));
     children
         .report(2, &stop.edges, &mut given)
-        .expect(&rt, "memory");
+        .expect(rt, "memory");
     children
         .kill(2, Signal::Term, false, &mut given)
-        .expect(&rt, "memory");
-    assert!(rt; is_reported(given.as_slice()));
+        .expect(rt, "memory");
+    given
 }
 
 /// The orders of that child.
@@ -187,16 +212,21 @@ fn the_awake_are_told_in_start_order(rt: HostRuntime) {
     let mut children = one_and_three(&rt, alloc);
     let now = Moment::zero();
     for place in 0..4usize {
-        assert!(rt; children.next_awake(place, now) == Some(place));
-        let step = children
-            .bring(place, &News::Time, Mood::Running, now)
-            .expect(&rt, "a step");
-        assert!(rt; step.deed == Some(ChildDeed::Spawn));
-        let pid = Pid::new(12).expect(&rt, "a pid");
-        let _told = children.answer(place, Run(7), Told::Started(pid), now);
+        is_awake(&rt, &mut children, place);
     }
     assert!(rt; children.next_awake(4, now).is_none());
     assert!(rt; children.looks() == 4);
     assert!(rt; children.next_awake(3, now) == Some(3));
     assert!(rt; children.looks() == 8);
+}
+
+/// The child of this place is the next that is awake, and starts.
+fn is_awake(rt: &impl Abort, children: &mut Children, place: usize) {
+    let now = Moment::zero();
+    assert!(rt; children.next_awake(place, now) == Some(place));
+    let step = children
+        .bring(place, &News::Time, Mood::Running, now)
+        .expect(rt, "a step");
+    assert!(rt; step.deed == Some(ChildDeed::Spawn));
+    has_its_pid(rt, children, place);
 }

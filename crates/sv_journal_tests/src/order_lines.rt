@@ -1,6 +1,6 @@
 //! Order lines with the columns at which they break, and header lines.
 
-/// Order lines, each with the column at which it breaks; none is a good line.
+/// Order lines, each with the column at which it breaks; a good line has none.
 pub const ORDER_LINES: [(&str, Option<usize>); 67] = [
     ("", Some(0)),
     ("x", Some(0)),
@@ -71,24 +71,24 @@ pub const ORDER_LINES: [(&str, Option<usize>); 67] = [
     ("sized", Some(4)),
 ];
 
-/// Lines of headers, each of which is the line of one.
-pub const HEADER_LINES: [&str; 18] = [
-    "supervisor-journal 0",
-    "supervisor-journal 1",
-    "program x 1 3 unexpected 0 TERM 10",
-    "program web 0 1000000 true 0,1,255 USR2 0",
-    "program y 1 1 false 7 HUP 3",
-    "host h",
-    "host %",
-    "here /srv/a%20b",
-    "pid 0",
-    "pid 4294967295",
-    "env A 1",
-    "env %C3%A9 %",
-    "size /l%0A 18446744073709551615",
-    "conf [supervisord]%0Alogfile=NONE%0A",
-    "conf %",
-    "include /a %FF",
-    "go 0",
-    "go 253000000000000",
+/// Lines of headers, in the same way.
+pub const HEADER_LINES: [(&str, Option<usize>); 18] = [
+    ("supervisor-journal 0", None),
+    ("supervisor-journal 1", None),
+    ("program x 1 3 unexpected 0 TERM 10", None),
+    ("program web 0 1000000 true 0,1,255 USR2 0", None),
+    ("program y 1 1 false 7 HUP 3", None),
+    ("host h", None),
+    ("host %", None),
+    ("here /srv/a%20b", None),
+    ("pid 0", None),
+    ("pid 4294967295", None),
+    ("env A 1", None),
+    ("env %C3%A9 %", None),
+    ("size /l%0A 18446744073709551615", None),
+    ("conf [supervisord]%0Alogfile=NONE%0A", None),
+    ("conf %", None),
+    ("include /a %FF", None),
+    ("go 0", None),
+    ("go 253000000000000", None),
 ];
