@@ -1,6 +1,7 @@
 //! Jobs in threads of their own.
 
 use crossbeam_channel::{Receiver, Sender, bounded};
+use std::alloc::Global;
 use std::process::Abort;
 use std::sync::Wait;
 use std::thread;
@@ -36,29 +37,43 @@ impl Job for Waits {
     }
 }
 
+/// Both ends of what lets jobs go, and of what they tell.
+#[derive(Drop)]
+struct Ends {
+    go: Sender<()>,
+    wait: Receiver<()>,
+    done: Sender<u32>,
+    told: Receiver<u32>,
+}
+
+fn ends_of(rt: &impl Abort, alloc: Global) -> Ends {
+    let (go, wait) = bounded(alloc, 2).expect(rt, "ample memory");
+    let (done, told) = bounded(alloc, 2).expect(rt, "ample memory");
+    Ends {
+        go,
+        wait,
+        done,
+        told,
+    }
+}
+
 /// A job about this with this number, which waits and tells at these ends.
-fn waiting_job(
-    rt: &impl Abort,
-    word: JobWord,
-    number: u32,
-    go: &Receiver<()>,
-    done: &Sender<u32>,
-) -> Waits {
+fn waiting_job(rt: &impl Abort, word: JobWord, number: u32, ends: &Ends) -> Waits {
     Waits {
         word,
-        go: go.clone().expect(rt, "ample memory"),
-        done: done.clone().expect(rt, "ample memory"),
+        go: ends.wait.clone().expect(rt, "ample memory"),
+        done: ends.done.clone().expect(rt, "ample memory"),
         number,
     }
 }
 
 /// Lets two jobs go, and hears the numbers 3 and 4.
-fn let_go<R: Abort + Wait>(rt: &R, go: &Sender<()>, told: &Receiver<u32>) {
+fn let_go<R: Abort + Wait>(rt: &R, ends: &Ends) {
     for _ in 0..2 {
-        assert!(rt; go.send(rt, ()).is_ok());
+        assert!(rt; ends.go.send(rt, ()).is_ok());
     }
-    let first = told.recv(rt).expect(rt, "a job is done");
-    let second = told.recv(rt).expect(rt, "the other job is done");
+    let first = ends.told.recv(rt).expect(rt, "a job is done");
+    let second = ends.told.recv(rt).expect(rt, "the other job is done");
     assert!(rt; (first, second) == (3, 4) || (first, second) == (4, 3));
 }
 
@@ -73,14 +88,12 @@ fn jobs_run_in_threads(rt: HostRuntime) {
             thread::spawn(&rt, move || receive_and_work(&rt, &from)).is_ok()
         },
     );
-    let (go, wait) = bounded(rt.alloc(), 2).expect(&rt, "ample memory");
-    let (done, told) = bounded(rt.alloc(), 2).expect(&rt, "ample memory");
+    let ends = ends_of(&rt, rt.alloc());
     for (word, number) in [(JobWord::Link(LinkId(1)), 3), (JobWord::Console, 4)] {
-        let job = waiting_job(&rt, word, number, &wait, &done);
-        assert!(rt; gate.start(job).is_ok());
+        assert!(rt; gate.start(waiting_job(&rt, word, number, &ends)).is_ok());
     }
     assert!(rt; links.number() == 1 && !links.wait_for_none(&rt, 2));
-    let_go(&rt, &go, &told);
+    let_go(&rt, &ends);
     assert!(rt; links.wait_for_none(&rt, 10_000));
 }
 
@@ -96,14 +109,7 @@ fn a_job_without_a_thread_comes_back(rt: HostRuntime) {
             false
         },
     );
-    let (_, wait) = bounded(rt.alloc(), 1).expect(&rt, "ample memory");
-    let (done, _) = bounded(rt.alloc(), 1).expect(&rt, "ample memory");
-    let job = Waits {
-        word: JobWord::Link(LinkId(1)),
-        go: wait,
-        done,
-        number: 7,
-    };
+    let job = waiting_job(&rt, JobWord::Link(LinkId(1)), 7, &ends_of(&rt, rt.alloc()));
     assert!(rt; matches!(gate.start(job), Err(job) if job.number == 7));
     assert!(rt; links.number() == 0);
 }

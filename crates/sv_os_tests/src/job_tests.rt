@@ -9,7 +9,7 @@ use std::io::Stdin;
 use std::process::{Abort, ChildStderr, ChildStdin, ChildStdout, SystemProcess};
 use std::sync::Wait;
 use std::{env, fs, io, process, thread};
-use sv_base::{Bytes, How, Items, LinkId, Run, Side, Stream, Text};
+use sv_base::{Bytes, How, Items, LinkId, Place, Run, Side, Stream, Text};
 use sv_job_types::{
     AnyJob, ConsoleJob, ErrPump, LinkJob, LinksJob, NoBoard, OutPump, StdinJob, TickerJob, WatchJob,
 };
@@ -21,7 +21,7 @@ use sv_os::{
 };
 use sv_out::order::SpawnOrder;
 use sv_out::{Dial, Link};
-use sv_outside::{Gate, Spawner, Started};
+use sv_outside::{Gate, Listen, Spawner, Started};
 
 type RealJob = AnyJob<
     WriteSink<ChildStdin>,
@@ -131,6 +131,25 @@ fn own_jobs(
     (ticker, console)
 }
 
+/// What hears the jobs of a program, and posts the words of its standard input.
+#[derive(Drop)]
+struct Hearing {
+    notes: Taker<Note>,
+    words: Poster<StdinWord>,
+}
+
+/// The jobs of `cat`, of the clock and of the console, and what hears them.
+fn all_jobs(rt: &impl Abort, host: HostRuntime) -> ([RealJob; 6], Hearing) {
+    let alloc = host.alloc();
+    let (notes, mut seats) = lane(alloc, 256).expect(rt, "ample memory");
+    let (taker, words) = lane_of(rt, alloc, 65);
+    let cat = started_cat(rt, alloc, &mut OsSpawner::new(host));
+    let (stdin, out, err, watch) = program_jobs(rt, alloc, cat, taker, &mut seats);
+    let (ticker, console) = own_jobs(rt, alloc, OsClock::new(host), host.stdin(), &mut seats);
+    let jobs = [stdin, out, err, watch, ticker, console];
+    (jobs, Hearing { notes, words })
+}
+
 /// Writes `hello` to the standard input, and closes it.
 fn write_hello<R: Abort + Wait>(rt: &R, alloc: Global, poster: &mut Poster<StdinWord>) {
     let bytes = Bytes::from_slice(alloc, b"hello").expect(rt, "ample memory");
@@ -166,16 +185,12 @@ fn a_program_has_its_jobs(rt: HostRuntime) {
     let mut gate = OsGate::new(rt, alloc, links, move |from: Receiver<Errand<RealJob>>| {
         thread::spawn(&rt, move || receive_and_work(&rt, &from)).is_ok()
     });
-    let (mut notes, mut seats) = lane(alloc, 256).expect(&rt, "ample memory");
-    let (words, mut poster) = lane_of(&rt, alloc, 65);
-    let cat = started_cat(&rt, alloc, &mut OsSpawner::new(rt));
-    let (stdin, out, err, watch) = program_jobs(&rt, alloc, cat, words, &mut seats);
-    let (ticker, console) = own_jobs(&rt, alloc, OsClock::new(rt), rt.stdin(), &mut seats);
-    for job in [stdin, out, err, watch, ticker, console] {
+    let (jobs, mut hearing) = all_jobs(&rt, rt);
+    for job in jobs {
         assert!(rt; gate.start(job).is_ok());
     }
-    write_hello(&rt, alloc, &mut poster);
-    hear_hello(&rt, &mut notes);
+    write_hello(&rt, alloc, &mut hearing.words);
+    hear_hello(&rt, &mut hearing.notes);
 }
 
 /// The path of a socket of this process alone.
@@ -184,6 +199,73 @@ fn socket_path(rt: &HostRuntime) -> io::Result<String> {
     let above = above.display();
     let pid = process::id(rt.process());
     Ok(format!(in rt.alloc(); "{above}/sv_os_jobs_{pid}")?)
+}
+
+type RealLink = <OsListen<HostRuntime> as Listen>::Link;
+
+/// An address, and what hears the jobs of it and takes its links.
+#[derive(Drop)]
+struct Address {
+    path: String,
+    place: Place,
+    notes: Taker<Note>,
+    seats: Seats<Note>,
+    accepted: Taker<RealLink>,
+    accepting: Seats<RealLink>,
+}
+
+/// The address of this path.
+fn address_of(rt: &impl Abort, alloc: Global, path: String) -> Address {
+    let place = socket_at(rt, alloc, path.as_str());
+    let (notes, seats) = lane(alloc, 256).expect(rt, "ample memory");
+    let (accepted, accepting) = lane(alloc, 64).expect(rt, "ample memory");
+    Address {
+        path,
+        place,
+        notes,
+        seats,
+        accepted,
+        accepting,
+    }
+}
+
+/// The job that accepts one link at the address.
+fn links_job(rt: &impl Abort, host: HostRuntime, address: &mut Address) -> RealJob {
+    let place = address.place.clone().expect(rt, "ample memory");
+    let (listen, opened) = OsListen::open(host, place);
+    opened.expect(rt, "the system does it");
+    AnyJob::Links(LinksJob {
+        side: Side::Unix,
+        listen,
+        turns: 1,
+        poster: seat_of(rt, &mut address.seats),
+        links: address.accepting.seat().expect(rt, "ample memory"),
+    })
+}
+
+/// A client of the address, which is told as a new link.
+fn client_of<R: Abort + Wait>(rt: &R, host: HostRuntime, address: &mut Address) -> RealLink {
+    let client = OsDial::new(&host)
+        .connect(host.alloc(), &address.place)
+        .expect(rt, "a client");
+    assert!(rt; matches!(address.notes.take(rt), Note::Open(Side::Unix)));
+    client
+}
+
+/// The job that serves the accepted link, which takes these words.
+fn link_job<R: Abort + Wait>(
+    rt: &R,
+    alloc: Global,
+    address: &mut Address,
+    words: Taker<LinkWord>,
+) -> RealJob {
+    AnyJob::Link(LinkJob {
+        number: LinkId(1),
+        link: address.accepted.take(rt),
+        poster: seat_of(rt, &mut address.seats),
+        words,
+        alloc,
+    })
 }
 
 /// A client sends `ping`, and gets `pong` and the end.
@@ -218,34 +300,16 @@ fn an_address_has_its_jobs(rt: HostRuntime) {
         },
     );
     let path = socket_path(&rt).expect(&rt, "the system does it");
-    let place = socket_at(&rt, alloc, path.as_str());
-    let (listen, opened) = OsListen::open(rt, place.clone().expect(&rt, "ample memory"));
-    opened.expect(&rt, "the system does it");
-    let (mut notes, mut seats) = lane(alloc, 256).expect(&rt, "ample memory");
-    let (mut accepted, poster) = lane_of(&rt, alloc, 64);
-    let job = AnyJob::Links(LinksJob {
-        side: Side::Unix,
-        listen,
-        turns: 1,
-        poster: seat_of(&rt, &mut seats),
-        links: poster,
-    });
-    assert!(rt; gate.start(job).is_ok());
-    let mut client = OsDial::new(&rt)
-        .connect(alloc, &place)
-        .expect(&rt, "a client");
-    assert!(rt; matches!(notes.take(&rt), Note::Open(Side::Unix)));
+    let mut address = address_of(&rt, alloc, path);
+    assert!(rt; gate.start(links_job(&rt, rt, &mut address)).is_ok());
+    let mut client = client_of(&rt, rt, &mut address);
     let (words, mut poster) = lane_of(&rt, alloc, 18);
-    let job = AnyJob::Link(LinkJob {
-        number: LinkId(1),
-        link: accepted.take(&rt),
-        poster: seat_of(&rt, &mut seats),
-        words,
-        alloc,
-    });
-    assert!(rt; gate.start(job).is_ok());
+    assert!(rt;
+        gate.start(link_job(&rt, alloc, &mut address, words))
+            .is_ok()
+    );
     assert!(rt; links.number() == 1);
-    talk(&rt, alloc, &mut client, &mut notes, &mut poster);
+    talk(&rt, alloc, &mut client, &mut address.notes, &mut poster);
     assert!(rt; links.wait_for_none(&rt, 10_000));
-    fs::remove_file(&rt, path.as_str()).expect(&rt, "the system does it");
+    fs::remove_file(&rt, address.path.as_str()).expect(&rt, "the system does it");
 }

@@ -42,17 +42,32 @@ fn is_no_address<R: Abort + Net + Files + Clock + Copy>(
     remove_socket(&rt, &place).expect(&rt, "the system does it");
 }
 
-/// The file, the folder and the link are as they were made.
-fn are_left_alone<R: Abort + Files + AllocGlobal>(rt: &R, directory: &str) {
+/// The file is as it was made.
+fn is_kept<R: Abort + Files + AllocGlobal>(rt: &R, directory: &str) {
     let plain = path_in(rt, rt.alloc(), directory, "plain");
     let kept = fs::read(rt, plain.as_str()).expect(rt, "the system does it");
     assert!(rt; kept.as_slice() == b"kept".as_slice());
+}
+
+/// The folder is as it was made.
+fn is_folder<R: Abort + Files + AllocGlobal>(rt: &R, directory: &str) {
     let folder = path_in(rt, rt.alloc(), directory, "folder");
     let found = fs::metadata(rt, folder.as_str()).expect(rt, "the system does it");
     assert!(rt; found.is_dir());
+}
+
+/// The link is as it was made.
+fn is_link<R: Abort + Files + AllocGlobal>(rt: &R, directory: &str) {
     let link = path_in(rt, rt.alloc(), directory, "link");
     let found = fs::symlink_metadata(rt, link.as_str()).expect(rt, "the system does it");
     assert!(rt; found.file_type().is_symlink());
+}
+
+/// The file, the folder and the link are as they were made.
+fn are_left_alone<R: Abort + Files + AllocGlobal>(rt: &R, directory: &str) {
+    is_kept(rt, directory);
+    is_folder(rt, directory);
+    is_link(rt, directory);
 }
 
 #[test]

@@ -13,7 +13,7 @@ use sv_os::OsSpawner;
 use sv_out::order::SpawnOrder;
 use sv_out::sink::Sink;
 use sv_out::source::Source;
-use sv_outside::{KillFault, Refusal, SpawnFault, Spawner, Waiter};
+use sv_outside::{KillFault, Refusal, SpawnFault, Spawner, Started, Waiter};
 
 /// These words, one after the other.
 fn words_of(rt: &impl Abort, alloc: Global, words: &[&str]) -> Items<Text> {
@@ -78,25 +78,42 @@ fn telling(rt: &impl Abort, alloc: Global, directory: &str) -> SpawnOrder {
     order
 }
 
-#[test]
-fn a_program_gets_what_its_order_says(rt: HostRuntime) {
-    let alloc = rt.alloc();
-    let directory = new_directory(&rt, "program").expect(&rt, "a new directory");
-    let order = telling(&rt, alloc, directory.as_str());
-    let mut spawner = OsSpawner::new(rt);
-    let mut started = spawner
-        .spawn(alloc, &order)
-        .expect(&rt, "a program is started");
+/// Starts a program in this directory that writes what it got, and gives it a line.
+fn tells<S: Spawner>(rt: &impl Abort, alloc: Global, spawner: &mut S, directory: &str) {
+    let mut started = started_telling(rt, alloc, spawner, directory);
     let count = started
         .stdin
         .write(b"hello\n")
-        .expect(&rt, "its input is written");
+        .expect(rt, "its input is written");
     assert!(rt; count == 6);
     drop(started.stdin);
-    let wanted = format!(in alloc; "a b,path,hello\n{directory}\n").expect(&rt, "ample memory");
-    gives(&rt, alloc, &mut started.stdout, wanted.as_str());
-    gives(&rt, alloc, &mut started.stderr, "oh\n");
+    gives_hello(rt, alloc, &mut started.stdout, directory);
+    gives(rt, alloc, &mut started.stderr, "oh\n");
     assert!(rt; matches!(started.waiter.wait(), Ok(How::Code(3))));
+}
+
+fn started_telling<S: Spawner>(
+    rt: &impl Abort,
+    alloc: Global,
+    spawner: &mut S,
+    directory: &str,
+) -> Started<S::Stdin, S::Stdout, S::Stderr, S::Waiter> {
+    let order = telling(rt, alloc, directory);
+    spawner
+        .spawn(alloc, &order)
+        .expect(rt, "a program is started")
+}
+
+/// A source gives the variables, the line and the directory.
+fn gives_hello<S: Source>(rt: &impl Abort, alloc: Global, source: &mut S, directory: &str) {
+    let wanted = format!(in alloc; "a b,path,hello\n{directory}\n").expect(rt, "ample memory");
+    gives(rt, alloc, source, wanted.as_str());
+}
+
+#[test]
+fn a_program_gets_what_its_order_says(rt: HostRuntime) {
+    let directory = new_directory(&rt, "program").expect(&rt, "a new directory");
+    tells(&rt, rt.alloc(), &mut OsSpawner::new(rt), directory.as_str());
     fs::remove_dir_all(&rt, directory.as_str()).expect(&rt, "the system does it");
 }
 
@@ -110,23 +127,35 @@ fn names_three<S: Spawner>(rt: &impl Abort, alloc: Global, spawner: &mut S) {
     gives(rt, alloc, &mut started.stdout, "0\n1\n2\n");
 }
 
+/// Starts a program that waits for a line.
+fn waiting<S: Spawner>(
+    rt: &impl Abort,
+    alloc: Global,
+    spawner: &mut S,
+) -> Started<S::Stdin, S::Stdout, S::Stderr, S::Waiter> {
+    let order = shell(rt, alloc, "read -r line");
+    spawner
+        .spawn(alloc, &order)
+        .expect(rt, "a program that waits")
+}
+
+/// Starts a program that waits, one that names its descriptors, and closes the input of the first, which ends.
+fn names_three_beside<S: Spawner>(rt: &impl Abort, alloc: Global, spawner: &mut S) {
+    let other = waiting(rt, alloc, spawner);
+    names_three(rt, alloc, spawner);
+    drop(other.stdin);
+    let mut waiter = other.waiter;
+    assert!(rt; matches!(waiter.wait(), Ok(How::Code(1))));
+}
+
 #[test]
 fn a_program_holds_three_descriptors(rt: HostRuntime) {
-    let alloc = rt.alloc();
     let file = File::open(&rt, "/proc/self/stat").expect(&rt, "the system does it");
     let listener = TcpListener::bind(&rt, SocketAddr::from((Ipv4Addr::LOCALHOST, 0))).expect(
         &rt,
         "the system does it",
     );
-    let mut spawner = OsSpawner::new(rt);
-    let other = shell(&rt, alloc, "read -r line");
-    let other = spawner
-        .spawn(alloc, &other)
-        .expect(&rt, "a program that waits");
-    names_three(&rt, alloc, &mut spawner);
-    drop(other.stdin);
-    let mut waiter = other.waiter;
-    assert!(rt; matches!(waiter.wait(), Ok(How::Code(1))));
+    names_three_beside(&rt, rt.alloc(), &mut OsSpawner::new(rt));
     drop(file);
     drop(listener);
 }
