@@ -1,6 +1,6 @@
 //! Orders to a shelf in memory, worked by hand.
 
-use std::alloc::Global;
+use std::alloc::{AllocError, Global};
 use std::process::Abort;
 use sv_base::{Bytes, Text};
 use sv_file_orders::{
@@ -9,48 +9,119 @@ use sv_file_orders::{
 use sv_gate::Handed;
 use sv_out::MapShelf;
 
-/// A shelf that fails at these calls.
-fn shelf_of(rt: &impl Abort, alloc: Global, failing: &[u64]) -> MapShelf {
-    MapShelf::new(alloc, Vec::from_slice(alloc, failing).expect(rt, "memory"))
+/// An order to the shelf.
+#[derive(Clone, Copy)]
+enum Asking {
+    /// Appends `ab` to `/l`.
+    Append,
+    /// Renames `/l` to `/m`.
+    Rename,
+    /// Makes `/l` anew.
+    Anew,
+    /// Reads three bytes of `/l` from the third on.
+    Part,
+    /// Clears a file.
+    Clear(&'static str),
+    /// Asks which names a pattern matches.
+    Names(&'static str),
+    /// Asks for the size of a file.
+    Size(&'static str),
 }
 
-/// Puts a file on the shelf.
-fn put(rt: &impl Abort, alloc: Global, shelf: &mut MapShelf, name: &'static str, text: &str) {
-    let bytes = Bytes::from_slice(alloc, text.as_bytes()).expect(rt, "memory");
-    shelf.set(Text::fixed(name), bytes).expect(rt, "memory");
+/// A shelf with these files, which fails at this call.
+fn shelf_of(
+    rt: &impl Abort,
+    alloc: Global,
+    failing: u64,
+    files: &[(&'static str, &'static str)],
+) -> MapShelf {
+    let mut shelf = MapShelf::new(
+        alloc,
+        Vec::from_slice(alloc, &[failing]).expect(rt, "memory"),
+    );
+    for (name, text) in files {
+        let bytes = Bytes::from_slice(alloc, text.as_bytes()).expect(rt, "memory");
+        shelf.set(Text::fixed(name), bytes).expect(rt, "memory");
+    }
+    shelf
 }
 
-/// What a file holds, or `-` where there is none.
-fn held(rt: &impl Abort, alloc: Global, shelf: &MapShelf, name: &str) -> Bytes {
-    match shelf.file(alloc, name).expect(rt, "memory") {
-        Some(bytes) => bytes.clone().expect(rt, "memory"),
-        None => Bytes::from_slice(alloc, b"-").expect(rt, "memory"),
+/// Whether this is what a file holds, `-` being no file.
+fn holds(alloc: Global, shelf: &MapShelf, name: &str, text: &str) -> bool {
+    match shelf.file(alloc, name) {
+        Ok(Some(bytes)) => bytes.as_slice() == text.as_bytes(),
+        Ok(None) => text == "-",
+        Err(_) => false,
     }
 }
 
-/// Appends `ab`, then renames `/l` to `/m`, then makes `/l` anew, over a shelf that fails at these calls: a letter for
-/// each order, `d` where it was done and `f` where it failed.
-fn written(rt: &impl Abort, alloc: Global, shelf: &mut MapShelf) -> String {
-    let file = Text::fixed("/l");
-    let bytes = Bytes::from_slice(alloc, b"ab").expect(rt, "memory");
-    let appended = append(alloc, shelf, &file, &bytes).expect(rt, "memory");
-    let shifted = shift(alloc, shelf, &file, &Text::fixed("/m")).expect(rt, "memory");
-    let made = fresh(alloc, shelf, &file).expect(rt, "memory");
-    let mut text = String::new(alloc);
-    for handed in [appended, shifted, made] {
-        text.push(letter(handed)).expect(rt, "memory");
-    }
-    text
+/// Appends `ab` to `/l`.
+fn append_ab(alloc: Global, shelf: &mut MapShelf) -> Result<Handed, AllocError> {
+    let bytes = Bytes::from_slice(alloc, b"ab")?;
+    append(alloc, shelf, &Text::fixed("/l"), &bytes)
 }
 
-fn letter(handed: Handed) -> char {
+/// A letter for what came of an order that writes.
+fn letter(handed: Result<Handed, AllocError>) -> char {
     match handed {
-        Handed::Done => 'd',
-        Handed::Failed => 'f',
+        Ok(Handed::Done) => 'd',
+        Ok(Handed::Failed) => 'f',
+        Err(AllocError) => '?',
     }
 }
 
-/// The calls that fail, a letter for each order, and what `/l` and `/m` hold then.
+/// A letter for an answer: the first byte that was read, and `.` where none was; the number of names; `6` for that size.
+fn answer_letter(answer: &Result<FileAnswer, AllocError>) -> char {
+    match answer {
+        Ok(FileAnswer::Read(bytes)) => match bytes.as_slice().first() {
+            Some(first) => *first as char,
+            None => '.',
+        },
+        Ok(FileAnswer::Done) => 'd',
+        Ok(FileAnswer::Missing) => 'm',
+        Ok(FileAnswer::Names(names)) => match names.as_slice() {
+            [] => '0',
+            [_] => '1',
+            _ => '2',
+        },
+        Ok(FileAnswer::Size(6)) => '6',
+        Ok(FileAnswer::Size(_)) => 's',
+        Ok(FileAnswer::Failed) => 'f',
+        Err(_) => '?',
+    }
+}
+
+/// Gives an order to the shelf: the letter of what came of it.
+fn come_of(alloc: Global, shelf: &mut MapShelf, asking: Asking) -> char {
+    match asking {
+        Asking::Append => letter(append_ab(alloc, shelf)),
+        Asking::Rename => { letter(shift(alloc, shelf, &Text::fixed("/l"), &Text::fixed("/m"))) }
+        Asking::Anew => letter(fresh(alloc, shelf, &Text::fixed("/l"))),
+        Asking::Part => answer_letter(&read_file(alloc, shelf, &Text::fixed("/l"), 2, 3)),
+        Asking::Clear(name) => answer_letter(&clear_file(alloc, shelf, &Text::fixed(name))),
+        Asking::Names(pattern) => {
+            answer_letter(&file_names(alloc, shelf, &Text::fixed(pattern)))
+        }
+        Asking::Size(name) => answer_letter(&file_size(alloc, shelf, &Text::fixed(name))),
+    }
+}
+
+/// Gives these orders to the shelf: the letters of what came of them.
+fn all_come_of(rt: &impl Abort, alloc: Global, shelf: &mut MapShelf, all: &[Asking]) -> String {
+    let mut letters = String::new(alloc);
+    for asking in all {
+        letters
+            .push(come_of(alloc, shelf, *asking))
+            .expect(rt, "memory");
+    }
+    letters
+}
+
+/// Appends, renames and makes anew.
+const WRITES: [Asking; 3] = [Asking::Append, Asking::Rename, Asking::Anew];
+
+/// The call that fails, a letter for each order, `d` where it was done and `f` where it failed, and what `/l` and `/m`
+/// hold then.
 const WRITTEN: [(u64, &str, &str, &str); 4] = [
     (0, "ddd", "", "ab"),
     (1, "fdd", "", "-"),
@@ -62,63 +133,26 @@ const WRITTEN: [(u64, &str, &str, &str); 4] = [
 fn files_are_written(rt: HostRuntime) {
     let alloc = rt.alloc();
     for (failing, letters, first, second) in WRITTEN {
-        let mut shelf = shelf_of(&rt, alloc, &[failing]);
-        let text = written(&rt, alloc, &mut shelf);
-        assert_eq!(rt; text.as_str(), letters);
-        assert!(rt; held(&rt, alloc, &shelf, "/l").as_slice() == first.as_bytes());
-        assert!(rt; held(&rt, alloc, &shelf, "/m").as_slice() == second.as_bytes());
+        let mut shelf = shelf_of(&rt, alloc, failing, &[]);
+        let told = all_come_of(&rt, alloc, &mut shelf, &WRITES);
+        assert!(rt;
+            told.as_str() == letters
+                && holds(alloc, &shelf, "/l", first)
+                && holds(alloc, &shelf, "/m", second),
+            "{failing}"
+        );
     }
-}
-
-/// A letter for an answer: the first byte that was read, and `.` where none was.
-fn answer_letter(answer: &FileAnswer) -> char {
-    match answer {
-        FileAnswer::Read(bytes) => match bytes.as_slice().first() {
-            Some(first) => *first as char,
-            None => '.',
-        },
-        FileAnswer::Done => 'd',
-        FileAnswer::Missing => 'm',
-        FileAnswer::Names(names) => match names.as_slice() {
-            [] => '0',
-            [_] => '1',
-            _ => '2',
-        },
-        FileAnswer::Size(6) => '6',
-        FileAnswer::Size(_) => 's',
-        FileAnswer::Failed => 'f',
-    }
-}
-
-/// Reads a part of `/l`, and tells the answer's letter.
-fn read_part(rt: &impl Abort, alloc: Global, shelf: &mut MapShelf, told: &mut String) {
-    let answer = read_file(alloc, shelf, &Text::fixed("/l"), 2, 3).expect(rt, "memory");
-    told.push(answer_letter(&answer)).expect(rt, "memory");
-}
-
-/// Clears a file, and tells the answer's letter.
-fn clear(
-    rt: &impl Abort,
-    alloc: Global,
-    shelf: &mut MapShelf,
-    name: &'static str,
-    told: &mut String,
-) {
-    let answer = clear_file(alloc, shelf, &Text::fixed(name)).expect(rt, "memory");
-    told.push(answer_letter(&answer)).expect(rt, "memory");
 }
 
 /// Reads a part of `/l`, clears `/none`, clears `/l`, and reads the part again.
-fn asked(rt: &impl Abort, alloc: Global, shelf: &mut MapShelf) -> String {
-    let mut text = String::new(alloc);
-    read_part(rt, alloc, shelf, &mut text);
-    clear(rt, alloc, shelf, "/none", &mut text);
-    clear(rt, alloc, shelf, "/l", &mut text);
-    read_part(rt, alloc, shelf, &mut text);
-    text
-}
+const QUESTIONS: [Asking; 4] = [
+    Asking::Part,
+    Asking::Clear("/none"),
+    Asking::Clear("/l"),
+    Asking::Part,
+];
 
-/// The calls that fail, and a letter for each answer. The clearing of a file that is there is two calls.
+/// The call that fails, and a letter for each answer. The clearing of a file that is there is two calls.
 const ASKED: [(u64, &str); 6] = [
     (0, "cmd."),
     (1, "fmd."),
@@ -132,48 +166,21 @@ const ASKED: [(u64, &str); 6] = [
 fn questions_are_answered(rt: HostRuntime) {
     let alloc = rt.alloc();
     for (failing, letters) in ASKED {
-        let mut shelf = shelf_of(&rt, alloc, &[failing]);
-        put(&rt, alloc, &mut shelf, "/l", "abcdef");
-        let text = asked(&rt, alloc, &mut shelf);
-        assert_eq!(rt; text.as_str(), letters);
+        let mut shelf = shelf_of(&rt, alloc, failing, &[("/l", "abcdef")]);
+        let told = all_come_of(&rt, alloc, &mut shelf, &QUESTIONS);
+        assert!(rt; told.as_str() == letters, "{failing}");
     }
 }
 
-/// Asks which names a pattern matches, and tells the answer's letter.
-fn look_for(
-    rt: &impl Abort,
-    alloc: Global,
-    shelf: &mut MapShelf,
-    pattern: &'static str,
-    told: &mut String,
-) {
-    let answer = file_names(alloc, shelf, &Text::fixed(pattern)).expect(rt, "memory");
-    told.push(answer_letter(&answer)).expect(rt, "memory");
-}
-
-/// Asks for the size of a file, and tells the answer's letter.
-fn measure(
-    rt: &impl Abort,
-    alloc: Global,
-    shelf: &mut MapShelf,
-    name: &'static str,
-    told: &mut String,
-) {
-    let answer = file_size(alloc, shelf, &Text::fixed(name)).expect(rt, "memory");
-    told.push(answer_letter(&answer)).expect(rt, "memory");
-}
-
 /// Asks which names `/l*` matches, which `/n*` matches, for the size of `/l`, and for that of `/none`.
-fn looked(rt: &impl Abort, alloc: Global, shelf: &mut MapShelf) -> String {
-    let mut text = String::new(alloc);
-    look_for(rt, alloc, shelf, "/l*", &mut text);
-    look_for(rt, alloc, shelf, "/n*", &mut text);
-    measure(rt, alloc, shelf, "/l", &mut text);
-    measure(rt, alloc, shelf, "/none", &mut text);
-    text
-}
+const LOOKS: [Asking; 4] = [
+    Asking::Names("/l*"),
+    Asking::Names("/n*"),
+    Asking::Size("/l"),
+    Asking::Size("/none"),
+];
 
-/// The calls that fail, and a letter for each answer: the number of names; `6` for the size of `/l`.
+/// The call that fails, and a letter for each answer.
 const LOOKED: [(u64, &str); 5] = [
     (0, "206m"),
     (1, "f06m"),
@@ -186,10 +193,8 @@ const LOOKED: [(u64, &str); 5] = [
 fn names_and_sizes_are_answered(rt: HostRuntime) {
     let alloc = rt.alloc();
     for (failing, letters) in LOOKED {
-        let mut shelf = shelf_of(&rt, alloc, &[failing]);
-        put(&rt, alloc, &mut shelf, "/l", "abcdef");
-        put(&rt, alloc, &mut shelf, "/l.1", "ab");
-        let text = looked(&rt, alloc, &mut shelf);
-        assert_eq!(rt; text.as_str(), letters);
+        let mut shelf = shelf_of(&rt, alloc, failing, &[("/l", "abcdef"), ("/l.1", "ab")]);
+        let told = all_come_of(&rt, alloc, &mut shelf, &LOOKS);
+        assert!(rt; told.as_str() == letters, "{failing}");
     }
 }

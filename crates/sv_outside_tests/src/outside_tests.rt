@@ -6,12 +6,12 @@ use std::process::Abort;
 use std::sync::Wait;
 use sv_base::{How, Items, Moment, Pid, Place, Run, Signal, Stream, Text};
 use sv_out::order::SpawnOrder;
-use sv_out::sink::Sink;
-use sv_out::source::Source;
+use sv_out::sink::{ListSink, Sink};
+use sv_out::source::{ListSource, Source};
 use sv_out::{Link, Script, ScriptLink};
 use sv_outside::{
     Asked, Clock, FixedClock, Gate, HoldGate, Job, JobWord, KillFault, Listen, Program, PumpEnd,
-    Refusal, ScriptListen, ScriptSpawner, ScriptWaiter, SpawnFault, Spawner, Waiter,
+    Refusal, ScriptListen, ScriptSpawner, ScriptWaiter, SpawnFault, Spawner, Started, Waiter,
 };
 
 fn calls_of(rt: &impl Abort, alloc: Global, numbers: &[u64]) -> Vec<u64> {
@@ -22,17 +22,19 @@ fn moment(rt: &impl Abort, milliseconds: u64) -> Moment {
     Moment::new(milliseconds).expect(rt, "a moment")
 }
 
+/// A clock that gives 5 and then 7, with room for two pauses.
+fn clock_of(rt: &impl Abort, alloc: Global) -> FixedClock {
+    let mut later = VecDeque::new(alloc);
+    later.push_back(moment(rt, 7)).expect(rt, "ample memory");
+    FixedClock::new(alloc, moment(rt, 5), later, 2).expect(rt, "ample memory")
+}
+
 #[test]
 fn a_clock_gives_its_moments_and_then_the_last(rt: HostRuntime) {
-    let mut later = VecDeque::new(rt.alloc());
-    later.push_back(moment(&rt, 7)).expect(&rt, "ample memory");
-    let mut clock = FixedClock::new(rt.alloc(), moment(&rt, 5), later, 2).expect(
-        &rt,
-        "ample memory",
-    );
-    assert!(rt; clock.now().milliseconds() == 5);
-    assert!(rt; clock.now().milliseconds() == 7);
-    assert!(rt; clock.now().milliseconds() == 7);
+    let mut clock = clock_of(&rt, rt.alloc());
+    for milliseconds in [5, 7, 7] {
+        assert!(rt; clock.now().milliseconds() == milliseconds);
+    }
     clock.pause(1_000);
     clock.pause(20);
     assert!(rt; clock.pauses().expect(&rt, "all told") == [1_000, 20].as_slice());
@@ -43,11 +45,10 @@ fn a_clock_gives_its_moments_and_then_the_last(rt: HostRuntime) {
 #[test]
 fn a_waiter_fails_at_its_calls(rt: HostRuntime) {
     let mut waiter = ScriptWaiter::new(How::Code(3), calls_of(&rt, rt.alloc(), &[2]));
-    assert!(rt; waiter.wait().expect(&rt, "the end") == How::Code(3));
-    assert!(rt; waiter.wait().is_err());
-    assert!(rt; waiter.faults() == 1);
-    assert!(rt; waiter.wait().expect(&rt, "the end") == How::Code(3));
-    assert!(rt; waiter.faults() == 1);
+    let end = Some(How::Code(3));
+    for (how, faults) in [(end, 0), (None, 1), (end, 1)] {
+        assert!(rt; waiter.wait().ok() == how && waiter.faults() == faults);
+    }
 }
 
 /// A link that gives this text.
@@ -68,23 +69,25 @@ fn listen_of(rt: &impl Abort, alloc: Global) -> ScriptListen {
     ScriptListen::new(links, calls_of(rt, alloc, &[2]))
 }
 
-/// The next link gives this byte.
-fn comes(rt: &impl Abort, listen: &mut ScriptListen, byte: u8) {
-    let mut buffer = [0u8; 9];
-    let mut link = listen.accept().expect(rt, "a link");
-    assert!(rt; link.read(&mut buffer).expect(rt, "a byte") == 1);
-    assert!(rt; buffer[0] == byte);
+/// The one byte that the next link gives at first; none where there is no link.
+fn next_byte(rt: &impl Abort, listen: &mut ScriptListen) -> Option<u8> {
+    match listen.accept() {
+        Ok(mut link) => {
+            let mut buffer = [0u8; 9];
+            assert!(rt; matches!(link.read(&mut buffer), Ok(1)));
+            Some(buffer[0])
+        }
+        Err(_) => None,
+    }
 }
 
 #[test]
 fn links_come_in_turn(rt: HostRuntime) {
     let mut listen = listen_of(&rt, rt.alloc());
-    comes(&rt, &mut listen, b'a');
-    assert!(rt; listen.accept().is_err());
-    comes(&rt, &mut listen, b'b');
-    assert!(rt; listen.accept().is_err());
-    assert!(rt; listen.given() == 2);
-    assert!(rt; listen.faults() == 2);
+    for byte in [Some(b'a'), None, Some(b'b'), None] {
+        assert!(rt; next_byte(&rt, &mut listen) == byte);
+    }
+    assert!(rt; listen.given() == 2 && listen.faults() == 2);
 }
 
 /// A job that is about this word and does nothing.
@@ -122,14 +125,11 @@ fn keeps(gate: &mut HoldGate<Idle>, word: JobWord) -> bool {
 
 /// The gate gives a job back as it was.
 fn gives_back<R: Abort + Wait>(rt: &R, gate: &mut HoldGate<Idle>) {
-    let Err(mut back) = gate.start(Idle {
-        word: JobWord::Console,
-    }) else {
-        unreachable_job(rt);
-        return;
-    };
-    assert!(rt; back.word() == JobWord::Console);
-    assert!(rt; back.work(rt) == PumpEnd::Ended);
+    let word = JobWord::Console;
+    match gate.start(Idle { word }) {
+        Ok(()) => assert!(rt; false, "the job was kept"),
+        Err(mut back) => assert!(rt; back.word() == word && back.work(rt) == PumpEnd::Ended),
+    }
 }
 
 #[test]
@@ -139,15 +139,12 @@ fn a_gate_holds_jobs_while_it_has_room(rt: HostRuntime) {
     gives_back(&rt, &mut gate);
     assert!(rt; keeps(&mut gate, JobWord::Watch(Run(4))));
     assert!(rt; !keeps(&mut gate, JobWord::Pump(Run(4), Stream::Err)));
-    assert!(rt; gate.faults() == 2);
-    assert!(rt; gate.jobs().len() == 2);
+    assert!(rt; gate.faults() == 2 && gate.jobs().len() == 2);
     let jobs = gate.into_jobs();
-    assert!(rt; jobs[0].word() == JobWord::Ticker);
-    assert!(rt; jobs[1].word() == JobWord::Watch(Run(4)));
-}
-
-fn unreachable_job(rt: &impl Abort) {
-    assert!(rt; false);
+    assert!(rt;
+        matches!(jobs.as_slice(), [first, second]
+            if first.word() == JobWord::Ticker && second.word() == JobWord::Watch(Run(4)))
+    );
 }
 
 fn order(alloc: Global, run: u32) -> SpawnOrder {
@@ -191,31 +188,42 @@ fn spawner_of(rt: &impl Abort, alloc: Global) -> ScriptSpawner {
     ScriptSpawner::new(alloc, programs, refusals_of(rt, alloc), failing)
 }
 
-/// The first run takes its input, writes nothing and ends with the code 9: its process.
-fn first_runs(rt: &impl Abort, alloc: Global, spawner: &mut ScriptSpawner) -> Pid {
-    let mut first = spawner
-        .spawn(alloc, &order(alloc, 1))
-        .expect(rt, "a program");
-    assert!(rt; first.pid.get() == 1);
-    assert!(rt; first.waiter.wait().expect(rt, "the end") == How::Code(9));
-    assert!(rt; first.stdin.write(b"in").expect(rt, "taken") == 2);
-    let mut buffer = [0u8; 4];
-    assert!(rt; first.stdout.read(&mut buffer).expect(rt, "the end") == 0);
-    first.pid
+/// What came of an order for a program: a process and how it ended, or why it was refused.
+#[derive(Clone, Copy, PartialEq, Eq)]
+enum Outcome {
+    Process(u32, How),
+    Reason,
+    NoFile,
+    Other,
 }
 
-/// The second run is refused for the reason.
-fn second_is_refused(rt: &impl Abort, alloc: Global, spawner: &mut ScriptSpawner) {
-    assert!(rt;
-        matches!(
-            spawner.spawn(alloc, &order(alloc, 2)),
-            Err(SpawnFault::Refused(Refusal::Refused(_)))
-        )
-    );
+/// A program takes its input, writes nothing, and ends.
+fn ended(
+    rt: &impl Abort,
+    program: &mut Started<ListSink, ListSource, ListSource, ScriptWaiter>,
+) -> Outcome {
+    let mut buffer = [0u8; 4];
+    assert!(rt; matches!(program.stdin.write(b"in"), Ok(2)));
+    assert!(rt; matches!(program.stdout.read(&mut buffer), Ok(0)));
+    match program.waiter.wait() {
+        Ok(how) => Outcome::Process(program.pid.get(), how),
+        Err(_) => Outcome::Other,
+    }
+}
+
+/// What comes of an order for a program.
+fn came(rt: &impl Abort, alloc: Global, spawner: &mut ScriptSpawner, run: u32) -> Outcome {
+    match spawner.spawn(alloc, &order(alloc, run)) {
+        Ok(mut program) => ended(rt, &mut program),
+        Err(SpawnFault::Refused(Refusal::Refused(_))) => Outcome::Reason,
+        Err(SpawnFault::Refused(Refusal::NoFile)) => Outcome::NoFile,
+        Err(_) => Outcome::Other,
+    }
 }
 
 /// A signal to the first process is sent, and another one isn't.
-fn one_signal_is_sent(rt: &impl Abort, alloc: Global, spawner: &mut ScriptSpawner, pid: Pid) {
+fn one_signal_is_sent(rt: &impl Abort, alloc: Global, spawner: &mut ScriptSpawner) {
+    let pid = Pid::least();
     assert!(rt; spawner.kill(alloc, pid, Signal::Term, true).is_ok());
     assert!(rt;
         matches!(
@@ -225,47 +233,33 @@ fn one_signal_is_sent(rt: &impl Abort, alloc: Global, spawner: &mut ScriptSpawne
     );
 }
 
-/// The third run is refused for want of a file.
-fn third_is_refused(rt: &impl Abort, alloc: Global, spawner: &mut ScriptSpawner) {
-    assert!(rt;
-        matches!(
-            spawner.spawn(alloc, &order(alloc, 3)),
-            Err(SpawnFault::Refused(Refusal::NoFile))
-        )
-    );
-}
-
-/// The fourth run is the second process, and ends with the code 0.
-fn fourth_runs(rt: &impl Abort, alloc: Global, spawner: &mut ScriptSpawner) {
-    let mut second = spawner
-        .spawn(alloc, &order(alloc, 4))
-        .expect(rt, "a program");
-    assert!(rt; second.pid.get() == 2);
-    assert!(rt; second.waiter.wait().expect(rt, "the end") == How::Code(0));
-}
-
-/// What the spawner was asked for.
-fn are_asked(rt: &impl Abort, asked: &[Asked]) {
-    assert!(rt; asked.len() == 6);
-    assert!(rt; is_spawn(&asked[0], 1, Some(1)));
-    assert!(rt; is_spawn(&asked[1], 2, None));
-    assert!(rt; is_kill(&asked[2], Signal::Term, true, true));
-    assert!(rt; is_kill(&asked[3], Signal::Kill, false, false));
-    assert!(rt; is_spawn(&asked[4], 3, None));
-    assert!(rt; is_spawn(&asked[5], 4, Some(2)));
+/// Whether this is what the spawner was asked for.
+fn are_asked(asked: &[Asked]) -> bool {
+    match asked {
+        [first, second, term, kill, third, fourth] => {
+            is_spawn(first, 1, Some(1))
+                && is_spawn(second, 2, None)
+                && is_kill(term, Signal::Term, true, true)
+                && is_kill(kill, Signal::Kill, false, false)
+                && is_spawn(third, 3, None)
+                && is_spawn(fourth, 4, Some(2))
+        }
+        _ => false,
+    }
 }
 
 #[test]
 fn a_spawner_tells_what_it_was_asked_for(rt: HostRuntime) {
     let alloc = rt.alloc();
     let mut spawner = spawner_of(&rt, alloc);
-    let pid = first_runs(&rt, alloc, &mut spawner);
-    second_is_refused(&rt, alloc, &mut spawner);
-    one_signal_is_sent(&rt, alloc, &mut spawner, pid);
-    third_is_refused(&rt, alloc, &mut spawner);
-    fourth_runs(&rt, alloc, &mut spawner);
-    assert!(rt; spawner.faults() == 3);
-    are_asked(&rt, spawner.asked());
+    let first = came(&rt, alloc, &mut spawner, 1);
+    let second = came(&rt, alloc, &mut spawner, 2);
+    one_signal_is_sent(&rt, alloc, &mut spawner);
+    let third = came(&rt, alloc, &mut spawner, 3);
+    let fourth = came(&rt, alloc, &mut spawner, 4);
+    assert!(rt; first == Outcome::Process(1, How::Code(9)) && second == Outcome::Reason);
+    assert!(rt; third == Outcome::NoFile && fourth == Outcome::Process(2, How::Code(0)));
+    assert!(rt; spawner.faults() == 3 && are_asked(spawner.asked()));
 }
 
 fn is_spawn(asked: &Asked, run: u32, pid: Option<u32>) -> bool {

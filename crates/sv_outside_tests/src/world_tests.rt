@@ -58,41 +58,52 @@ fn answer<W: World>(rt: &impl Abort, alloc: Global, world: &mut W) -> u8 {
     }
 }
 
-#[test]
-fn a_script_is_given_as_it_stands(rt: HostRuntime) {
-    for (script, failing, answers) in ANSWERS {
-        let mut world = scripted(&rt, rt.alloc(), script, failing);
-        let mut given = 0usize;
-        let mut broken = 0u64;
-        for expected in answers.as_bytes() {
-            let told = answer(&rt, rt.alloc(), &mut world);
-            assert_eq!(&rt; told, *expected, "{script} {failing}");
-            match told {
-                b'!' => broken = broken.saturating_add(1),
-                b'.' => {}
-                _ => given = given.saturating_add(1),
-            }
-            assert!(&rt; world.breaks() == broken);
-            assert!(&rt; world.given().len() == given);
-            assert!(&rt; world.faults() == 0);
+/// A world of this script, which fails at these calls, gives these answers and counts them.
+fn gives(rt: &impl Abort, alloc: Global, script: &str, failing: &str, answers: &str) {
+    let mut world = scripted(rt, alloc, script, failing);
+    let mut given = 0usize;
+    let mut broken = 0u64;
+    for expected in answers.as_bytes() {
+        match expected {
+            b'!' => broken = broken.saturating_add(1),
+            b'.' => {}
+            _ => given = given.saturating_add(1),
         }
+        assert!(rt;
+            answer(rt, alloc, &mut world) == *expected
+                && world.breaks() == broken
+                && world.given().len() == given
+                && world.faults() == 0,
+            "{script} {failing}"
+        );
     }
 }
 
 #[test]
-fn an_order_that_the_script_names_later_raises_the_count(rt: HostRuntime) {
-    let mut world = scripted(&rt, rt.alloc(), "0t241", "");
-    // Order 0 is named by the first input, which is given before it is handed over.
-    assert_eq!(&rt; answer(&rt, rt.alloc(), &mut world), b'0');
-    for faults in [0u64, 1, 2, 2, 3, 3] {
-        world
-            .perform(rt.alloc(), &Order::Halt)
-            .expect(&rt, "ample memory");
-        assert!(&rt; world.faults() == faults);
+fn a_script_is_given_as_it_stands(rt: HostRuntime) {
+    for (script, failing, answers) in ANSWERS {
+        gives(&rt, rt.alloc(), script, failing, answers);
     }
-    assert!(&rt; world.handed().len() == 6);
-    assert!(&rt; world.breaks() == 0);
-    assert!(&rt; world.given().len() == 1);
+}
+
+/// Hands an order over: how many faults the world counts then.
+fn faults_after_order(rt: &impl Abort, alloc: Global, world: &mut ScriptWorld) -> u64 {
+    world
+        .perform(alloc, &Order::Halt)
+        .expect(rt, "ample memory");
+    world.faults()
+}
+
+#[test]
+fn an_order_that_the_script_names_later_raises_the_count(rt: HostRuntime) {
+    let alloc = rt.alloc();
+    let mut world = scripted(&rt, alloc, "0t241", "");
+    // Order 0 is named by the first input, which is given before it is handed over.
+    assert!(rt; answer(&rt, alloc, &mut world) == b'0');
+    for faults in [0u64, 1, 2, 2, 3, 3] {
+        assert!(rt; faults_after_order(&rt, alloc, &mut world) == faults);
+    }
+    assert!(rt; world.handed().len() == 6 && world.breaks() == 0 && world.given().len() == 1);
 }
 
 fn text(rt: &impl Abort, alloc: Global, text: &str) -> Text {
@@ -154,9 +165,11 @@ fn spawn_is_copied(rt: &impl Abort, alloc: Global) {
     let order = spawn(rt, alloc);
     match copy_order(&order).expect(rt, "ample memory") {
         Order::Spawn(spawn) => {
-            assert_eq!(rt; spawn.user.as_str(), "joe");
-            assert!(rt; spawn.words.as_slice().len() == 1);
-            assert!(rt; spawn.environment.as_slice().len() == 1);
+            assert!(rt;
+                spawn.user.as_str() == "joe"
+                    && spawn.words.as_slice().len() == 1
+                    && spawn.environment.as_slice().len() == 1
+            );
         }
         _ => assert!(rt; false),
     }
@@ -181,14 +194,16 @@ fn kill_is_copied(rt: &impl Abort) {
         signal: Signal::Int,
         group: true,
     };
-    match copy_order(&order).expect(rt, "ample memory") {
-        Order::Kill {
-            run: Run(1),
-            signal: Signal::Int,
-            group: true,
-        } => {}
-        _ => assert!(rt; false),
-    }
+    assert!(rt;
+        matches!(
+            copy_order(&order),
+            Ok(Order::Kill {
+                run: Run(1),
+                signal: Signal::Int,
+                group: true,
+            })
+        )
+    );
 }
 
 #[test]
