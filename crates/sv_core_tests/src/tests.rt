@@ -48,20 +48,34 @@ fn no_log() -> LogSpec {
     }
 }
 
-/// A program that is stopped by TERM, of which no number is set.
-fn unset(alloc: Global, group: &'static str, name: &'static str) -> Spec {
+/// The exit code 0.
+fn expected(rt: &impl Abort, alloc: Global) -> Items<u8> {
+    let mut codes = Items::new(alloc);
+    codes.push(0).expect(rt, "memory");
+    codes
+}
+
+/// A program that is to stay up for a second, is tried again three times, expects the exit code 0, and is stopped by
+/// TERM, or after two seconds by KILL.
+fn program(
+    rt: &impl Abort,
+    alloc: Global,
+    group: &'static str,
+    name: Text,
+    autostart: bool,
+) -> Spec {
     Spec {
         group: Text::fixed(group),
-        name: Text::fixed(name),
+        name,
         words: Items::new(alloc),
         priority: 999,
-        autostart: true,
-        startsecs: Seconds::least(),
-        startretries: Retries::least(),
+        autostart,
+        startsecs: Seconds::new(1).expect(rt, "seconds"),
+        startretries: Retries::new(3).expect(rt, "retries"),
         autorestart: Autorestart::Unexpected,
-        exitcodes: Items::new(alloc),
+        exitcodes: expected(rt, alloc),
         stopsignal: Signal::Term,
-        stopwaitsecs: Seconds::least(),
+        stopwaitsecs: Seconds::new(2).expect(rt, "seconds"),
         stopasgroup: false,
         killasgroup: false,
         redirect_stderr: false,
@@ -74,74 +88,82 @@ fn unset(alloc: Global, group: &'static str, name: &'static str) -> Spec {
     }
 }
 
-/// A program that is to stay up for a second, is tried again three times, expects the exit code 0, and is stopped by
-/// TERM, or after two seconds by KILL.
-fn program(rt: &impl Abort, alloc: Global, group: &'static str, name: &'static str) -> Spec {
-    let mut program = unset(alloc, group, name);
-    program.startsecs = Seconds::new(1).expect(rt, "seconds");
-    program.startretries = Retries::new(3).expect(rt, "retries");
-    program.stopwaitsecs = Seconds::new(2).expect(rt, "seconds");
-    program.exitcodes.push(0).expect(rt, "memory");
-    program
+fn put_program(
+    rt: &impl Abort,
+    alloc: Global,
+    members: &mut Items<Spec>,
+    group: &'static str,
+    name: &'static str,
+) {
+    let program = program(rt, alloc, group, Text::fixed(name), true);
+    members.push(program).expect(rt, "memory");
 }
 
-fn group_of(name: &'static str, members: Items<Spec>) -> GroupSpec {
-    GroupSpec {
+/// These programs of a group.
+fn programs(
+    rt: &impl Abort,
+    alloc: Global,
+    group: &'static str,
+    names: &[&'static str],
+) -> Items<Spec> {
+    let mut members = Items::new(alloc);
+    for name in names {
+        put_program(rt, alloc, &mut members, group, *name);
+    }
+    members
+}
+
+fn put_group(
+    rt: &impl Abort,
+    groups: &mut Vec<GroupSpec>,
+    name: &'static str,
+    members: Items<Spec>,
+) {
+    let group = GroupSpec {
         name: Text::fixed(name),
         priority: 999,
         members,
         pool: None,
-    }
-}
-
-/// A group of these programs.
-fn group(rt: &impl Abort, alloc: Global, group: &'static str, names: &[&'static str]) -> GroupSpec {
-    let mut members = Items::new(alloc);
-    for name in names {
-        members
-            .push(program(rt, alloc, group, *name))
-            .expect(rt, "memory");
-    }
-    group_of(group, members)
+    };
+    groups.push(group).expect(rt, "memory");
 }
 
 /// The program x, alone in its group.
 fn alone(rt: &impl Abort, alloc: Global) -> Groups {
     let mut groups = Vec::new(alloc);
-    groups
-        .push(group(rt, alloc, "x", &["x"]))
-        .expect(rt, "memory");
+    put_group(rt, &mut groups, "x", programs(rt, alloc, "x", &["x"]));
     Groups::new(groups).expect(rt, "a roster")
 }
 
 /// The program d, alone in its group, and after it the group g of three.
 fn one_and_three(rt: &impl Abort, alloc: Global) -> Groups {
     let mut groups = Vec::new(alloc);
-    groups
-        .push(group(rt, alloc, "d", &["d"]))
-        .expect(rt, "memory");
-    groups
-        .push(group(rt, alloc, "g", &["a", "b", "c"]))
-        .expect(rt, "memory");
+    put_group(rt, &mut groups, "d", programs(rt, alloc, "d", &["d"]));
+    put_group(
+        rt,
+        &mut groups,
+        "g",
+        programs(rt, alloc, "g", &["a", "b", "c"]),
+    );
     Groups::new(groups).expect(rt, "a roster")
 }
 
-/// The program of a number, which isn't started with the daemon.
-fn numbered(rt: &impl Abort, alloc: Global, number: u32) -> Spec {
-    let name = format!(in alloc; "{number}").expect(rt, "memory");
-    let mut program = program(rt, alloc, "p", "");
-    program.name = Text::from_string(name);
-    program.autostart = false;
-    program
+/// The name of a number.
+fn name_of(rt: &impl Abort, alloc: Global, number: u32) -> Text {
+    Text::from_string(format!(in alloc; "{number}").expect(rt, "memory"))
+}
+
+/// Adds the program of a number, which isn't started with the daemon.
+fn put_numbered(rt: &impl Abort, alloc: Global, members: &mut Items<Spec>, number: u32) {
+    let program = program(rt, alloc, "p", name_of(rt, alloc, number), false);
+    members.push(program).expect(rt, "memory");
 }
 
 /// The programs 1000 to 1999.
 fn a_thousand_programs(rt: &impl Abort, alloc: Global) -> Items<Spec> {
     let mut members = Items::new(alloc);
     for number in 1_000..2_000u32 {
-        members
-            .push(numbered(rt, alloc, number))
-            .expect(rt, "memory");
+        put_numbered(rt, alloc, &mut members, number);
     }
     members
 }
@@ -149,9 +171,7 @@ fn a_thousand_programs(rt: &impl Abort, alloc: Global) -> Items<Spec> {
 /// The group p of a thousand programs, 1000 to 1999, of which none is started with the daemon.
 fn a_thousand(rt: &impl Abort, alloc: Global) -> Groups {
     let mut groups = Vec::new(alloc);
-    groups
-        .push(group_of("p", a_thousand_programs(rt, alloc)))
-        .expect(rt, "memory");
+    put_group(rt, &mut groups, "p", a_thousand_programs(rt, alloc));
     Groups::new(groups).expect(rt, "a roster")
 }
 
@@ -306,11 +326,22 @@ fn orders(rt: &impl Abort, alloc: Global, machine: &mut Machine, line: Line) -> 
     machine.step(alloc, input).expect(rt, "memory")
 }
 
+/// The machine takes the line, and orders just this.
+fn orders_just(
+    rt: &impl Abort,
+    alloc: Global,
+    machine: &mut Machine,
+    line: Line,
+    wanted: &[Wanted],
+) {
+    let orders = orders(rt, alloc, machine, line);
+    are_wanted(rt, orders.as_slice(), wanted);
+}
+
 /// The machine takes each line, and orders just this.
 fn check(rt: &impl Abort, alloc: Global, machine: &mut Machine, lines: &[(Line, &[Wanted])]) {
     for (line, wanted) in lines {
-        let orders = orders(rt, alloc, machine, *line);
-        are_wanted(rt, orders.as_slice(), *wanted);
+        orders_just(rt, alloc, machine, *line, *wanted);
     }
     assert!(rt; !machine.broken());
 }
@@ -536,6 +567,10 @@ fn halts(rt: &impl Abort, alloc: Global, groups: Groups, lines: &[(Line, &[Wante
     let mut machine = machine(rt, alloc, groups);
     check(rt, alloc, &mut machine, lines);
     assert!(rt; machine.halted());
+    takes_no_tick(rt, &machine);
+}
+
+fn takes_no_tick(rt: &impl Abort, machine: &Machine) {
     let late = input(rt, Line::Tick(4_000));
     assert!(rt; !machine.accepts(&late));
 }

@@ -1,7 +1,8 @@
 //! Calls over connections in memory, worked by hand: what is sent, and what each reply comes to.
 ghost use Rattle.std.specs.Prelude.{◌≤◌};
 
-use std::alloc::{AllocError, Global};
+use crate::replies::one_call;
+use std::alloc::Global;
 use std::collections::VecDeque;
 use std::process::Abort;
 use sv_ask::{AskFault, ask_server, host_of, place_of};
@@ -67,59 +68,92 @@ const REQUEST: &str =
 Authorization: Basic dXNlcjphYmM=\r\n\r\n\
 <?xml version='1.0'?><methodCall><methodName>supervisor.getAPIVersion</methodName><params></params></methodCall>";
 
-fn place_text(alloc: Global, url: &str) -> Result<String, AllocError> {
-    let host = host_of(url);
-    match place_of(alloc, url)? {
-        Some(Place::Inet(name, port)) => {
+fn copy_of(rt: &impl Abort, alloc: Global, text: &str) -> String {
+    String::from_str(alloc, text).expect(rt, "ample memory")
+}
+
+fn place_told(rt: &impl Abort, alloc: Global, place: &Place, host: &str) -> String {
+    match place {
+        Place::Inet(name, port) => {
             let name = name.as_str();
-            Ok(format!(in alloc; "inet {name} {port} {host}")?)
+            format!(in alloc; "inet {name} {port} {host}").expect(rt, "ample memory")
         }
-        Some(Place::Unix(path)) => {
+        Place::Unix(path) => {
             let path = path.as_str();
-            Ok(format!(in alloc; "unix {path} {host}")?)
+            format!(in alloc; "unix {path} {host}").expect(rt, "ample memory")
         }
-        None => String::from_str(alloc, "none"),
     }
+}
+
+fn url_told(rt: &impl Abort, alloc: Global, url: &str) -> String {
+    match place_of(alloc, url).expect(rt, "ample memory") {
+        Some(place) => place_told(rt, alloc, &place, host_of(url)),
+        None => copy_of(rt, alloc, "none"),
+    }
+}
+
+fn url_is(rt: &impl Abort, alloc: Global, url: &str, expected: &str) {
+    let told = url_told(rt, alloc, url);
+    assert_eq!(rt; told.as_str(), expected, "{url}");
+}
+
+fn url_row(rt: &impl Abort, alloc: Global, line: &str) {
+    let (url, expected) = line.split_once("=>").expect(rt, "two cells");
+    url_is(rt, alloc, url, expected);
 }
 
 #[test]
 fn urls_have_their_places(rt: HostRuntime) {
     for line in URLS.lines() {
-        let (url, expected) = line.split_once("=>").expect(&rt, "two cells");
-        let text = place_text(rt.alloc(), url).expect(&rt, "ample memory");
-        assert_eq!(&rt; text.as_str(), expected, "{url}");
+        url_row(&rt, rt.alloc(), line);
     }
 }
 
-fn stream_of(alloc: Global, text: &str) -> Result<Vec<u8>, AllocError> {
+fn stream_of(rt: &impl Abort, alloc: Global, text: &str) -> Vec<u8> {
     let mut bytes = Vec::new(alloc);
     for byte in text.as_bytes() {
-        let part: &str = match *byte {
-            b'~' => "\r\n",
-            b'$' => VALUE,
-            b'%' => FAULT,
-            b'#' => "HTTP/1.1 200 OK\r\nContent-Length: ",
-            _ => {
-                bytes.push(*byte)?;
-                continue;
-            }
-        };
-        bytes.extend_from_slice(part.as_bytes())?;
+        put_part(rt, &mut bytes, *byte);
     }
-    Ok(bytes)
+    bytes
 }
 
-fn outcome(alloc: Global, answer: Result<Answered, AskFault>) -> Result<String, AllocError> {
+/// Adds what a byte of a stream stands for.
+fn put_part(rt: &impl Abort, bytes: &mut Vec<u8>, byte: u8) {
+    match byte {
+        b'~' => put(rt, bytes, "\r\n"),
+        b'$' => put(rt, bytes, VALUE),
+        b'%' => put(rt, bytes, FAULT),
+        b'#' => put(rt, bytes, "HTTP/1.1 200 OK\r\nContent-Length: "),
+        byte => bytes.push(byte).expect(rt, "ample memory"),
+    }
+}
+
+fn put(rt: &impl Abort, bytes: &mut Vec<u8>, part: &str) {
+    bytes
+        .extend_from_slice(part.as_bytes())
+        .expect(rt, "ample memory");
+}
+
+fn answer_told(rt: &impl Abort, alloc: Global, answer: &Answered) -> String {
     match answer {
-        Ok(Answered::Value(Value::Text(_))) => String::from_str(alloc, "value"),
-        Ok(Answered::Value(_)) => String::from_str(alloc, "another value"),
-        Ok(Answered::Fault(number, _)) => Ok(format!(in alloc; "fault {number}")?),
-        Err(AskFault::Refused) => String::from_str(alloc, "refused"),
-        Err(AskFault::LinkFailed) => String::from_str(alloc, "broke off"),
-        Err(AskFault::Ended) => String::from_str(alloc, "ended"),
-        Err(AskFault::BadReply) => String::from_str(alloc, "bad"),
-        Err(AskFault::Status(status)) => Ok(format!(in alloc; "status {status}")?),
-        Err(AskFault::OutOfMemory) => Err(AllocError),
+        Answered::Value(Value::Text(_)) => copy_of(rt, alloc, "value"),
+        Answered::Value(_) => copy_of(rt, alloc, "another value"),
+        Answered::Fault(number, _) => {
+            format!(in alloc; "fault {number}").expect(rt, "ample memory")
+        }
+    }
+}
+
+fn fault_told(rt: &impl Abort, alloc: Global, fault: &AskFault) -> String {
+    match fault {
+        AskFault::Refused => copy_of(rt, alloc, "refused"),
+        AskFault::LinkFailed => copy_of(rt, alloc, "broke off"),
+        AskFault::Ended => copy_of(rt, alloc, "ended"),
+        AskFault::BadReply => copy_of(rt, alloc, "bad"),
+        AskFault::Status(status) => {
+            format!(in alloc; "status {status}").expect(rt, "ample memory")
+        }
+        AskFault::OutOfMemory => panic!(rt; "ample memory"),
     }
 }
 
@@ -131,60 +165,110 @@ fn client() -> ClientSpec {
     }
 }
 
-fn calls_of(alloc: Global, call: u64) -> Result<Vec<u64>, AllocError> {
-    let mut calls = Vec::new(alloc);
-    if 0 < call {
-        calls.push(call)?;
-    }
-    Ok(calls)
-}
-
 /// A dial with one link, which gives this stream, at most `most` bytes in each call; of the link the call of this number
 /// fails, and of the dial that of that number.
 fn dial_of(
+    rt: &impl Abort,
     alloc: Global,
     text: &str,
     most: usize,
     link: u64,
     dial: u64,
-) -> Result<ScriptDial, AllocError>
+) -> ScriptDial
     requires { 1 ≤ most }
 {
-    let script = Script::new(stream_of(alloc, text)?, most, calls_of(alloc, link)?);
     let mut scripts = VecDeque::new(alloc);
-    scripts.push_back(script)?;
-    Ok(ScriptDial::new(alloc, scripts, calls_of(alloc, dial)?))
+    put_script(rt, alloc, &mut scripts, text, most, link);
+    ScriptDial::new(alloc, scripts, one_call(rt, alloc, dial))
+}
+
+fn put_script(
+    rt: &impl Abort,
+    alloc: Global,
+    scripts: &mut VecDeque<Script>,
+    text: &str,
+    most: usize,
+    link: u64,
+)
+    requires { 1 ≤ most }
+{
+    let bytes = stream_of(rt, alloc, text);
+    let script = Script::new(bytes, most, one_call(rt, alloc, link));
+    scripts.push_back(script).expect(rt, "ample memory");
+}
+
+/// What is asked of whom.
+#[derive(Drop)]
+struct Question {
+    place: Place,
+    client: ClientSpec,
+    call: Call,
+}
+
+fn version_question(alloc: Global) -> Question {
+    Question {
+        place: Place::Inet(Text::fixed("h"), 9001),
+        client: client(),
+        call: Call {
+            method: Text::fixed("supervisor.getAPIVersion"),
+            params: Vec::new(alloc),
+        },
+    }
+}
+
+/// The answer of a call over the dial.
+fn asked(alloc: Global, dial: &mut ScriptDial) -> Result<Answered, AskFault> {
+    let question = version_question(alloc);
+    ask_server(
+        alloc,
+        dial,
+        &question.place,
+        &question.client,
+        &question.call,
+    )
 }
 
 /// What a call over the dial comes to.
-fn told(alloc: Global, dial: &mut ScriptDial) -> Result<String, AllocError> {
-    let place = Place::Inet(Text::fixed("h"), 9001);
-    let call = Call {
-        method: Text::fixed("supervisor.getAPIVersion"),
-        params: Vec::new(alloc),
-    };
-    let answer = ask_server(alloc, dial, &place, &client(), &call);
-    outcome(alloc, answer)
+fn told(rt: &impl Abort, alloc: Global, dial: &mut ScriptDial) -> String {
+    match asked(alloc, dial) {
+        Ok(answer) => answer_told(rt, alloc, &answer),
+        Err(fault) => fault_told(rt, alloc, &fault),
+    }
+}
+
+fn is_told(rt: &impl Abort, alloc: Global, dial: &mut ScriptDial, expected: &str) {
+    let text = told(rt, alloc, dial);
+    assert_eq!(rt; text.as_str(), expected);
+}
+
+/// The link was given back, after the request was sent over it.
+fn is_sent(rt: &impl Abort, dial: &ScriptDial) {
+    match dial.exchanges() {
+        [exchange] => assert!(rt; exchange.sent.as_slice() == REQUEST.as_bytes()),
+        _ => panic!(rt; "the link was given back"),
+    }
+}
+
+/// A call whose reply is this stream comes to this.
+fn reply_is(rt: &impl Abort, alloc: Global, stream: &str, most: usize, expected: &str)
+    requires { 1 ≤ most }
+{
+    let mut dial = dial_of(rt, alloc, stream, most, 0, 0);
+    is_told(rt, alloc, &mut dial, expected);
+    assert!(rt; dial.faults() == 0);
+    is_sent(rt, &dial);
+}
+
+fn reply_row(rt: &impl Abort, alloc: Global, line: &str) {
+    let (stream, expected) = line.split_once("=>").expect(rt, "two cells");
+    reply_is(rt, alloc, stream, 100_000, expected);
+    reply_is(rt, alloc, stream, 1, expected);
 }
 
 #[test]
 fn replies_come_to_this(rt: HostRuntime) {
     for line in REPLIES.lines() {
-        let (stream, expected) = line.split_once("=>").expect(&rt, "two cells");
-        for whole in [true, false] {
-            let most = if whole { 100_000 } else { 1 };
-            let mut dial = dial_of(rt.alloc(), stream, most, 0, 0).expect(&rt, "ample memory");
-            let text = told(rt.alloc(), &mut dial).expect(&rt, "ample memory");
-            assert_eq!(&rt; text.as_str(), expected, "{line}");
-            assert!(&rt; dial.faults() == 0);
-            match dial.exchanges() {
-                [exchange] => assert!(&rt;
-                    exchange.sent.as_slice() == REQUEST.as_bytes(),
-                    "{line}"
-                ),
-                _ => assert!(&rt; false, "the link was given back"),
-            }
-        }
+        reply_row(&rt, rt.alloc(), line);
     }
 }
 
@@ -197,15 +281,15 @@ const FAILURES: [(u64, u64, &str, u64); 5] = [
     (0, 1, "refused", 1),
 ];
 
+fn failure_is(rt: &impl Abort, alloc: Global, link: u64, dials: u64, expected: &str, faults: u64) {
+    let mut dial = dial_of(rt, alloc, "#104~~$", 100_000, link, dials);
+    is_told(rt, alloc, &mut dial, expected);
+    assert!(rt; dial.faults() == faults);
+}
+
 #[test]
 fn failures_are_counted(rt: HostRuntime) {
     for (link, dials, expected, faults) in FAILURES {
-        let mut dial = dial_of(rt.alloc(), "#104~~$", 100_000, link, dials).expect(
-            &rt,
-            "ample memory",
-        );
-        let text = told(rt.alloc(), &mut dial).expect(&rt, "ample memory");
-        assert_eq!(&rt; text.as_str(), expected, "{link} {dials}");
-        assert!(&rt; dial.faults() == faults);
+        failure_is(&rt, rt.alloc(), link, dials, expected, faults);
     }
 }

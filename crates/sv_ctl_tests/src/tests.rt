@@ -2,10 +2,10 @@
 ghost use Rattle.std.specs.Prelude.{◌≤◌};
 
 use crate::commands::{DEEDS, LOOKS, Row};
-use crate::failures::{BYTE_BY_BYTE, FAILURES, Failure, HEARD, IN_PIECES, PRINTED, Session};
+use crate::failures::{BYTE_BY_BYTE, FAILURES, Failure, HEARD, IN_PIECES, PRINTED};
 use crate::replies::{dial_of, one_call};
 use crate::sessions::{CREDENTIALS, OPTIONS, TALKS};
-use std::alloc::{AllocError, Global};
+use std::alloc::Global;
 use std::process::Abort;
 use sv_base::{Bytes, Host, Items, Moment, Text};
 use sv_ctl::control;
@@ -45,37 +45,57 @@ fn host(alloc: Global) -> Host {
     }
 }
 
-fn shelf_of(alloc: Global, failing: u64) -> Result<MapShelf, AllocError> {
-    let mut shelf = MapShelf::new(alloc, one_call(alloc, failing)?);
-    for (name, text) in FILES {
-        let bytes = Bytes::from_slice(alloc, text.as_bytes())?;
-        shelf.set(Text::from_str(alloc, name)?, bytes)?;
-    }
-    Ok(shelf)
+fn add_file(rt: &impl Abort, alloc: Global, shelf: &mut MapShelf, name: &str, text: &str) {
+    let bytes = Bytes::from_slice(alloc, text.as_bytes()).expect(rt, "ample memory");
+    let name = Text::from_str(alloc, name).expect(rt, "ample memory");
+    shelf.set(name, bytes).expect(rt, "ample memory");
 }
 
-fn words_of(alloc: Global, text: &str) -> Result<Vec<Text>, AllocError> {
+fn shelf_of(rt: &impl Abort, alloc: Global, failing: u64) -> MapShelf {
+    let mut shelf = MapShelf::new(alloc, one_call(rt, alloc, failing));
+    for (name, text) in FILES {
+        add_file(rt, alloc, &mut shelf, name, text);
+    }
+    shelf
+}
+
+fn words_of(rt: &impl Abort, alloc: Global, text: &str) -> Vec<Text> {
     let mut words = Vec::new(alloc);
     for word in text.split(' ') {
-        if !word.is_empty() {
-            words.push(Text::from_str(alloc, word)?)?;
-        }
+        put_word(rt, alloc, &mut words, word);
     }
-    Ok(words)
+    words
+}
+
+/// Adds a word, if it isn't empty.
+fn put_word(rt: &impl Abort, alloc: Global, words: &mut Vec<Text>, word: &str) {
+    if !word.is_empty() {
+        let word = Text::from_str(alloc, word).expect(rt, "ample memory");
+        words.push(word).expect(rt, "ample memory");
+    }
+}
+
+fn put(rt: &impl Abort, out: &mut String, text: &str) {
+    out.push_str(text).expect(rt, "ample memory");
 }
 
 /// The text with line feeds for `~`, prompts for `>` and the usage for `!`.
-fn written_out(alloc: Global, text: &str) -> Result<String, AllocError> {
+fn written_out(rt: &impl Abort, alloc: Global, text: &str) -> String {
     let mut out = String::new(alloc);
     for part in text.chars() {
-        match part {
-            '~' => out.push('\n')?,
-            '>' => out.push_str("supervisor> ")?,
-            '!' => out.push_str(USAGE)?,
-            part => out.push(part)?,
-        }
+        put_part(rt, &mut out, part);
     }
-    Ok(out)
+    out
+}
+
+/// Adds what a character stands for.
+fn put_part(rt: &impl Abort, out: &mut String, part: char) {
+    match part {
+        '~' => put(rt, out, "\n"),
+        '>' => put(rt, out, "supervisor> "),
+        '!' => put(rt, out, USAGE),
+        part => out.push(part).expect(rt, "ample memory"),
+    }
 }
 
 /// The calls that fail, by their numbers: of the shelf, the dial, each link, the input and the output.
@@ -96,279 +116,444 @@ const NONE: Failing = Failing {
     out: 0,
 };
 
-/// What a conversation came to.
+/// What a conversation is had with, and its status once it is over.
 #[derive(Drop)]
-struct Came {
-    status: u8,
+struct Conversation {
+    words: Vec<Text>,
+    host: Host,
+    shelf: MapShelf,
     dial: ScriptDial,
+    input: ListSource,
     out: ListSink,
+    status: u8,
 }
 
-/// A conversation with these words, this input and these replies, which come so many bytes at a time at most.
-fn come(
+fn bytes_of(rt: &impl Abort, alloc: Global, text: &str) -> Vec<u8> {
+    let text = written_out(rt, alloc, text);
+    Vec::from_slice(alloc, text.as_str().as_bytes()).expect(rt, "ample memory")
+}
+
+/// An input of this text, which comes so many bytes at a time at most, and whose call of this number fails.
+fn input_of(rt: &impl Abort, alloc: Global, text: &str, most: usize, call: u64) -> ListSource
+    requires { 1 ≤ most }
+{
+    let bytes = bytes_of(rt, alloc, text);
+    ListSource::new(bytes, most, one_call(rt, alloc, call))
+}
+
+/// A conversation that is to be had over these words, this input and these replies, which come so many bytes at a time at
+/// most.
+fn opened(
+    rt: &impl Abort,
     alloc: Global,
     words: &str,
     input: &str,
     replies: &str,
     most: usize,
     failing: Failing,
-) -> Result<Came, AllocError>
+) -> Conversation
     requires { 1 ≤ most }
 {
-    let words = words_of(alloc, words)?;
-    let mut shelf = shelf_of(alloc, failing.shelf)?;
-    let mut dial = dial_of(alloc, replies, most, failing.dial, failing.link)?;
-    let input = written_out(alloc, input)?;
-    let bytes = Vec::from_slice(alloc, input.as_str().as_bytes())?;
-    let mut input = ListSource::new(bytes, most, one_call(alloc, failing.input)?);
-    let mut out = ListSink::new(alloc, most, one_call(alloc, failing.out)?);
-    let status = control(
+    Conversation {
+        words: words_of(rt, alloc, words),
+        host: host(alloc),
+        shelf: shelf_of(rt, alloc, failing.shelf),
+        dial: dial_of(rt, alloc, replies, most, failing.dial, failing.link),
+        input: input_of(rt, alloc, input, most, failing.input),
+        out: ListSink::new(alloc, most, one_call(rt, alloc, failing.out)),
+        status: 0,
+    }
+}
+
+fn have(alloc: Global, conversation: &mut Conversation) {
+    conversation.status = control(
         alloc,
-        words.as_slice(),
-        &host(alloc),
-        &mut shelf,
-        &mut dial,
-        &mut input,
-        &mut out,
+        conversation.words.as_slice(),
+        &conversation.host,
+        &mut conversation.shelf,
+        &mut conversation.dial,
+        &mut conversation.input,
+        &mut conversation.out,
     );
-    Ok(Came { status, dial, out })
+}
+
+/// Such a conversation when it is over.
+fn had(
+    rt: &impl Abort,
+    alloc: Global,
+    words: &str,
+    input: &str,
+    replies: &str,
+    most: usize,
+    failing: Failing,
+) -> Conversation
+    requires { 1 ≤ most }
+{
+    let mut conversation = opened(rt, alloc, words, input, replies, most, failing);
+    have(alloc, &mut conversation);
+    conversation
+}
+
+/// A status and a text as a line.
+fn line_of(rt: &impl Abort, alloc: Global, status: u8, text: &str) -> String {
+    format!(in alloc; "{status} {text}").expect(rt, "ample memory")
 }
 
 /// What a conversation came to, as a line.
-fn told(alloc: Global, came: &Came) -> Result<String, AllocError> {
-    let status = came.status;
-    let text = String::from_utf8_lossy(alloc, came.out.written())?;
-    Ok(format!(in alloc; "{status} {text}")?)
+fn told(rt: &impl Abort, alloc: Global, conversation: &Conversation) -> String {
+    let text = String::from_utf8_lossy(alloc, conversation.out.written()).expect(
+        rt,
+        "ample memory",
+    );
+    line_of(rt, alloc, conversation.status, text.as_str())
+}
+
+/// A conversation as a line.
+fn line_of_session(
+    rt: &impl Abort,
+    alloc: Global,
+    words: &str,
+    input: &str,
+    replies: &str,
+    most: usize,
+    failing: Failing,
+) -> String
+    requires { 1 ≤ most }
+{
+    let conversation = had(rt, alloc, words, input, replies, most, failing);
+    told(rt, alloc, &conversation)
 }
 
 /// What is expected of a conversation.
-fn expected(alloc: Global, status: u8, text: &str) -> Result<String, AllocError> {
-    let text = written_out(alloc, text)?;
-    Ok(format!(in alloc; "{status} {text}")?)
+fn expected(rt: &impl Abort, alloc: Global, status: u8, text: &str) -> String {
+    let text = written_out(rt, alloc, text);
+    line_of(rt, alloc, status, text.as_str())
 }
 
-/// The methods that were called, without the front that all have, with single spaces.
-fn methods_of(alloc: Global, came: &Came) -> Result<String, AllocError> {
-    let mut out = String::new(alloc);
-    for exchange in came.dial.exchanges() {
-        let sent = String::from_utf8_lossy(alloc, exchange.sent.as_slice())?;
-        let behind = sent.as_str().split_once("<methodName>supervisor.");
-        if let Some((_, rest)) = behind {
-            if !out.as_str().is_empty() {
-                out.push(' ')?;
-            }
-            if let Some((name, _)) = rest.split_once('<') {
-                out.push_str(name)?;
-            }
-        }
-    }
-    Ok(out)
-}
-
-/// A command with these words, whose replies come so many bytes at a time at most.
-fn command_comes(alloc: Global, words: &str, replies: &str, most: usize) -> Result<Came, AllocError>
+/// The conversation has this line.
+fn has_line(
+    rt: &impl Abort,
+    alloc: Global,
+    words: &str,
+    input: &str,
+    replies: &str,
+    most: usize,
+    failing: Failing,
+    wanted: &str,
+)
     requires { 1 ≤ most }
 {
-    let line = format!(in alloc; "-s http://h:1 {words}")?;
-    come(alloc, line.as_str(), "", replies, most, NONE)
+    let line = line_of_session(rt, alloc, words, input, replies, most, failing);
+    assert_eq!(rt; line.as_str(), wanted, "{words} {input}");
 }
 
-/// What a command came to, as a line: its status, what is printed, and behind a bar the methods that were called and the
-/// count of faults.
-fn command_told(alloc: Global, came: &Came) -> Result<String, AllocError> {
-    let line = told(alloc, came)?;
-    let methods = methods_of(alloc, came)?;
-    let faults = came.dial.faults().saturating_add(came.out.faults());
-    Ok(format!(in alloc; "{line}|{methods}|{faults}")?)
+/// A conversation comes to this status and prints this text.
+fn comes_to(
+    rt: &impl Abort,
+    alloc: Global,
+    words: &str,
+    input: &str,
+    replies: &str,
+    most: usize,
+    failing: Failing,
+    status: u8,
+    text: &str,
+)
+    requires { 1 ≤ most }
+{
+    let wanted = expected(rt, alloc, status, text);
+    has_line(
+        rt,
+        alloc,
+        words,
+        input,
+        replies,
+        most,
+        failing,
+        wanted.as_str(),
+    );
+}
+
+/// Puts the method that was called, without the prefix that all have, after a space where it isn't the first behind the bar.
+fn put_method(rt: &impl Abort, line: &mut String, sent: &str) {
+    if let Some((_, rest)) = sent.split_once("<methodName>supervisor.") {
+        if !line.as_str().ends_with('|') {
+            put(rt, line, " ");
+        }
+        if let Some((name, _)) = rest.split_once('<') {
+            put(rt, line, name);
+        }
+    }
+}
+
+fn put_sent(rt: &impl Abort, alloc: Global, line: &mut String, sent: &[u8]) {
+    let sent = String::from_utf8_lossy(alloc, sent).expect(rt, "ample memory");
+    put_method(rt, line, sent.as_str());
+}
+
+fn put_methods(rt: &impl Abort, alloc: Global, line: &mut String, dial: &ScriptDial) {
+    for exchange in dial.exchanges() {
+        put_sent(rt, alloc, line, exchange.sent.as_slice());
+    }
+}
+
+fn put_count(rt: &impl Abort, line: &mut String, count: u64) {
+    write!(line, "|{count}").expect(rt, "ample memory");
+}
+
+/// What a command came to, as a line: its status, what is printed, and behind a bar the methods that were called, with single
+/// spaces, and the count of faults.
+fn command_told(rt: &impl Abort, alloc: Global, conversation: &Conversation) -> String {
+    let faults = conversation
+        .dial
+        .faults()
+        .saturating_add(conversation.out.faults());
+    let mut line = told(rt, alloc, conversation);
+    put(rt, &mut line, "|");
+    put_methods(rt, alloc, &mut line, &conversation.dial);
+    put_count(rt, &mut line, faults);
+    line
+}
+
+/// The conversation of a command, whose words come after those that name the server.
+fn command_had(
+    rt: &impl Abort,
+    alloc: Global,
+    words: &str,
+    replies: &str,
+    most: usize,
+) -> Conversation
+    requires { 1 ≤ most }
+{
+    let line = format!(in alloc; "-s http://h:1 {words}").expect(rt, "ample memory");
+    had(rt, alloc, line.as_str(), "", replies, most, NONE)
+}
+
+/// A command as a line, whose replies come so many bytes at a time at most.
+fn command_line(rt: &impl Abort, alloc: Global, words: &str, replies: &str, most: usize) -> String
+    requires { 1 ≤ most }
+{
+    let conversation = command_had(rt, alloc, words, replies, most);
+    command_told(rt, alloc, &conversation)
+}
+
+/// The command has this line.
+fn command_has_line(
+    rt: &impl Abort,
+    alloc: Global,
+    words: &str,
+    replies: &str,
+    most: usize,
+    wanted: &str,
+)
+    requires { 1 ≤ most }
+{
+    let line = command_line(rt, alloc, words, replies, most);
+    assert_eq!(rt; line.as_str(), wanted, "{words}");
 }
 
 /// What is expected of a command.
 fn command_expected(
+    rt: &impl Abort,
     alloc: Global,
     status: u8,
     text: &str,
     methods: &str,
-) -> Result<String, AllocError> {
-    let line = expected(alloc, status, text)?;
-    Ok(format!(in alloc; "{line}|{methods}|0")?)
+) -> String {
+    let mut line = expected(rt, alloc, status, text);
+    put(rt, &mut line, "|");
+    put(rt, &mut line, methods);
+    put(rt, &mut line, "|0");
+    line
 }
 
 /// A command comes to what its row says, in whatever pieces its replies come.
 fn command_is(rt: &impl Abort, alloc: Global, row: &Row) {
     let (words, replies, methods, status, text) = *row;
-    let wanted = command_expected(alloc, status, text, methods).expect(rt, "ample memory");
-    for most in [1, 100_000] {
-        let came = command_comes(alloc, words, replies, most).expect(rt, "ample memory");
-        let line = command_told(alloc, &came).expect(rt, "ample memory");
-        assert_eq!(rt; line.as_str(), wanted.as_str(), "{words}");
-    }
+    let wanted = command_expected(rt, alloc, status, text, methods);
+    command_has_line(rt, alloc, words, replies, 1, wanted.as_str());
+    command_has_line(rt, alloc, words, replies, 100_000, wanted.as_str());
 }
 
 #[test]
 fn commands_that_look_come_to_this(rt: HostRuntime) {
-    let alloc = rt.alloc();
     for row in &LOOKS {
-        command_is(&rt, alloc, row);
+        command_is(&rt, rt.alloc(), row);
     }
 }
 
 #[test]
 fn commands_that_do_something_come_to_this(rt: HostRuntime) {
-    let alloc = rt.alloc();
     for row in &DEEDS {
-        command_is(&rt, alloc, row);
+        command_is(&rt, rt.alloc(), row);
     }
-}
-
-/// Words of the options come to what their row says.
-fn options_are(rt: &impl Abort, alloc: Global, row: &(&str, u8, &str)) {
-    let (words, status, text) = *row;
-    let wanted = expected(alloc, status, text).expect(rt, "ample memory");
-    let came = come(alloc, words, "", "#7|", 100_000, NONE).expect(rt, "ample memory");
-    let line = told(alloc, &came).expect(rt, "ample memory");
-    assert_eq!(rt; line.as_str(), wanted.as_str(), "{words}");
 }
 
 #[test]
 fn options_come_to_this(rt: HostRuntime) {
-    let alloc = rt.alloc();
     for row in &OPTIONS {
-        options_are(&rt, alloc, row);
+        let (words, status, text) = *row;
+        comes_to(
+            &rt,
+            rt.alloc(),
+            words,
+            "",
+            "#7|",
+            100_000,
+            NONE,
+            status,
+            text,
+        );
     }
 }
 
 /// An input comes to what its row says, in whatever pieces it comes.
 fn input_is(rt: &impl Abort, alloc: Global, row: &(&str, &str, u8, &str)) {
     let (input, replies, status, text) = *row;
-    let wanted = expected(alloc, status, text).expect(rt, "ample memory");
-    for most in [1, 100_000] {
-        let came = come(alloc, "-s http://h:1", input, replies, most, NONE).expect(
-            rt,
-            "ample memory",
-        );
-        let line = told(alloc, &came).expect(rt, "ample memory");
-        assert_eq!(rt; line.as_str(), wanted.as_str(), "{input}");
-    }
+    comes_to(
+        rt,
+        alloc,
+        "-s http://h:1",
+        input,
+        replies,
+        1,
+        NONE,
+        status,
+        text,
+    );
+    comes_to(
+        rt,
+        alloc,
+        "-s http://h:1",
+        input,
+        replies,
+        100_000,
+        NONE,
+        status,
+        text,
+    );
 }
 
 #[test]
 fn inputs_come_to_this(rt: HostRuntime) {
-    let alloc = rt.alloc();
     for row in &TALKS {
-        input_is(&rt, alloc, row);
+        input_is(&rt, rt.alloc(), row);
     }
 }
 
 /// A conversation in which calls fail comes to what its row says.
 fn failure_is(rt: &impl Abort, alloc: Global, row: &Failure) {
     let (calls, words, input, replies, status, text) = *row;
-    let [shelf, dial, link, input_call, out] = calls;
     let failing = Failing {
-        shelf,
-        dial,
-        link,
-        input: input_call,
-        out,
+        shelf: calls[0],
+        dial: calls[1],
+        link: calls[2],
+        input: calls[3],
+        out: calls[4],
     };
-    let wanted = expected(alloc, status, text).expect(rt, "ample memory");
-    let came = come(alloc, words, input, replies, 100_000, failing).expect(rt, "ample memory");
-    let line = told(alloc, &came).expect(rt, "ample memory");
-    assert_eq!(rt; line.as_str(), wanted.as_str(), "{words}");
+    comes_to(
+        rt, alloc, words, input, replies, 100_000, failing, status, text,
+    );
 }
 
 #[test]
 fn failures_come_to_this(rt: HostRuntime) {
-    let alloc = rt.alloc();
     for row in &FAILURES {
-        failure_is(&rt, alloc, row);
+        failure_is(&rt, rt.alloc(), row);
     }
-}
-
-/// A session in pieces of so many bytes at most, of which one call fails, comes to this.
-fn session_is(
-    rt: &impl Abort,
-    alloc: Global,
-    session: &Session,
-    most: usize,
-    failing: Failing,
-    wanted: &(u8, &str),
-)
-    requires { 1 ≤ most }
-{
-    let (words, input, replies) = *session;
-    let (status, text) = *wanted;
-    let wanted = expected(alloc, status, text).expect(rt, "ample memory");
-    let came = come(alloc, words, input, replies, most, failing).expect(rt, "ample memory");
-    let line = told(alloc, &came).expect(rt, "ample memory");
-    assert_eq!(rt; line.as_str(), wanted.as_str(), "{words}");
 }
 
 #[test]
 fn each_call_of_the_output_may_fail(rt: HostRuntime) {
-    let alloc = rt.alloc();
+    let (words, input, replies) = IN_PIECES;
     let mut failing = NONE;
     for wanted in &PRINTED {
         failing.out = failing.out.saturating_add(1);
-        session_is(&rt, alloc, &IN_PIECES, 4, failing, wanted);
+        comes_to(
+            &rt,
+            rt.alloc(),
+            words,
+            input,
+            replies,
+            4,
+            failing,
+            wanted.0,
+            wanted.1,
+        );
     }
 }
 
 #[test]
 fn each_call_of_the_input_may_fail(rt: HostRuntime) {
-    let alloc = rt.alloc();
+    let (words, input, replies) = BYTE_BY_BYTE;
     let mut failing = NONE;
     for wanted in &HEARD {
         failing.input = failing.input.saturating_add(1);
-        session_is(&rt, alloc, &BYTE_BY_BYTE, 1, failing, wanted);
+        comes_to(
+            &rt,
+            rt.alloc(),
+            words,
+            input,
+            replies,
+            1,
+            failing,
+            wanted.0,
+            wanted.1,
+        );
+    }
+}
+
+/// The text before the first end of a line.
+fn first_line(text: &str) -> &str {
+    match text.split_once("\r\n") {
+        Some((line, _)) => line,
+        None => text,
     }
 }
 
 /// The name and the password that a request sends, or nothing.
 fn sent_credentials(sent: &str) -> &str {
     match sent.split_once("Authorization: Basic ") {
-        Some((_, rest)) => match rest.split_once("\r\n") {
-            Some((credentials, _)) => credentials,
-            None => rest,
-        },
+        Some((_, rest)) => first_line(rest),
         None => "",
     }
+}
+
+/// The one request that was sent.
+fn sent(rt: &impl Abort, alloc: Global, conversation: &Conversation) -> String {
+    match conversation.dial.exchanges() {
+        [exchange] => String::from_utf8_lossy(alloc, exchange.sent.as_slice()).expect(
+            rt,
+            "ample memory",
+        ),
+        _ => panic!(rt; "one call"),
+    }
+}
+
+/// The one request that is sent with these words.
+fn sent_with(rt: &impl Abort, alloc: Global, words: &str) -> String {
+    let conversation = had(rt, alloc, words, "", "#7|", 100_000, NONE);
+    sent(rt, alloc, &conversation)
 }
 
 /// What words of the options send.
 fn credentials_are(rt: &impl Abort, alloc: Global, row: &(&str, &str)) {
     let (words, wanted) = *row;
-    let came = come(alloc, words, "", "#7|", 100_000, NONE).expect(rt, "ample memory");
-    match came.dial.exchanges() {
-        [exchange] => {
-            let sent = String::from_utf8_lossy(alloc, exchange.sent.as_slice()).expect(
-                rt,
-                "ample memory",
-            );
-            assert_eq!(rt; sent_credentials(sent.as_str()), wanted, "{words}");
-        }
-        _ => assert!(rt; false, "one call"),
-    }
+    let sent = sent_with(rt, alloc, words);
+    assert_eq!(rt; sent_credentials(sent.as_str()), wanted, "{words}");
 }
 
 #[test]
 fn credentials_are_sent(rt: HostRuntime) {
-    let alloc = rt.alloc();
     for row in &CREDENTIALS {
-        credentials_are(&rt, alloc, row);
+        credentials_are(&rt, rt.alloc(), row);
     }
 }
 
 #[test]
 fn username_and_password_are_sent(rt: HostRuntime) {
-    let alloc = rt.alloc();
-    let came = come(alloc, "-u user -p abc pid", "", "#7|", 100_000, NONE).expect(
-        &rt,
-        "ample memory",
-    );
-    match came.dial.exchanges() {
-        [exchange] => assert!(&rt; exchange.sent.as_slice() == REQUEST.as_bytes()),
-        _ => assert!(&rt; false, "one call"),
-    }
+    let sent = sent_with(&rt, rt.alloc(), "-u user -p abc pid");
+    assert_eq!(&rt; sent.as_str(), REQUEST);
 }
 
 /// The calls on the link of a command in pieces of 100 bytes: three writes of its request, two reads of its reply.
@@ -376,23 +561,23 @@ const LINK_CALLS: u64 = 5;
 
 #[test]
 fn each_call_of_a_link_may_fail(rt: HostRuntime) {
-    let alloc = rt.alloc();
-    let whole = expected(alloc, 0, "x: started~").expect(&rt, "ample memory");
-    let broken = expected(alloc, 5, "http://h:1 broke off~").expect(&rt, "ample memory");
-    for call in 1..=LINK_CALLS + 1 {
-        let failing = Failing {
-            shelf: 0,
-            dial: 0,
-            link: call,
-            input: 0,
-            out: 0,
-        };
-        let came = come(alloc, "-s http://h:1 start x", "", "true|", 100, failing).expect(
-            &rt,
-            "ample memory",
-        );
-        let line = told(alloc, &came).expect(&rt, "ample memory");
-        let wanted = if call <= LINK_CALLS { &broken } else { &whole };
-        assert_eq!(&rt; line.as_str(), wanted.as_str(), "call {call}");
+    let words = "-s http://h:1 start x";
+    let mut failing = NONE;
+    for _ in 0..LINK_CALLS {
+        failing.link = failing.link.saturating_add(1);
+        let text = "http://h:1 broke off~";
+        comes_to(&rt, rt.alloc(), words, "", "true|", 100, failing, 5, text);
     }
+    failing.link = LINK_CALLS + 1;
+    comes_to(
+        &rt,
+        rt.alloc(),
+        words,
+        "",
+        "true|",
+        100,
+        failing,
+        0,
+        "x: started~",
+    );
 }
