@@ -35,32 +35,43 @@ const LINES: [(&str, &str); 23] = [
 fn words_of(rt: &impl Abort, alloc: Global, line: &str) -> Vec<Text> {
     let mut words = Vec::new(alloc);
     for word in line.split(' ') {
-        let word = Text::from_str(alloc, word).expect(rt, "memory");
-        words.push(word).expect(rt, "memory");
+        put_word(rt, alloc, &mut words, word);
     }
     words
 }
 
+fn put_word(rt: &impl Abort, alloc: Global, words: &mut Vec<Text>, word: &str) {
+    let word = Text::from_str(alloc, word).expect(rt, "memory");
+    words.push(word).expect(rt, "memory");
+}
+
+/// The file, and `+` where a journal is kept.
+fn file_told(rt: &impl Abort, alloc: Global, file: &str, journal: bool) -> String {
+    let end = if journal { "+" } else { "" };
+    format!(in alloc; "{file}{end}").expect(rt, "memory")
+}
+
 fn told(rt: &impl Abort, alloc: Global, words: &[Text]) -> String {
     match arguments_of(alloc, words).expect(rt, "memory") {
-        Some(arguments) => {
-            let mut text = String::from_str(alloc, arguments.file.as_str()).expect(rt, "memory");
-            if arguments.journal {
-                text.push('+').expect(rt, "memory");
-            }
-            text
-        }
+        Some(arguments) => file_told(rt, alloc, arguments.file.as_str(), arguments.journal),
         None => String::from_str(alloc, "-").expect(rt, "memory"),
     }
+}
+
+fn are_told(rt: &impl Abort, alloc: Global, words: &[Text], expected: &str) {
+    let text = told(rt, alloc, words);
+    assert_eq!(rt; text.as_str(), expected);
+}
+
+fn line_is(rt: &impl Abort, alloc: Global, line: &str, expected: &str) {
+    let words = words_of(rt, alloc, line);
+    are_told(rt, alloc, words.as_slice(), expected);
 }
 
 #[test]
 fn words_say_the_file_and_the_journal(rt: HostRuntime) {
     for (line, expected) in LINES {
-        let words = words_of(&rt, rt.alloc(), line);
-        let text = told(&rt, rt.alloc(), words.as_slice());
-        assert_eq!(&rt; text.as_str(), expected, "{line}");
+        line_is(&rt, rt.alloc(), line, expected);
     }
-    let text = told(&rt, rt.alloc(), &[]);
-    assert_eq!(&rt; text.as_str(), "-");
+    are_told(&rt, rt.alloc(), &[], "-");
 }

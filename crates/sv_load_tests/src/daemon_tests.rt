@@ -58,21 +58,21 @@ impl Engine for Toy {
 
     fn step(&mut self, alloc: Global, input: Input) -> Result<Vec<Order>, AllocError> {
         self.left = self.left.saturating_sub(1);
-        let mut orders = Vec::new(alloc);
-        match input {
-            Input::Tick { .. } => orders.push(Order::More { link: LinkId(1) })?,
-            Input::Signal { .. } => {
-                orders.push(Order::Close { link: LinkId(1) })?;
-                orders.push(Order::Halt)?;
-                self.halted = true;
-            }
-            _ => {}
-        }
-        Ok(orders)
+        self.halted = self.halted || matches!(&input, Input::Signal { .. });
+        orders_for(alloc, &input)
     }
 
     fn halted(&self) -> bool {
         self.halted
+    }
+}
+
+fn orders_for(alloc: Global, input: &Input) -> Result<Vec<Order>, AllocError> {
+    let link = LinkId(1);
+    match input {
+        Input::Tick { .. } => Ok(vec![in alloc; Order::More { link }]?),
+        Input::Signal { .. } => Ok(vec![in alloc; Order::Close { link }, Order::Halt]?),
+        _ => Ok(Vec::new(alloc)),
     }
 }
 
@@ -106,16 +106,25 @@ fn input_of(rt: &impl Abort, byte: u8) -> Input {
 fn script_of(rt: &impl Abort, alloc: Global, text: &str) -> Vec<Input> {
     let mut script = Vec::new(alloc);
     for byte in text.as_bytes() {
-        script.push(input_of(rt, *byte)).expect(rt, "memory");
+        put_input(rt, &mut script, *byte);
     }
     script
+}
+
+fn put_input(rt: &impl Abort, script: &mut Vec<Input>, byte: u8) {
+    let input = input_of(rt, byte);
+    script.push(input).expect(rt, "memory");
+}
+
+fn put_call(rt: &impl Abort, calls: &mut Vec<u64>, digit: u8) {
+    let call = u64::from(digit.saturating_sub(b'0'));
+    calls.push(call).expect(rt, "memory");
 }
 
 fn calls_of(rt: &impl Abort, alloc: Global, text: &str) -> Vec<u64> {
     let mut calls = Vec::new(alloc);
     for byte in text.as_bytes() {
-        let call = u64::from(byte.saturating_sub(b'0'));
-        calls.push(call).expect(rt, "memory");
+        put_call(rt, &mut calls, *byte);
     }
     calls
 }
@@ -125,46 +134,83 @@ fn world_of(rt: &impl Abort, alloc: Global, script: &str, failing: &str) -> Scri
     ScriptWorld::new(alloc, script, calls_of(rt, alloc, failing))
 }
 
-fn end_of(rt: &impl Abort, alloc: Global, end: End) -> String {
-    let word = match end {
-        End::Halted => "halted",
+/// Where a course begins: its world and its journal.
+#[derive(Drop)]
+struct Parts {
+    world: ScriptWorld,
+    journal: ListSink,
+}
+
+fn parts_of(rt: &impl Abort, alloc: Global, script: &str, failing: &str, writes: &str) -> Parts {
+    Parts {
+        world: world_of(rt, alloc, script, failing),
+        journal: ListSink::new(alloc, 64, calls_of(rt, alloc, writes)),
+    }
+}
+
+fn put(rt: &impl Abort, text: &mut String, piece: &str) {
+    text.push_str(piece).expect(rt, "memory");
+}
+
+fn put_number(rt: &impl Abort, text: &mut String, number: u64) {
+    write!(text, "misplaced {number}").expect(rt, "memory");
+}
+
+fn put_end(rt: &impl Abort, text: &mut String, end: End) {
+    match end {
+        End::Halted => put(rt, text, "halted"),
         End::NoMemory => panic!(rt; "out of memory"),
-        End::Broken => "broken",
-        End::Ended => "ended",
-        End::Full => "full",
-        End::Unwritten => "unwritten",
-        End::Misplaced(number) => {
-            return format!(in alloc; "misplaced {number}").expect(rt, "memory");
-        }
-    };
-    String::from_str(alloc, word).expect(rt, "memory")
+        End::Broken => put(rt, text, "broken"),
+        End::Ended => put(rt, text, "ended"),
+        End::Full => put(rt, text, "full"),
+        End::Unwritten => put(rt, text, "unwritten"),
+        End::Misplaced(number) => put_number(rt, text, number),
+    }
+}
+
+fn put_count(rt: &impl Abort, text: &mut String, count: usize) {
+    write!(text, " {count} ").expect(rt, "memory");
+}
+
+fn put_bytes(rt: &impl Abort, alloc: Global, text: &mut String, bytes: &[u8]) {
+    let written = String::from_utf8_lossy(alloc, bytes).expect(rt, "memory");
+    put(rt, text, written.as_str());
 }
 
 /// How the loop ends with a machine that takes so many inputs.
-fn end_after(alloc: Global, left: u64, world: &mut ScriptWorld, journal: &mut ListSink) -> End {
+fn end_after(alloc: Global, left: u64, parts: &mut Parts) -> End {
     let toy = Toy {
         left,
         halted: false,
     };
-    serve(alloc, toy, world, &Letters, journal)
+    serve(alloc, toy, &mut parts.world, &Letters, &mut parts.journal)
 }
 
 /// The end, the number of orders handed over, and the journal.
-fn told(rt: &impl Abort, alloc: Global, end: End, handed: usize, journal: &[u8]) -> String {
-    let end = end_of(rt, alloc, end);
-    let text = String::from_utf8_lossy(alloc, journal).expect(rt, "memory");
-    format!(in alloc; "{end} {handed} {text}").expect(rt, "ample memory")
+fn told(rt: &impl Abort, alloc: Global, end: End, parts: &Parts) -> String {
+    let mut text = String::new(alloc);
+    put_end(rt, &mut text, end);
+    put_count(rt, &mut text, parts.world.handed().len());
+    put_bytes(rt, alloc, &mut text, parts.journal.written());
+    text
+}
+
+fn is_told(rt: &impl Abort, alloc: Global, end: End, parts: &Parts, expected: &str) {
+    let text = told(rt, alloc, end, parts);
+    assert_eq!(rt; text.as_str(), expected);
+}
+
+/// A course comes to what its row says.
+fn course_is(rt: &impl Abort, alloc: Global, course: &(&str, u64, &str, &str, &str)) {
+    let (script, left, failing, writes, expected) = *course;
+    let mut parts = parts_of(rt, alloc, script, failing, writes);
+    let end = end_after(alloc, left, &mut parts);
+    is_told(rt, alloc, end, &parts, expected);
 }
 
 #[test]
 fn inputs_are_taken_until_the_halt(rt: HostRuntime) {
-    for (script, left, failing, writes, expected) in COURSES {
-        let mut world = world_of(&rt, rt.alloc(), script, failing);
-        let writes = calls_of(&rt, rt.alloc(), writes);
-        let mut journal = ListSink::new(rt.alloc(), 64, writes);
-        let end = end_after(rt.alloc(), left, &mut world, &mut journal);
-        let handed = world.handed().len();
-        let told = told(&rt, rt.alloc(), end, handed, journal.written());
-        assert_eq!(&rt; told.as_str(), expected);
+    for course in &COURSES {
+        course_is(&rt, rt.alloc(), course);
     }
 }

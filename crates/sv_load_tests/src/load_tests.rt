@@ -4,7 +4,7 @@ ghost use Rattle.std.specs.Prelude.{◌≡◌, None};
 use std::alloc::Global;
 use std::process::Abort;
 use sv_base::{Bytes, Host, Items, Moment, Text};
-use sv_load::{LoadFault, load};
+use sv_load::{LoadFault, Loaded, load};
 use sv_out::{MapShelf, Shelf, ShelfFault};
 
 const MAIN: &str = "[include]\nfiles=/d/*.ini /d/b* /e/x.ini\n[program:main]\ncommand=/bin/m\n";
@@ -65,10 +65,18 @@ fn add_file(rt: &impl Abort, alloc: Global, shelf: &mut MapShelf, name: &str, te
 fn names_told(rt: &impl Abort, alloc: Global, included: &[(Text, Bytes)]) -> String {
     let mut text = String::from_str(alloc, "read").expect(rt, "memory");
     for file in included {
-        text.push(' ').expect(rt, "memory");
-        text.push_str(file.0.as_str()).expect(rt, "memory");
+        put_name(rt, &mut text, file.0.as_str());
     }
     text
+}
+
+fn put_name(rt: &impl Abort, text: &mut String, name: &str) {
+    text.push(' ').expect(rt, "memory");
+    text.push_str(name).expect(rt, "memory");
+}
+
+fn joined(rt: &impl Abort, alloc: Global, word: &str, rest: &str) -> String {
+    format!(in alloc; "{word} {rest}").expect(rt, "memory")
 }
 
 fn fault_told(rt: &impl Abort, alloc: Global, fault: &LoadFault) -> String {
@@ -76,23 +84,30 @@ fn fault_told(rt: &impl Abort, alloc: Global, fault: &LoadFault) -> String {
         LoadFault::Missing => String::from_str(alloc, "missing").expect(rt, "memory"),
         LoadFault::Refused(fault) => {
             let fault = fault.text(alloc).expect(rt, "memory");
-            let fault = fault.as_str();
-            format!(in alloc; "refused {fault}").expect(rt, "memory")
+            joined(rt, alloc, "refused", fault.as_str())
         }
-        LoadFault::Failed(name) => {
-            let name = name.as_str();
-            format!(in alloc; "failed {name}").expect(rt, "memory")
-        }
+        LoadFault::Failed(name) => joined(rt, alloc, "failed", name.as_str()),
         LoadFault::OutOfMemory => panic!(rt; "out of memory"),
     }
 }
 
+/// The configuration of `/s.conf`.
+fn loaded<S: Shelf>(alloc: Global, shelf: &mut S) -> Result<Loaded, LoadFault> {
+    let host = host(alloc);
+    load(alloc, "/s.conf", &host, shelf)
+}
+
 /// What is told of the configuration of `/s.conf`.
 fn told<S: Shelf>(rt: &impl Abort, alloc: Global, shelf: &mut S) -> String {
-    match load(alloc, "/s.conf", &host(alloc), shelf) {
+    match loaded(alloc, shelf) {
         Ok(loaded) => names_told(rt, alloc, loaded.included.as_slice()),
         Err(fault) => fault_told(rt, alloc, &fault),
     }
+}
+
+fn is_told<S: Shelf>(rt: &impl Abort, alloc: Global, shelf: &mut S, expected: &str) {
+    let text = told(rt, alloc, shelf);
+    assert_eq!(rt; text.as_str(), expected);
 }
 
 fn failing_at(rt: &impl Abort, alloc: Global, call: u64) -> MapShelf {
@@ -110,30 +125,38 @@ fn files_failing_at(rt: &impl Abort, alloc: Global, call: u64) -> MapShelf {
     shelf
 }
 
+/// The call of this number fails, if there is one.
+fn failure_is(rt: &impl Abort, alloc: Global, call: u64, expected: &str) {
+    let mut shelf = files_failing_at(rt, alloc, call);
+    is_told(rt, alloc, &mut shelf, expected);
+    let failed = if call < 8 { 1 } else { 0 };
+    assert!(rt; shelf.faults() == failed, "call {call}");
+}
+
 #[test]
 fn each_listed_file_is_read_once(rt: HostRuntime) {
     for (call, expected) in FAILURES {
-        let mut shelf = files_failing_at(&rt, rt.alloc(), call);
-        let text = told(&rt, rt.alloc(), &mut shelf);
-        assert_eq!(&rt; text.as_str(), expected, "call {call}");
-        let failed = if call < 8 { 1 } else { 0 };
-        assert!(&rt; shelf.faults() == failed, "call {call}");
+        failure_is(&rt, rt.alloc(), call, expected);
     }
+}
+
+/// The second call fails, if there is one.
+fn refusal_is(rt: &impl Abort, alloc: Global, refused: &(&str, &str, &str, u64)) {
+    let (main, text, expected, faults) = *refused;
+    let mut shelf = failing_at(rt, alloc, 2);
+    add_file(rt, alloc, &mut shelf, "/s.conf", main);
+    add_file(rt, alloc, &mut shelf, "/d/a", text);
+    is_told(rt, alloc, &mut shelf, expected);
+    assert!(rt; shelf.faults() == faults, "{main}");
 }
 
 #[test]
 fn faults_of_the_main_text_are_told_before_any_pattern(rt: HostRuntime) {
-    for (main, text, expected, faults) in REFUSED {
-        let mut shelf = failing_at(&rt, rt.alloc(), 2);
-        add_file(&rt, rt.alloc(), &mut shelf, "/s.conf", main);
-        add_file(&rt, rt.alloc(), &mut shelf, "/d/a", text);
-        let text = told(&rt, rt.alloc(), &mut shelf);
-        assert_eq!(&rt; text.as_str(), expected);
-        assert!(&rt; shelf.faults() == faults, "{main}");
+    for refused in &REFUSED {
+        refusal_is(&rt, rt.alloc(), refused);
     }
     let mut empty = failing_at(&rt, rt.alloc(), 9);
-    let text = told(&rt, rt.alloc(), &mut empty);
-    assert_eq!(&rt; text.as_str(), "missing");
+    is_told(&rt, rt.alloc(), &mut empty, "missing");
 }
 
 /// A shelf that lists the files of another one, all of which are gone when they are read, but for the main file.
@@ -192,6 +215,6 @@ impl Shelf for Vanishing {
 fn a_listed_file_that_is_gone_is_left_out(rt: HostRuntime) {
     let mut listed = failing_at(&rt, rt.alloc(), 9);
     add_file(&rt, rt.alloc(), &mut listed, "/d/gone.ini", "[gone");
-    let text = told(&rt, rt.alloc(), &mut Vanishing { listed });
-    assert_eq!(&rt; text.as_str(), "read");
+    let mut vanishing = Vanishing { listed };
+    is_told(&rt, rt.alloc(), &mut vanishing, "read");
 }

@@ -48,27 +48,46 @@ fn sink(rt: &impl Abort, alloc: Global, call: u64) -> ListSink {
     ListSink::new(alloc, 7, failing)
 }
 
+/// The status that is told of an outcome.
+fn status_told(alloc: Global, letter: u8, out: &mut ListSink) -> u8 {
+    let outcome = outcome_of(letter);
+    outcome.tell(alloc, out)
+}
+
+fn is_text(rt: &impl Abort, alloc: Global, bytes: &[u8], expected: &str) {
+    let text = String::from_utf8_lossy(alloc, bytes).expect(rt, "memory");
+    assert_eq!(rt; text.as_str(), expected);
+}
+
+fn leaves(rt: &impl Abort, alloc: Global, letter: u8, status: u8, line: &str) {
+    let mut out = sink(rt, alloc, 0);
+    let told = status_told(alloc, letter, &mut out);
+    assert_eq!(rt; told, status, "{letter}");
+    is_text(rt, alloc, out.written(), line);
+}
+
 #[test]
 fn each_outcome_leaves_its_line(rt: HostRuntime) {
     for (letter, status, line) in OUTCOMES {
-        let outcome = outcome_of(letter);
-        let mut out = sink(&rt, rt.alloc(), 0);
-        let told = outcome.tell(rt.alloc(), &mut out);
-        assert_eq!(&rt; told, status, "{letter}");
-        let written = String::from_utf8_lossy(rt.alloc(), out.written()).expect(&rt, "memory");
-        assert_eq!(&rt; written.as_str(), line);
+        leaves(&rt, rt.alloc(), letter, status, line);
     }
+}
+
+/// Where the second write fails, so much is written, and this status is told.
+fn fails(rt: &impl Abort, alloc: Global, letter: u8, status: u8, length: usize) {
+    let mut out = sink(rt, alloc, 2);
+    let told = status_told(alloc, letter, &mut out);
+    assert_eq!(rt; told, status, "{letter}");
+    assert!(rt; out.written().len() == length, "{letter}");
 }
 
 #[test]
 fn a_line_that_cannot_be_written_gives_7(rt: HostRuntime) {
     for (letter, status, line) in OUTCOMES {
-        let outcome = outcome_of(letter);
-        let mut out = sink(&rt, rt.alloc(), 2);
-        let told = outcome.tell(rt.alloc(), &mut out);
-        let expected = if line.is_empty() { status } else { 7 };
-        assert_eq!(&rt; told, expected, "{letter}");
-        let length = if line.is_empty() { 0usize } else { 7 };
-        assert!(&rt; out.written().len() == length, "{letter}");
+        if line.is_empty() {
+            fails(&rt, rt.alloc(), letter, status, 0);
+        } else {
+            fails(&rt, rt.alloc(), letter, 7, 7);
+        }
     }
 }

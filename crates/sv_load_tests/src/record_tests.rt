@@ -16,59 +16,102 @@ const SHORT: &str =
 const LONG: &str =
     "supervisor-journal 1\nhost a%20b\nhere /etc\npid 7\nenv A %\nenv B %25\nsize /l 12\nconf %\ninclude /d/a x%0A\ninclude /d/b %\ngo 5\n";
 
-fn pairs(
-    rt: &impl Abort,
-    alloc: Global,
-    texts: &[(&'static str, &'static str)],
-) -> Items<(Text, Text)> {
-    let mut pairs = Items::new(alloc);
-    for pair in texts {
-        pairs
-            .push((Text::fixed(pair.0), Text::fixed(pair.1)))
-            .expect(rt, "memory");
-    }
-    pairs
+/// What a header is of.
+#[derive(Drop)]
+struct Beginning {
+    host: Host,
+    sizes: Vec<(Text, u64)>,
+    main: Bytes,
+    included: Vec<(Text, Bytes)>,
 }
 
 fn bytes(rt: &impl Abort, alloc: Global, text: &str) -> Bytes {
     Bytes::from_slice(alloc, text.as_bytes()).expect(rt, "memory")
 }
 
-fn short_header(rt: &impl Abort, alloc: Global) -> Vec<u8> {
-    let host = Host {
+fn header(rt: &impl Abort, alloc: Global, beginning: &Beginning) -> Vec<u8> {
+    header_text(
+        alloc,
+        &beginning.host,
+        beginning.sizes.as_slice(),
+        &beginning.main,
+        beginning.included.as_slice(),
+    )
+    .expect(rt, "memory")
+}
+
+fn short_host(alloc: Global) -> Host {
+    Host {
         name: Text::fixed("h"),
         here: Text::fixed("/"),
         pid: 1,
         environment: Items::new(alloc),
         start: Moment::zero(),
-    };
-    let main = bytes(rt, alloc, "[supervisord]\nlogfile=NONE\n");
-    header_text(alloc, &host, &[], &main, &[]).expect(rt, "memory")
+    }
+}
+
+fn short_beginning(rt: &impl Abort, alloc: Global) -> Beginning {
+    Beginning {
+        host: short_host(alloc),
+        sizes: Vec::new(alloc),
+        main: bytes(rt, alloc, "[supervisord]\nlogfile=NONE\n"),
+        included: Vec::new(alloc),
+    }
+}
+
+fn term(rt: &impl Abort) -> Input {
+    Input::Signal {
+        at: Moment::zero(),
+        signal: DaemonSignal::new(Signal::Term).expect(rt, "a signal that the daemon takes"),
+    }
+}
+
+fn put_lines(rt: &impl Abort, told: &mut String, lines: JournalLines) {
+    let input = term(rt);
+    lines.put_input(&input, told).expect(rt, "memory");
+    lines.put_order(&Order::Halt, told).expect(rt, "memory");
 }
 
 /// The lines of TERM and of the halt, where a journal is kept and where none is.
 fn lines(rt: &impl Abort, alloc: Global) -> String {
-    let signal = DaemonSignal::new(Signal::Term).expect(rt, "a signal that the daemon takes");
-    let input = Input::Signal {
-        at: Moment::zero(),
-        signal,
-    };
     let mut told = String::new(alloc);
-    for lines in [JournalLines::Kept, JournalLines::Quiet] {
-        lines.put_input(&input, &mut told).expect(rt, "memory");
-        lines
-            .put_order(&Order::Halt, &mut told)
-            .expect(rt, "memory");
-    }
+    put_lines(rt, &mut told, JournalLines::Kept);
+    put_lines(rt, &mut told, JournalLines::Quiet);
     told
+}
+
+fn put_bytes(rt: &impl Abort, text: &mut Vec<u8>, bytes: &[u8]) {
+    text.extend_from_slice(bytes).expect(rt, "memory");
+}
+
+fn short_header(rt: &impl Abort, alloc: Global) -> Vec<u8> {
+    let beginning = short_beginning(rt, alloc);
+    header(rt, alloc, &beginning)
 }
 
 fn short(rt: &impl Abort, alloc: Global) -> Vec<u8> {
     let mut text = short_header(rt, alloc);
     let told = lines(rt, alloc);
-    text.extend_from_slice(told.as_str().as_bytes())
-        .expect(rt, "memory");
+    put_bytes(rt, &mut text, told.as_str().as_bytes());
     text
+}
+
+fn put_variable(
+    rt: &impl Abort,
+    environment: &mut Items<(Text, Text)>,
+    name: &'static str,
+    value: &'static str,
+) {
+    environment
+        .push((Text::fixed(name), Text::fixed(value)))
+        .expect(rt, "memory");
+}
+
+fn environment(rt: &impl Abort, alloc: Global) -> Items<(Text, Text)> {
+    let mut environment = Items::new(alloc);
+    put_variable(rt, &mut environment, "A", "");
+    put_variable(rt, &mut environment, "B", "%");
+    environment
 }
 
 fn long_host(rt: &impl Abort, alloc: Global) -> Host {
@@ -76,20 +119,54 @@ fn long_host(rt: &impl Abort, alloc: Global) -> Host {
         name: Text::fixed("a b"),
         here: Text::fixed("/etc"),
         pid: 7,
-        environment: pairs(rt, alloc, &[("A", ""), ("B", "%")]),
+        environment: environment(rt, alloc),
         start: Moment::new(5).expect(rt, "a moment"),
     }
 }
 
+fn put_size(rt: &impl Abort, sizes: &mut Vec<(Text, u64)>, file: &'static str, size: u64) {
+    sizes.push((Text::fixed(file), size)).expect(rt, "memory");
+}
+
+fn sizes(rt: &impl Abort, alloc: Global) -> Vec<(Text, u64)> {
+    let mut sizes = Vec::new(alloc);
+    put_size(rt, &mut sizes, "/k", 0);
+    put_size(rt, &mut sizes, "/l", 12);
+    sizes
+}
+
+fn put_included(
+    rt: &impl Abort,
+    alloc: Global,
+    included: &mut Vec<(Text, Bytes)>,
+    file: &'static str,
+    text: &str,
+) {
+    let bytes = bytes(rt, alloc, text);
+    included
+        .push((Text::fixed(file), bytes))
+        .expect(rt, "memory");
+}
+
+fn included(rt: &impl Abort, alloc: Global) -> Vec<(Text, Bytes)> {
+    let mut included = Vec::new(alloc);
+    put_included(rt, alloc, &mut included, "/d/a", "x\n");
+    put_included(rt, alloc, &mut included, "/d/b", "");
+    included
+}
+
+fn long_beginning(rt: &impl Abort, alloc: Global) -> Beginning {
+    Beginning {
+        host: long_host(rt, alloc),
+        sizes: sizes(rt, alloc),
+        main: bytes(rt, alloc, ""),
+        included: included(rt, alloc),
+    }
+}
+
 fn long(rt: &impl Abort, alloc: Global) -> Vec<u8> {
-    let host = long_host(rt, alloc);
-    let sizes = [(Text::fixed("/k"), 0u64), (Text::fixed("/l"), 12u64)];
-    let included = [
-        (Text::fixed("/d/a"), bytes(rt, alloc, "x\n")),
-        (Text::fixed("/d/b"), bytes(rt, alloc, "")),
-    ];
-    let main = bytes(rt, alloc, "");
-    header_text(alloc, &host, &sizes, &main, &included).expect(rt, "memory")
+    let beginning = long_beginning(rt, alloc);
+    header(rt, alloc, &beginning)
 }
 
 /// The bytes are those of this text.
@@ -99,9 +176,13 @@ fn is_text(rt: &impl Abort, alloc: Global, bytes: &[u8], expected: &str) {
 }
 
 #[test]
-fn a_daemon_s_journal_is_its_header_and_its_lines(rt: HostRuntime) {
+fn the_journal_of_a_short_run_is_its_header_and_its_lines(rt: HostRuntime) {
     let bytes = short(&rt, rt.alloc());
     is_text(&rt, rt.alloc(), bytes.as_slice(), SHORT);
+}
+
+#[test]
+fn a_header_tells_of_the_host_the_sizes_and_the_texts(rt: HostRuntime) {
     let bytes = long(&rt, rt.alloc());
     is_text(&rt, rt.alloc(), bytes.as_slice(), LONG);
 }

@@ -55,12 +55,17 @@ fn shelf_of(rt: &impl Abort, alloc: Global, failing: u64) -> MapShelf {
 fn words_of(rt: &impl Abort, alloc: Global, text: &str) -> Vec<Text> {
     let mut words = Vec::new(alloc);
     for word in text.split(' ') {
-        if !word.is_empty() {
-            let word = Text::from_str(alloc, word).expect(rt, "memory");
-            words.push(word).expect(rt, "memory");
-        }
+        put_word(rt, alloc, &mut words, word);
     }
     words
+}
+
+/// Adds a word, if it isn't empty.
+fn put_word(rt: &impl Abort, alloc: Global, words: &mut Vec<Text>, word: &str) {
+    if !word.is_empty() {
+        let word = Text::from_str(alloc, word).expect(rt, "memory");
+        words.push(word).expect(rt, "memory");
+    }
 }
 
 fn put(rt: &impl Abort, text: &mut String, piece: &str) {
@@ -105,10 +110,29 @@ fn host(alloc: Global) -> Host {
     }
 }
 
+/// What the servers are read from.
+#[derive(Drop)]
+struct Parts {
+    words: Vec<Text>,
+    host: Host,
+    shelf: MapShelf,
+}
+
+fn parts_of(rt: &impl Abort, alloc: Global, words: &str, failing: u64) -> Parts {
+    Parts {
+        words: words_of(rt, alloc, words),
+        host: host(alloc),
+        shelf: shelf_of(rt, alloc, failing),
+    }
+}
+
+fn servers_in(rt: &impl Abort, alloc: Global, parts: &mut Parts) -> Items<ServerSpec> {
+    servers(alloc, parts.words.as_slice(), &parts.host, &mut parts.shelf).expect(rt, "memory")
+}
+
 fn servers_of(rt: &impl Abort, alloc: Global, words: &str, failing: u64) -> Items<ServerSpec> {
-    let words = words_of(rt, alloc, words);
-    let mut shelf = shelf_of(rt, alloc, failing);
-    servers(alloc, words.as_slice(), &host(alloc), &mut shelf).expect(rt, "memory")
+    let mut parts = parts_of(rt, alloc, words, failing);
+    servers_in(rt, alloc, &mut parts)
 }
 
 fn servers_said(rt: &impl Abort, alloc: Global, words: &str, failing: u64) -> String {
@@ -120,10 +144,14 @@ fn servers_said(rt: &impl Abort, alloc: Global, words: &str, failing: u64) -> St
     text
 }
 
+fn row_is(rt: &impl Abort, alloc: Global, words: &str, failing: u64, expected: &str) {
+    let text = servers_said(rt, alloc, words, failing);
+    assert_eq!(rt; text.as_str(), expected, "{words} {failing}");
+}
+
 #[test]
 fn servers_are_those_of_the_configuration(rt: HostRuntime) {
     for (words, failing, expected) in ROWS {
-        let text = servers_said(&rt, rt.alloc(), words, failing);
-        assert_eq!(&rt; text.as_str(), expected, "{words} {failing}");
+        row_is(&rt, rt.alloc(), words, failing, expected);
     }
 }

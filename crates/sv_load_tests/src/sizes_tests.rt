@@ -58,37 +58,51 @@ fn process(rt: &impl Abort, alloc: Global, stderr: Option<&'static str>) -> Spec
     }
 }
 
+fn members(rt: &impl Abort, alloc: Global, stderr: Option<&'static str>) -> Items<Spec> {
+    let mut members = Items::new(alloc);
+    let process = process(rt, alloc, stderr);
+    members.push(process).expect(rt, "ample memory");
+    members
+}
+
 fn group(
     rt: &impl Abort,
     alloc: Global,
     name: &'static str,
     stderr: Option<&'static str>,
 ) -> GroupSpec {
-    let mut members = Items::new(alloc);
-    members
-        .push(process(rt, alloc, stderr))
-        .expect(rt, "ample memory");
     GroupSpec {
         name: Text::fixed(name),
         priority: 999,
-        members,
+        members: members(rt, alloc, stderr),
         pool: None,
     }
 }
 
-fn config(rt: &impl Abort, alloc: Global) -> Config {
+fn groups(rt: &impl Abort, alloc: Global) -> Groups {
     let mut groups = Vec::new(alloc);
-    groups
-        .push(group(rt, alloc, "g", Some("/e")))
-        .expect(rt, "ample memory");
-    groups
-        .push(group(rt, alloc, "h", None))
-        .expect(rt, "ample memory");
+    put_group(rt, alloc, &mut groups, "g", Some("/e"));
+    put_group(rt, alloc, &mut groups, "h", None);
+    Groups::new(groups).expect(rt, "a roster")
+}
+
+fn put_group(
+    rt: &impl Abort,
+    alloc: Global,
+    groups: &mut Vec<GroupSpec>,
+    name: &'static str,
+    stderr: Option<&'static str>,
+) {
+    let group = group(rt, alloc, name, stderr);
+    groups.push(group).expect(rt, "ample memory");
+}
+
+fn config(rt: &impl Abort, alloc: Global) -> Config {
     Config {
         identifier: Text::fixed("sv"),
         main: log(rt, Some("/m")),
         level: Level::Info,
-        groups: Groups::new(groups).expect(rt, "a roster"),
+        groups: groups(rt, alloc),
         servers: Items::new(alloc),
         client: ClientSpec {
             url: Text::fixed(""),
@@ -110,9 +124,9 @@ fn shelf(rt: &impl Abort, alloc: Global, call: u64) -> MapShelf {
     let mut failing = Vec::new(alloc);
     failing.push(call).expect(rt, "memory");
     let mut shelf = MapShelf::new(alloc, failing);
-    for (name, held) in [("/m", "abc"), ("/p", "0123456789"), ("/x", "x")] {
-        put(rt, alloc, &mut shelf, name, held);
-    }
+    put(rt, alloc, &mut shelf, "/m", "abc");
+    put(rt, alloc, &mut shelf, "/p", "0123456789");
+    put(rt, alloc, &mut shelf, "/x", "x");
     shelf
 }
 
@@ -120,35 +134,45 @@ fn shelf(rt: &impl Abort, alloc: Global, call: u64) -> MapShelf {
 fn sizes_told(rt: &impl Abort, alloc: Global, sizes: &[(Text, u64)]) -> String {
     let mut text = String::new(alloc);
     for (file, size) in sizes {
-        if !text.is_empty() {
-            text.push(' ').expect(rt, "memory");
-        }
-        let file = file.as_str();
-        let told = format!(in alloc; "{file}={size}").expect(rt, "memory");
-        text.push_str(told.as_str()).expect(rt, "memory");
+        put_size(rt, &mut text, file.as_str(), *size);
     }
     text
+}
+
+/// Adds a size, after a space where others stand before it.
+fn put_size(rt: &impl Abort, text: &mut String, file: &str, size: u64) {
+    let before = if text.is_empty() { "" } else { " " };
+    write!(text, "{before}{file}={size}").expect(rt, "memory");
+}
+
+fn failure_told(rt: &impl Abort, alloc: Global, file: &str) -> String {
+    format!(in alloc; "failed {file}").expect(rt, "memory")
 }
 
 fn told(rt: &impl Abort, alloc: Global, config: &Config, shelf: &mut MapShelf) -> String {
     match sizes_of(alloc, config, shelf) {
         Ok(sizes) => sizes_told(rt, alloc, sizes.as_slice()),
-        Err(SizesFault::Failed(file)) => {
-            let file = file.as_str();
-            format!(in alloc; "failed {file}").expect(rt, "memory")
-        }
+        Err(SizesFault::Failed(file)) => failure_told(rt, alloc, file.as_str()),
         Err(SizesFault::OutOfMemory) => panic!(rt; "out of memory"),
     }
+}
+
+fn is_told(rt: &impl Abort, alloc: Global, config: &Config, shelf: &mut MapShelf, expected: &str) {
+    let text = told(rt, alloc, config, shelf);
+    assert_eq!(rt; text.as_str(), expected);
+}
+
+fn call_is(rt: &impl Abort, alloc: Global, config: &Config, call: u64, expected: &str) {
+    let mut shelf = shelf(rt, alloc, call);
+    is_told(rt, alloc, config, &mut shelf, expected);
+    let failed = if call == 0 { 0 } else { 1 };
+    assert!(rt; shelf.faults() == failed, "{call}");
 }
 
 #[test]
 fn each_log_file_is_asked_once(rt: HostRuntime) {
     let config = config(&rt, rt.alloc());
     for (call, expected) in TOLD {
-        let mut shelf = shelf(&rt, rt.alloc(), call);
-        let text = told(&rt, rt.alloc(), &config, &mut shelf);
-        assert_eq!(&rt; text.as_str(), expected, "{call}");
-        let failed = if call == 0 { 0 } else { 1 };
-        assert!(&rt; shelf.faults() == failed, "{call}");
+        call_is(&rt, rt.alloc(), &config, call, expected);
     }
 }

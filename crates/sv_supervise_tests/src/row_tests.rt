@@ -1,7 +1,7 @@
 //! Journals as daemons, whose own journals are replayed: the same orders both times.
 
 use crate::rows::{ROWS, Row};
-use std::alloc::{AllocError, Global};
+use std::alloc::Global;
 use std::process::Abort;
 use sv_base::{Bytes, Host, Items, Moment, Text};
 use sv_journal::{read_input, write_order};
@@ -27,75 +27,153 @@ fn host(rt: &impl Abort, alloc: Global, start: u64) -> Host {
     }
 }
 
-fn words(alloc: Global, words: &[&'static str]) -> Result<Vec<Text>, AllocError> {
+fn words(rt: &impl Abort, alloc: Global, words: &[&'static str]) -> Vec<Text> {
     let mut texts = Vec::new(alloc);
     for word in words {
-        texts.push(Text::fixed(word))?;
+        texts.push(Text::fixed(word)).expect(rt, "memory");
     }
-    Ok(texts)
+    texts
 }
 
-fn shelf(alloc: Global, conf: &str) -> Result<MapShelf, AllocError> {
+fn shelf(rt: &impl Abort, alloc: Global, conf: &str) -> MapShelf {
     let mut shelf = MapShelf::new(alloc, Vec::new(alloc));
-    let bytes = Bytes::from_slice(alloc, conf.as_bytes())?;
-    shelf.set(Text::fixed("/s.conf"), bytes)?;
-    Ok(shelf)
+    put_file(rt, alloc, &mut shelf, conf);
+    shelf
 }
 
-fn script(rt: &impl Abort, alloc: Global, lines: &str) -> Result<Vec<Input>, AllocError> {
+fn put_file(rt: &impl Abort, alloc: Global, shelf: &mut MapShelf, conf: &str) {
+    let bytes = Bytes::from_slice(alloc, conf.as_bytes()).expect(rt, "memory");
+    shelf
+        .set(Text::fixed("/s.conf"), bytes)
+        .expect(rt, "memory");
+}
+
+/// Adds the input of a line, if it isn't empty.
+fn put_input(rt: &impl Abort, alloc: Global, script: &mut Vec<Input>, line: &str) {
+    if !line.is_empty() {
+        let input = read_input(alloc, line.as_bytes()).expect(rt, "an input's line");
+        script.push(input).expect(rt, "memory");
+    }
+}
+
+fn script(rt: &impl Abort, alloc: Global, lines: &str) -> Vec<Input> {
     let mut script = Vec::new(alloc);
     for line in lines.split('\n') {
-        if !line.is_empty() {
-            script.push(read_input(alloc, line.as_bytes()).expect(rt, "an input's line"))?;
-        }
+        put_input(rt, alloc, &mut script, line);
     }
-    Ok(script)
+    script
 }
 
-fn text_of(alloc: Global, orders: &[Order]) -> Result<String, AllocError> {
+fn put_order(rt: &impl Abort, alloc: Global, text: &mut String, order: &Order) {
+    let line = write_order(alloc, order).expect(rt, "memory");
+    text.push_str(line.as_str()).expect(rt, "memory");
+    text.push('\n').expect(rt, "memory");
+}
+
+fn text_of(rt: &impl Abort, alloc: Global, orders: &[Order]) -> String {
     let mut text = String::new(alloc);
     for order in orders {
-        text.push_str(write_order(alloc, order)?.as_str())?;
-        text.push('\n')?;
+        put_order(rt, alloc, &mut text, order);
     }
-    Ok(text)
+    text
+}
+
+/// What a daemon is called with.
+#[derive(Drop)]
+struct Parts {
+    words: Vec<Text>,
+    host: Host,
+    shelf: MapShelf,
+    world: ScriptWorld,
+    journal: ListSink,
+    out: ListSink,
+}
+
+fn parts_of(rt: &impl Abort, alloc: Global, row: &Row) -> Parts {
+    Parts {
+        words: words(rt, alloc, &["-c", "/s.conf", "--journal"]),
+        host: host(rt, alloc, row.start),
+        shelf: shelf(rt, alloc, row.conf),
+        world: ScriptWorld::new(alloc, script(rt, alloc, row.inputs), Vec::new(alloc)),
+        journal: ListSink::new(alloc, ROOM, Vec::new(alloc)),
+        out: ListSink::new(alloc, ROOM, Vec::new(alloc)),
+    }
+}
+
+/// The status of a daemon over these parts.
+fn status_of(alloc: Global, parts: &mut Parts) -> u8 {
+    supervise(
+        alloc,
+        parts.words.as_slice(),
+        &parts.host,
+        &mut parts.shelf,
+        &mut parts.world,
+        &mut parts.journal,
+        &mut parts.out,
+    )
+}
+
+/// The orders are those of the row.
+fn orders_are(rt: &impl Abort, alloc: Global, row: &Row, orders: &[Order]) {
+    let handed = text_of(rt, alloc, orders);
+    assert_eq!(rt; handed.as_str(), row.orders, "{}", row.name);
+}
+
+/// What a replay is called with.
+#[derive(Drop)]
+struct ReplayParts {
+    words: Vec<Text>,
+    source: ListSource,
+    lines: ListSink,
+}
+
+fn source(rt: &impl Abort, alloc: Global, journal: &[u8]) -> ListSource {
+    let bytes = Vec::from_slice(alloc, journal).expect(rt, "memory");
+    ListSource::new(bytes, 4_096, Vec::new(alloc))
+}
+
+fn replay_of(rt: &impl Abort, alloc: Global, journal: &[u8]) -> ReplayParts {
+    ReplayParts {
+        words: words(rt, alloc, &["run"]),
+        source: source(rt, alloc, journal),
+        lines: ListSink::new(alloc, ROOM, Vec::new(alloc)),
+    }
+}
+
+/// The status of a replay of these parts.
+fn replayed(alloc: Global, parts: &mut ReplayParts) -> u8 {
+    replay(
+        alloc,
+        parts.words.as_slice(),
+        &mut parts.source,
+        &mut parts.lines,
+    )
+}
+
+/// A replay of a journal writes the lines of the row's orders.
+fn is_replayed(rt: &impl Abort, alloc: Global, row: &Row, journal: &[u8]) {
+    let mut parts = replay_of(rt, alloc, journal);
+    assert_eq!(rt; replayed(alloc, &mut parts), 0, "{}", row.name);
+    assert!(rt;
+        parts.lines.written() == row.orders.as_bytes(),
+        "{}",
+        row.name
+    );
 }
 
 /// A daemon ends where its orders say, and hands over its orders; a replay of its journal writes their lines.
-fn run(rt: &impl Abort, alloc: Global, row: &Row) -> Result<(), AllocError> {
-    let mut world = ScriptWorld::new(alloc, script(rt, alloc, row.inputs)?, Vec::new(alloc));
-    let mut journal = ListSink::new(alloc, ROOM, Vec::new(alloc));
-    let mut out = ListSink::new(alloc, ROOM, Vec::new(alloc));
-    let status = supervise(
-        alloc,
-        words(alloc, &["-c", "/s.conf", "--journal"])?.as_slice(),
-        &host(rt, alloc, row.start),
-        &mut shelf(alloc, row.conf)?,
-        &mut world,
-        &mut journal,
-        &mut out,
-    );
+fn run(rt: &impl Abort, alloc: Global, row: &Row) {
+    let mut parts = parts_of(rt, alloc, row);
+    let status = status_of(alloc, &mut parts);
     let ends = row.orders.ends_with("halt\n");
     assert_eq!(rt; status, if ends { 0 } else { 5 }, "{}", row.name);
-    let handed = text_of(alloc, world.handed())?;
-    assert_eq!(rt; handed.as_str(), row.orders, "{}", row.name);
-    let bytes = Vec::from_slice(alloc, journal.written())?;
-    let mut source = ListSource::new(bytes, 4_096, Vec::new(alloc));
-    let mut lines = ListSink::new(alloc, ROOM, Vec::new(alloc));
-    let replayed = replay(
-        alloc,
-        words(alloc, &["run"])?.as_slice(),
-        &mut source,
-        &mut lines,
-    );
-    assert_eq!(rt; replayed, 0, "{}", row.name);
-    assert!(rt; lines.written() == row.orders.as_bytes(), "{}", row.name);
-    Ok(())
+    orders_are(rt, alloc, row, parts.world.handed());
+    is_replayed(rt, alloc, row, parts.journal.written());
 }
 
 #[test]
 fn daemons_do_what_their_journals_say(rt: HostRuntime) {
     for row in &ROWS {
-        run(&rt, rt.alloc(), row).expect(&rt, "ample memory");
+        run(&rt, rt.alloc(), row);
     }
 }

@@ -1,7 +1,7 @@
 //! Daemons over worlds, shelves, journals and outputs in memory.
 
-use crate::courses::COURSES;
-use std::alloc::{AllocError, Global};
+use crate::courses::{COURSES, Course};
+use std::alloc::Global;
 use std::process::Abort;
 use sv_base::{Bytes, DaemonSignal, Host, Items, Moment, Signal, Text};
 use sv_out::MapShelf;
@@ -50,126 +50,171 @@ fn host(alloc: Global) -> Host {
     }
 }
 
-fn one_call(alloc: Global, call: u64) -> Result<Vec<u64>, AllocError> {
+fn one_call(rt: &impl Abort, alloc: Global, call: u64) -> Vec<u64> {
     let mut calls = Vec::new(alloc);
-    calls.push(call)?;
-    Ok(calls)
+    calls.push(call).expect(rt, "memory");
+    calls
 }
 
-fn shelf_of(alloc: Global, failing: u64) -> Result<MapShelf, AllocError> {
-    let mut shelf = MapShelf::new(alloc, one_call(alloc, failing)?);
+fn add_file(rt: &impl Abort, alloc: Global, shelf: &mut MapShelf, name: &str, text: &str) {
+    let bytes = Bytes::from_slice(alloc, text.as_bytes()).expect(rt, "memory");
+    let name = Text::from_str(alloc, name).expect(rt, "memory");
+    shelf.set(name, bytes).expect(rt, "memory");
+}
+
+fn shelf_of(rt: &impl Abort, alloc: Global, failing: u64) -> MapShelf {
+    let mut shelf = MapShelf::new(alloc, one_call(rt, alloc, failing));
     for (name, text) in FILES {
-        let bytes = Bytes::from_slice(alloc, text.as_bytes())?;
-        shelf.set(Text::from_str(alloc, name)?, bytes)?;
+        add_file(rt, alloc, &mut shelf, name, text);
     }
-    Ok(shelf)
+    shelf
 }
 
-fn words_of(alloc: Global, text: &str) -> Result<Vec<Text>, AllocError> {
+fn words_of(rt: &impl Abort, alloc: Global, text: &str) -> Vec<Text> {
     let mut words = Vec::new(alloc);
     for word in text.split(' ') {
-        if !word.is_empty() {
-            words.push(Text::from_str(alloc, word)?)?;
-        }
+        put_word(rt, alloc, &mut words, word);
     }
-    Ok(words)
+    words
 }
 
-fn script_of(rt: &impl Abort, alloc: Global, text: &str) -> Result<Vec<Input>, AllocError> {
+/// Adds a word, if it isn't empty.
+fn put_word(rt: &impl Abort, alloc: Global, words: &mut Vec<Text>, word: &str) {
+    if !word.is_empty() {
+        let word = Text::from_str(alloc, word).expect(rt, "memory");
+        words.push(word).expect(rt, "memory");
+    }
+}
+
+fn input_of(rt: &impl Abort, letter: u8) -> Input {
+    let at = Moment::zero();
+    match letter {
+        b't' => Input::Tick { at },
+        b's' => Input::Signal {
+            at,
+            signal: DaemonSignal::new(Signal::Term).expect(rt, "a signal that the daemon takes"),
+        },
+        _ => Input::Failed(7),
+    }
+}
+
+fn script_of(rt: &impl Abort, alloc: Global, text: &str) -> Vec<Input> {
     let mut script = Vec::new(alloc);
     for letter in text.as_bytes() {
-        let at = Moment::zero();
-        script.push(match letter {
-            b't' => Input::Tick { at },
-            b's' => Input::Signal {
-                at,
-                signal: DaemonSignal::new(Signal::Term).expect(
-                    rt,
-                    "a signal that the daemon takes",
-                ),
-            },
-            _ => Input::Failed(7),
-        })?;
+        put_input(rt, &mut script, *letter);
     }
-    Ok(script)
+    script
+}
+
+fn put_input(rt: &impl Abort, script: &mut Vec<Input>, letter: u8) {
+    let input = input_of(rt, letter);
+    script.push(input).expect(rt, "memory");
 }
 
 /// The text with line feeds for `~` and the header for `^`.
-fn written_out(alloc: Global, text: &str) -> Result<String, AllocError> {
+fn written_out(rt: &impl Abort, alloc: Global, text: &str) -> String {
     let mut out = String::new(alloc);
     for part in text.chars() {
-        match part {
-            '~' => out.push('\n')?,
-            '^' => out.push_str(HEADER)?,
-            part => out.push(part)?,
-        }
+        put_part(rt, &mut out, part);
     }
-    Ok(out)
+    out
 }
 
-/// What a daemon came to.
+/// Adds what a character stands for.
+fn put_part(rt: &impl Abort, out: &mut String, part: char) {
+    match part {
+        '~' => out.push('\n').expect(rt, "memory"),
+        '^' => out.push_str(HEADER).expect(rt, "memory"),
+        part => out.push(part).expect(rt, "memory"),
+    }
+}
+
+/// What a daemon is called with, and its status once it has ended.
 #[derive(Drop)]
-struct Came {
-    status: u8,
+struct Daemon {
+    words: Vec<Text>,
+    host: Host,
+    shelf: MapShelf,
     world: ScriptWorld,
     journal: ListSink,
     out: ListSink,
+    status: u8,
 }
 
-fn come(
+fn world_of(rt: &impl Abort, alloc: Global, script: &str, failing: u64) -> ScriptWorld {
+    let script = script_of(rt, alloc, script);
+    ScriptWorld::new(alloc, script, one_call(rt, alloc, failing))
+}
+
+fn daemon_of(
     rt: &impl Abort,
     alloc: Global,
     words: &str,
     script: &str,
     failing: [u64; 4],
-) -> Result<Came, AllocError> {
+) -> Daemon {
     let [shelf, next, journal, out] = failing;
-    let words = words_of(alloc, words)?;
-    let mut shelf = shelf_of(alloc, shelf)?;
-    let script = script_of(rt, alloc, script)?;
-    let mut world = ScriptWorld::new(alloc, script, one_call(alloc, next)?);
-    let mut journal = ListSink::new(alloc, 1_000, one_call(alloc, journal)?);
-    let mut out = ListSink::new(alloc, 1_000, one_call(alloc, out)?);
-    let status = supervise(
-        alloc,
-        words.as_slice(),
-        &host(alloc),
-        &mut shelf,
-        &mut world,
-        &mut journal,
-        &mut out,
-    );
-    Ok(Came {
-        status,
-        world,
-        journal,
-        out,
-    })
+    Daemon {
+        words: words_of(rt, alloc, words),
+        host: host(alloc),
+        shelf: shelf_of(rt, alloc, shelf),
+        world: world_of(rt, alloc, script, next),
+        journal: ListSink::new(alloc, 1_000, one_call(rt, alloc, journal)),
+        out: ListSink::new(alloc, 1_000, one_call(rt, alloc, out)),
+        status: 0,
+    }
 }
 
-fn text_of(rt: &impl Abort, alloc: Global, bytes: &[u8]) -> String {
-    String::from_utf8_lossy(alloc, bytes).expect(rt, "ample memory")
+fn run(alloc: Global, daemon: &mut Daemon) {
+    daemon.status = supervise(
+        alloc,
+        daemon.words.as_slice(),
+        &daemon.host,
+        &mut daemon.shelf,
+        &mut daemon.world,
+        &mut daemon.journal,
+        &mut daemon.out,
+    );
+}
+
+/// The bytes are those of this text.
+fn is_text(rt: &impl Abort, alloc: Global, bytes: &[u8], expected: &str) {
+    let text = String::from_utf8_lossy(alloc, bytes).expect(rt, "ample memory");
+    assert_eq!(rt; text.as_str(), expected);
+}
+
+/// The bytes are those of this text as it is written out.
+fn is_written(rt: &impl Abort, alloc: Global, bytes: &[u8], expected: &str) {
+    let expected = written_out(rt, alloc, expected);
+    is_text(rt, alloc, bytes, expected.as_str());
+}
+
+/// The daemon has come to what its course says.
+fn is_course(rt: &impl Abort, alloc: Global, daemon: &Daemon, course: &Course) {
+    let (_, _, _, status, orders, out, journal) = *course;
+    is_written(rt, alloc, daemon.out.written(), out);
+    assert_eq!(rt; daemon.status, status);
+    is_written(rt, alloc, daemon.journal.written(), journal);
+    assert!(rt; daemon.world.handed().len() == orders);
+}
+
+fn course_is(rt: &impl Abort, alloc: Global, course: &Course) {
+    let mut daemon = daemon_of(rt, alloc, course.1, course.2, course.0);
+    run(alloc, &mut daemon);
+    is_course(rt, alloc, &daemon, course);
 }
 
 #[test]
 fn a_daemon_comes_to_what_its_world_shelf_and_sinks_give(rt: HostRuntime) {
-    for (failing, words, script, status, orders, out, journal) in COURSES {
-        let out = written_out(rt.alloc(), out).expect(&rt, "ample memory");
-        let journal = written_out(rt.alloc(), journal).expect(&rt, "ample memory");
-        let came = come(&rt, rt.alloc(), words, script, failing).expect(&rt, "ample memory");
-        let said = text_of(&rt, rt.alloc(), came.out.written());
-        assert_eq!(&rt; said.as_str(), out.as_str());
-        assert_eq!(&rt; came.status, status);
-        let wrote = text_of(&rt, rt.alloc(), came.journal.written());
-        assert_eq!(&rt; wrote.as_str(), journal.as_str());
-        assert!(&rt; came.world.handed().len() == orders);
+    for course in &COURSES {
+        course_is(&rt, rt.alloc(), course);
     }
 }
 
 #[test]
 fn the_header_tells_of_includes_and_sizes(rt: HostRuntime) {
     let words = "-c /parts.conf --journal";
-    let came = come(&rt, rt.alloc(), words, "", [0, 0, 0, 0]).expect(&rt, "ample memory");
-    let wrote = text_of(&rt, rt.alloc(), came.journal.written());
-    assert_eq!(&rt; wrote.as_str(), PARTS);
+    let mut daemon = daemon_of(&rt, rt.alloc(), words, "", [0, 0, 0, 0]);
+    run(rt.alloc(), &mut daemon);
+    is_text(&rt, rt.alloc(), daemon.journal.written(), PARTS);
 }
