@@ -1,7 +1,6 @@
 //! The cases of the input: how each is given, and its lines.
 
-use std::alloc::Global;
-use std::process::Abort;
+use std::alloc::{AllocError, Global};
 
 /// How a case is given.
 #[derive(Clone, Copy, Debug, PartialEq, Eq)]
@@ -63,33 +62,34 @@ fn status_of(digit: &str) -> u8 {
 }
 
 /// One more line of a text.
-fn put(rt: &impl Abort, text: &mut String, line: &str) {
-    text.push_str(line).expect(rt, "memory");
-    text.push('\n').expect(rt, "memory");
+fn put(text: &mut String, line: &str) -> Result<(), AllocError> {
+    text.push_str(line)?;
+    text.push('\n')
 }
 
 impl Case {
     /// A case of which no line was read.
-    pub(crate) fn new(rt: &impl Abort, alloc: Global, form: Form, name: &str) -> Case {
-        Case {
+    pub(crate) fn new(alloc: Global, form: Form, name: &str) -> Result<Case, AllocError> {
+        Ok(Case {
             form,
-            name: String::from_str(alloc, name).expect(rt, "memory"),
+            name: String::from_str(alloc, name)?,
             lines: String::new(alloc),
             status: 0,
             wanted: String::new(alloc),
             is_given: false,
-        }
+        })
     }
 
     /// Takes one more line.
-    pub(crate) fn take(&mut self, rt: &impl Abort, line: &str) {
+    pub(crate) fn take(&mut self, line: &str) -> Result<(), AllocError> {
         if let Some(digit) = line.strip_prefix("== gives ") {
             self.is_given = true;
             self.status = status_of(digit);
+            Ok(())
         } else if self.is_given {
-            put(rt, &mut self.wanted, line);
+            put(&mut self.wanted, line)
         } else {
-            put(rt, &mut self.lines, line);
+            put(&mut self.lines, line)
         }
     }
 }

@@ -3,8 +3,7 @@
 use crate::case::{Case, Form};
 use crate::playing::{breaks, gives, play};
 use crate::scripts::spell;
-use std::alloc::Global;
-use std::process::Abort;
+use std::alloc::{AllocError, Global};
 
 /// The line of a piece that is cut, up to its token.
 const PIECE: &str = "0 piece 1 ";
@@ -17,30 +16,30 @@ fn may_cut(token: &str, at: usize) -> bool {
 }
 
 /// The token in two pieces, each on a line of its own.
-fn put_cut(rt: &impl Abort, journal: &mut String, token: &str, at: usize) {
-    journal.push_str(PIECE).expect(rt, "memory");
+fn put_cut(journal: &mut String, token: &str, at: usize) -> Result<(), AllocError> {
+    journal.push_str(PIECE)?;
     for (place, letter) in token.chars().enumerate() {
         if place == at {
-            journal.push('\n').expect(rt, "memory");
-            journal.push_str(PIECE).expect(rt, "memory");
+            journal.push('\n')?;
+            journal.push_str(PIECE)?;
         }
-        journal.push(letter).expect(rt, "memory");
+        journal.push(letter)?;
     }
-    journal.push('\n').expect(rt, "memory");
+    journal.push('\n')
 }
 
 /// The journal whose piece is cut at a place.
-fn cut(rt: &impl Abort, alloc: Global, lines: &str, at: usize) -> String {
+fn cut(alloc: Global, lines: &str, at: usize) -> Result<String, AllocError> {
     let mut journal = String::new(alloc);
     for line in lines.lines() {
         if let Some(token) = line.strip_prefix(PIECE) {
-            put_cut(rt, &mut journal, token, at);
+            put_cut(&mut journal, token, at)?;
         } else {
-            journal.push_str(line).expect(rt, "memory");
-            journal.push('\n').expect(rt, "memory");
+            journal.push_str(line)?;
+            journal.push('\n')?;
         }
     }
-    journal
+    Ok(journal)
 }
 
 /// The token of the piece.
@@ -53,38 +52,44 @@ fn token_of(lines: &str) -> &str {
     ""
 }
 
+/// Whether it gives the same where its piece is cut at a place.
+fn cuts_at(alloc: Global, case: &Case, at: usize) -> Result<bool, AllocError> {
+    let journal = cut(alloc, case.lines.as_str(), at)?;
+    let played = play(alloc, journal.as_str(), 4_096, 0, 0)?;
+    Ok(played.status == case.status && played.written.as_slice() == case.wanted.as_str().as_bytes())
+}
+
 /// Whether it gives the same wherever its piece is cut.
-fn cuts(rt: &impl Abort, alloc: Global, case: &Case) -> bool {
+fn cuts(alloc: Global, case: &Case) -> Result<bool, AllocError> {
     let token = token_of(case.lines.as_str());
     let count = token.chars().count();
     for at in 1..count {
-        if may_cut(token, at) {
-            let journal = cut(rt, alloc, case.lines.as_str(), at);
-            let played = play(rt, alloc, journal.as_str(), 4_096, 0, 0);
-            if played.status != case.status
-                || played.written.as_slice() != case.wanted.as_str().as_bytes()
-            {
-                return false;
-            }
+        if may_cut(token, at) && !cuts_at(alloc, case, at)? {
+            return Ok(false);
         }
     }
-    count > 1
+    Ok(count > 1)
 }
 
 /// How a short journal begins. Reads and writes fail in these alone: they are enough, and there are many journals.
 const SHORT: &str = "supervisor-journal 0\n";
 
 /// Whether a journal gives this, and breaks off as it should.
-fn holds(rt: &impl Abort, alloc: Global, journal: &str, status: u8, wanted: &str) -> bool {
-    gives(rt, alloc, journal, status, wanted)
-        && (!journal.starts_with(SHORT) || breaks(rt, alloc, journal, status, wanted))
+fn holds(alloc: Global, journal: &str, status: u8, wanted: &str) -> Result<bool, AllocError> {
+    if !gives(alloc, journal, status, wanted)? {
+        return Ok(false);
+    }
+    if journal.starts_with(SHORT) {
+        breaks(alloc, journal, status, wanted)
+    } else {
+        Ok(true)
+    }
 }
 
 /// Whether a script gives what it says.
-fn performs(rt: &impl Abort, alloc: Global, lines: &str) -> bool {
-    let spelled = spell(alloc, lines).expect(rt, "memory");
+fn performs(alloc: Global, lines: &str) -> Result<bool, AllocError> {
+    let spelled = spell(alloc, lines)?;
     holds(
-        rt,
         alloc,
         spelled.journal.as_str(),
         spelled.status,
@@ -93,15 +98,15 @@ fn performs(rt: &impl Abort, alloc: Global, lines: &str) -> bool {
 }
 
 /// Whether a case comes out as it is written.
-pub(crate) fn is_as_written(rt: &impl Abort, alloc: Global, case: &Case) -> bool {
+pub(crate) fn is_as_written(alloc: Global, case: &Case) -> Result<bool, AllocError> {
     let lines = case.lines.as_str();
     match case.form {
-        Form::Journal => holds(rt, alloc, lines, case.status, case.wanted.as_str()),
+        Form::Journal => holds(alloc, lines, case.status, case.wanted.as_str()),
         Form::Unended => {
             let journal = lines.strip_suffix("\n").unwrap_or(lines);
-            holds(rt, alloc, journal, case.status, case.wanted.as_str())
+            holds(alloc, journal, case.status, case.wanted.as_str())
         }
-        Form::Cut => cuts(rt, alloc, case),
-        Form::Script => performs(rt, alloc, lines),
+        Form::Cut => cuts(alloc, case),
+        Form::Script => performs(alloc, lines),
     }
 }

@@ -21,14 +21,14 @@ fn main(rt: HostRuntime) -> io::Result<()> {
     let mut cases: Vec<Case> = Vec::new(alloc);
     for line in text.as_str().lines() {
         if let Some((form, name)) = begun(line) {
-            cases.push(Case::new(&rt, alloc, form, name))?;
+            cases.push(Case::new(alloc, form, name)?)?;
         } else if let Some(case) = cases.last_mut() {
-            case.take(&rt, line);
+            case.take(line)?;
         }
     }
     for case in cases.as_slice() {
         let name = case.name.as_str();
-        if is_as_written(&rt, alloc, case) {
+        if is_as_written(alloc, case)? {
             println!(rt; "{name}: as written")?;
         } else {
             println!(rt; "{name}: NOT as written")?;
