@@ -135,14 +135,22 @@ fn is_refused(rt: &impl Abort, alloc: Global, ask: Ask, text: &str) {
     }
 }
 
+/// A request with a body that is no call.
+fn no_call_is_refused(rt: &impl Abort, alloc: Global) {
+    let no_call = "<methodCall><methodName>a</methodName></methodCall> x";
+    let bad = ask(rt, alloc, no_call, false);
+    is_refused(rt, alloc, bad, BAD_REQUEST);
+}
+
+fn unauthorized_is_refused(rt: &impl Abort, alloc: Global) {
+    let unauthorized = Ask::Bad(Refusal::Unauthorized);
+    is_refused(rt, alloc, unauthorized, UNAUTHORIZED);
+}
+
 #[test]
 fn requests_are_refused(rt: HostRuntime) {
-    let alloc = rt.alloc();
-    let no_call = "<methodCall><methodName>a</methodName></methodCall> x";
-    let bad = ask(&rt, alloc, no_call, false);
-    is_refused(&rt, alloc, bad, BAD_REQUEST);
-    let unauthorized = Ask::Bad(Refusal::Unauthorized);
-    is_refused(&rt, alloc, unauthorized, UNAUTHORIZED);
+    no_call_is_refused(&rt, rt.alloc());
+    unauthorized_is_refused(&rt, rt.alloc());
 }
 
 /// The reply that tells the API's version.
@@ -159,12 +167,15 @@ fn answer_is_said(rt: &impl Abort, alloc: Global, close: bool, answered: &Answer
     is_said(rt, &sent, text, close);
 }
 
+fn version_is_said(rt: &impl Abort, alloc: Global) {
+    let version = Answered::Value(Value::Text(Text::fixed("3.0")));
+    answer_is_said(rt, alloc, false, &version, VERSION);
+}
+
 #[test]
 fn answers_are_said(rt: HostRuntime) {
-    let alloc = rt.alloc();
-    let version = Answered::Value(Value::Text(Text::fixed("3.0")));
-    answer_is_said(&rt, alloc, false, &version, VERSION);
-    answer_is_said(&rt, alloc, true, &no_parts(), NO_PARTS);
+    version_is_said(&rt, rt.alloc());
+    answer_is_said(&rt, rt.alloc(), true, &no_parts(), NO_PARTS);
 }
 
 /// A shape, what the call named, what was read, and the body of the reply.
@@ -263,17 +274,18 @@ fn answer(rt: &impl Abort, alloc: Global, back: &Back) -> Answered {
     read_back(alloc, &reading, &reply).expect(rt, "memory")
 }
 
-fn come_back(rt: &impl Abort, alloc: Global, back: &Back) {
-    let answered = answer(rt, alloc, back);
-    let sent = say(alloc, false, &answered).expect(rt, "memory");
+/// The reply says this, and the link goes on.
+fn says(rt: &impl Abort, alloc: Global, answered: &Answered, body: &str) {
+    let sent = say(alloc, false, answered).expect(rt, "memory");
     let text = std::str::from_utf8(sent.text.as_slice()).unwrap_or("");
-    assert!(rt; text.contains(back.body), "{}", back.body);
+    assert!(rt; text.contains(body), "{body}");
     assert!(rt; !sent.closes, "the link goes on");
 }
 
 #[test]
 fn reads_come_back(rt: HostRuntime) {
     for back in &BACKS {
-        come_back(&rt, rt.alloc(), back);
+        let answered = answer(&rt, rt.alloc(), back);
+        says(&rt, rt.alloc(), &answered, back.body);
     }
 }

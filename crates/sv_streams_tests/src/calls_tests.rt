@@ -150,13 +150,18 @@ fn the_clear_goes_wrong(rt: &impl Abort, alloc: Global, calls: &mut Calls) {
     goes_wrong(rt, alloc, calls, Setback::NotCleared, failed, "it failed");
 }
 
+/// The call acts by these requests, and waits for their rows.
+fn acts(rt: &impl Abort, alloc: Global, calls: &mut Calls) {
+    let requests = two_requests(rt, alloc);
+    calls.act(LINK, requests, waiting(two_rows(rt, alloc)));
+}
+
 #[test]
 fn requests_have_their_rows(rt: HostRuntime) {
     let alloc = rt.alloc();
     let mut calls = Calls::new(alloc);
     calls.begin(LINK, false).expect(&rt, "memory");
-    let requests = two_requests(&rt, alloc);
-    calls.act(LINK, requests, waiting(two_rows(&rt, alloc)));
+    acts(&rt, alloc, &mut calls);
     takes_the_start(&rt, &mut calls);
     the_start_goes_wrong(&rt, alloc, &mut calls);
     takes_the_clear(&rt, &mut calls);
@@ -193,20 +198,36 @@ fn takes_the_fault(rt: &impl Abort, calls: &mut Calls) {
     );
 }
 
+/// The call has two parts.
+fn begins_two_parts(rt: &impl Abort, alloc: Global, calls: &mut Calls) {
+    let parts = two_parts(rt, alloc);
+    let begun = calls.begin_several(alloc, LINK, false, parts);
+    begun.expect(rt, "memory");
+    assert_eq!(rt; calls.parts_left(LINK), 2, "two parts");
+}
+
+/// The fault is gathered.
+fn gathers_the_fault(rt: &impl Abort, alloc: Global, calls: &mut Calls) {
+    let fault = Answered::Fault(2, Text::fixed("B"));
+    gives_nothing(rt, alloc, calls, LINK, fault, "it is gathered");
+}
+
+/// All parts of the call are answered, by this text.
+fn is_at_its_end(rt: &impl Abort, alloc: Global, calls: &mut Calls, text: &str) {
+    let end = calls.finish(LINK).expect(rt, "memory");
+    is_text(rt, alloc, end, false, text);
+}
+
 #[test]
 fn parts_are_answered_in_order(rt: HostRuntime) {
     let alloc = rt.alloc();
     let mut calls = Calls::new(alloc);
-    let begun = calls.begin_several(alloc, LINK, false, two_parts(&rt, alloc));
-    begun.expect(&rt, "memory");
-    assert_eq!(&rt; calls.parts_left(LINK), 2, "two parts");
+    begins_two_parts(&rt, alloc, &mut calls);
     takes_the_call(&rt, alloc, &mut calls);
     gives_nothing(&rt, alloc, &mut calls, LINK, number(5), "it is gathered");
     takes_the_fault(&rt, &mut calls);
-    let fault = Answered::Fault(2, Text::fixed("B"));
-    gives_nothing(&rt, alloc, &mut calls, LINK, fault, "it is gathered");
-    let end = calls.finish(LINK).expect(&rt, "memory");
-    is_text(&rt, alloc, end, false, RESULTS);
+    gathers_the_fault(&rt, alloc, &mut calls);
+    is_at_its_end(&rt, alloc, &mut calls, RESULTS);
 }
 
 const RESULTS: &str =

@@ -1,5 +1,6 @@
 //! Captured streams, worked by hand.
 
+use crate::parts::{APART, JOINED, behind_parts, piece_of};
 use std::alloc::Global;
 use std::process::Abort;
 use sv_pipes::{Capture, Part};
@@ -65,27 +66,6 @@ fn bytes_of(rt: &impl Abort, alloc: Global, text: &str) -> Vec<u8> {
     bytes
 }
 
-/// Adds the parts to a text, each with this mark before and after it.
-fn tell(
-    rt: &impl Abort,
-    told: &mut String,
-    parts: &[Part],
-    logged: (&str, &str),
-    message: (&str, &str),
-) {
-    for part in parts {
-        let (bytes, (before, behind)) = match part {
-            Part::Logged(bytes) => (bytes, logged),
-            Part::Message(bytes) => (bytes, message),
-        };
-        told.push_str(before).expect(rt, "ample memory");
-        for byte in bytes.as_slice() {
-            told.push(char::from(*byte)).expect(rt, "ample memory");
-        }
-        told.push_str(behind).expect(rt, "ample memory");
-    }
-}
-
 fn limit_of(text: &str) -> u64 {
     match text {
         "10" => 10,
@@ -108,9 +88,8 @@ fn answer(rt: &impl Abort, alloc: Global, capture: &mut Capture, piece: &str) ->
 fn play_step(rt: &impl Abort, alloc: Global, capture: &mut Capture, step: &str) {
     let (piece, expected) = step.split_once("=>").expect(rt, "a piece and its parts");
     let parts = answer(rt, alloc, capture, piece);
-    let mut told = String::new(alloc);
-    tell(rt, &mut told, parts.as_slice(), ("L", ";"), ("M", ";"));
-    assert_eq!(rt; told.as_str(), expected);
+    let left = behind_parts(rt, expected, parts.as_slice(), APART);
+    assert!(rt; left.is_empty(), "{left} isn't told");
 }
 
 fn play(rt: &impl Abort, alloc: Global, line: &str) {
@@ -121,43 +100,57 @@ fn play(rt: &impl Abort, alloc: Global, line: &str) {
     }
 }
 
-/// Gives a piece of the worked stream.
-fn feed(rt: &impl Abort, alloc: Global, capture: &mut Capture, piece: &[u8], told: &mut String) {
+/// Gives a piece of the worked stream: what is left to tell.
+fn fed<'a>(
+    rt: &impl Abort,
+    alloc: Global,
+    capture: &mut Capture,
+    piece: &[u8],
+    left: &'a str,
+) -> &'a str {
     let parts = capture.feed(alloc, piece).expect(rt, "ample memory");
-    tell(rt, told, parts.as_slice(), ("", ""), ("(", ")"));
+    behind_parts(rt, left, parts.as_slice(), JOINED)
 }
 
-/// Ends the worked stream.
-fn close(rt: &impl Abort, alloc: Global, capture: &mut Capture, told: &mut String) {
+/// Ends the worked stream: what is left to tell.
+fn closed<'a>(rt: &impl Abort, alloc: Global, capture: &mut Capture, left: &'a str) -> &'a str {
     let parts = capture.close(alloc).expect(rt, "ample memory");
-    tell(rt, told, parts.as_slice(), ("", ""), ("(", ")"));
+    behind_parts(rt, left, parts.as_slice(), JOINED)
 }
 
 /// The worked stream, cut after so many bytes.
 fn play_cut(rt: &impl Abort, alloc: Global, first: usize, second: usize) {
     let mut capture = Capture::new(alloc, 10).expect(rt, "ample memory");
-    let mut told = String::new(alloc);
-    let mut piece = Vec::new(alloc);
-    let mut count = 0usize;
-    for byte in STREAM.as_bytes() {
-        piece.push(*byte).expect(rt, "ample memory");
-        count = count.saturating_add(1);
-        if count == first || count == second || count == 56 {
-            feed(rt, alloc, &mut capture, piece.as_slice(), &mut told);
-            piece.clear();
+    let mut left = "ab(hello)cd<";
+    let mut from = 0usize;
+    for to in 1..57usize {
+        if to == first || to == second || to == 56 {
+            left = fed(
+                rt,
+                alloc,
+                &mut capture,
+                piece_of(rt, STREAM, from, to),
+                left,
+            );
+            from = to;
         }
     }
-    close(rt, alloc, &mut capture, &mut told);
-    assert_eq!(rt; told.as_str(), "ab(hello)cd<");
+    left = closed(rt, alloc, &mut capture, left);
+    assert!(rt; left.is_empty(), "cut behind {first} and {second}");
+}
+
+/// Gives a text as one piece, whatever it decides.
+fn give(rt: &impl Abort, alloc: Global, capture: &mut Capture, text: &str) {
+    let piece = bytes_of(rt, alloc, text);
+    capture
+        .feed(alloc, piece.as_slice())
+        .expect(rt, "ample memory");
 }
 
 /// So many bytes of this stream aren't decided yet.
 fn check_held(rt: &impl Abort, alloc: Global, text: &str, expected: u64) {
     let mut capture = Capture::new(alloc, 10).expect(rt, "ample memory");
-    let piece = bytes_of(rt, alloc, text);
-    capture
-        .feed(alloc, piece.as_slice())
-        .expect(rt, "ample memory");
+    give(rt, alloc, &mut capture, text);
     assert_eq!(rt; capture.held(), expected);
 }
 

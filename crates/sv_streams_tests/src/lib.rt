@@ -13,6 +13,8 @@ mod links_tests;
 #[cfg(test)]
 mod multi_tests;
 #[cfg(test)]
+mod parts;
+#[cfg(test)]
 mod pipes_tests;
 #[cfg(test)]
 mod runs_tests;

@@ -58,10 +58,15 @@ fn serves_as_many_as_may_be_open(rt: HostRuntime) {
     open(&rt, alloc, &mut links, 66, true);
     open(&rt, alloc, &mut links, 67, false);
     feed(&rt, alloc, &mut links, 66, b"a", true);
-    asked(&rt, alloc, &mut links, 66, "a");
-    let busy = links.busy_links(alloc).expect(&rt, "memory");
-    assert!(rt; busy.last() == Some(&LinkId(66)), "66 is served");
+    asked(&rt, &mut links, 66, "a");
+    is_last(&rt, alloc, &links, LinkId(66));
     assert!(rt; LINK_LIMIT == 64, "the limit");
+}
+
+/// This link is the last of those that are served.
+fn is_last(rt: &impl Abort, alloc: Global, links: &Links, link: LinkId) {
+    let busy = links.busy_links(alloc).expect(rt, "memory");
+    assert!(rt; busy.last() == Some(&link), "it is served");
 }
 
 /// Nothing comes of a link that is over.
@@ -91,19 +96,9 @@ fn play(rt: &impl Abort, alloc: Global, links: &mut Links, word: &str, is_whole:
         [b'f', number, b'=', text @ ..] => {
             feed(rt, alloc, links, digit(*number), text, is_whole);
         }
-        [b't', number] => asked(rt, alloc, links, digit(*number), wanted),
-        [b'w'] => listed(
-            rt,
-            alloc,
-            links.open_links(alloc).expect(rt, "memory"),
-            wanted,
-        ),
-        [b'b'] => listed(
-            rt,
-            alloc,
-            links.busy_links(alloc).expect(rt, "memory"),
-            wanted,
-        ),
+        [b't', number] => asked(rt, links, digit(*number), wanted),
+        [b'w'] => are_open(rt, alloc, links, wanted),
+        [b'b'] => are_busy(rt, alloc, links, wanted),
         [deed, number] => {
             let told = other(rt, links, *deed, LinkId(digit(*number)));
             assert!(rt; wanted == told, "what comes of {word}");
@@ -139,15 +134,6 @@ fn over(rt: &impl Abort, links: &mut Links, deed: u8, link: LinkId) -> &'static 
 
 fn told(holds: bool, word: &'static str) -> &'static str {
     if holds { word } else { "-" }
-}
-
-fn name(link: LinkId) -> &'static str {
-    match link.0 {
-        1 => "1",
-        2 => "2",
-        3 => "3",
-        _ => "more",
-    }
 }
 
 fn count(left: usize) -> &'static str {
@@ -213,17 +199,17 @@ fn requests(rt: &impl Abort, alloc: Global, marks: &[u8]) -> Vec<u8> {
     let mut bytes = Vec::new(alloc);
     match marks {
         [b'<', mark] => {
-            let text = request(rt, alloc, *mark);
-            let half = text.len().min(20);
-            put(rt, &mut bytes, &text.as_bytes()[..half]);
+            let head = head(*mark);
+            put(rt, &mut bytes, &head[..head.len().min(20)]);
         }
         [b'>', mark] => {
-            let text = request(rt, alloc, *mark);
-            let half = text.len().min(20);
-            put(rt, &mut bytes, &text.as_bytes()[half..]);
+            let head = head(*mark);
+            put(rt, &mut bytes, &head[head.len().min(20)..]);
+            put_body(rt, &mut bytes, *mark);
         }
         marks => for mark in marks {
-            put(rt, &mut bytes, request(rt, alloc, *mark).as_bytes());
+            put(rt, &mut bytes, head(*mark));
+            put_body(rt, &mut bytes, *mark);
         },
     }
     bytes
@@ -233,53 +219,61 @@ fn put(rt: &impl Abort, bytes: &mut Vec<u8>, more: &[u8]) {
     bytes.extend_from_slice(more).expect(rt, "memory");
 }
 
-/// The text of a request.
-fn request(rt: &impl Abort, alloc: Global, mark: u8) -> String {
-    let front = match mark {
+/// What stands before the body of a request.
+fn head(mark: u8) -> &'static [u8] {
+    let head = match mark {
         b'!' => "GET / HTTP/1.1\r\n\r\n",
         b'0'..=b'9' => "POST /RPC2 HTTP/1.0\r\nContent-Length: 1\r\n\r\n",
         b'A'..=b'Z' => "POST /RPC2 HTTP/1.1\r\nConnection: close\r\nContent-Length: 1\r\n\r\n",
         _ => "POST /RPC2 HTTP/1.1\r\nContent-Length: 1\r\n\r\n",
     };
-    let mut text = String::new(alloc);
-    text.push_str(front).expect(rt, "memory");
-    if mark != b'!' {
-        text.push(char::from(mark)).expect(rt, "memory");
-    }
-    text
+    head.as_bytes()
 }
 
-/// The body of a request, and `.` where the link closes after its reply; or the number of a refusal.
-fn ask_told(rt: &impl Abort, alloc: Global, ask: &Ask) -> String {
-    let told = match ask {
+fn put_body(rt: &impl Abort, bytes: &mut Vec<u8>, mark: u8) {
+    if mark != b'!' {
+        bytes.push(mark).expect(rt, "memory");
+    }
+}
+
+/// Whether a request has this body, with `.` behind it where the link closes after its reply, or is refused by this number.
+fn is_told(ask: &Ask, wanted: &str) -> bool {
+    match ask {
         Ask::Call { body, close } => {
-            let body = std::str::from_utf8(body.as_slice()).unwrap_or("?");
-            let end = if *close { "." } else { "" };
-            format!(in alloc; "{body}{end}")
+            let text = wanted.strip_suffix('.').unwrap_or(wanted);
+            body.as_slice() == text.as_bytes() && *close == wanted.ends_with('.')
         }
         Ask::Bad(refusal) => {
-            let status = Status::Bad(*refusal).number();
-            format!(in alloc; "{status}")
+            let number = u64::from(Status::Bad(*refusal).number());
+            wanted.parse::<u64>() == Ok(number)
         }
-    };
-    told.expect(rt, "memory")
+    }
 }
 
 /// Begins the next request of a link, and looks at it.
-fn asked(rt: &impl Abort, alloc: Global, links: &mut Links, number: u32, wanted: &str) {
-    let ask = links.take_ask(LinkId(number));
-    let told = match &ask {
-        None => String::new(alloc),
-        Some(ask) => ask_told(rt, alloc, ask),
+fn asked(rt: &impl Abort, links: &mut Links, number: u32, wanted: &str) {
+    let is_wanted = match &links.take_ask(LinkId(number)) {
+        None => wanted.is_empty(),
+        Some(ask) => is_told(ask, wanted),
     };
-    assert!(rt; told.as_str() == wanted, "what link {number} asks");
+    assert!(rt; is_wanted, "what link {number} asks");
 }
 
-/// Looks at a list of links.
-fn listed(rt: &impl Abort, alloc: Global, links: Vec<LinkId>, wanted: &str) {
-    let mut told = String::new(alloc);
-    for link in links.as_slice() {
-        told.push_str(name(*link)).expect(rt, "memory");
+fn are_open(rt: &impl Abort, alloc: Global, links: &Links, wanted: &str) {
+    let links = links.open_links(alloc).expect(rt, "memory");
+    are_named(rt, links.as_slice(), wanted.as_bytes());
+}
+
+fn are_busy(rt: &impl Abort, alloc: Global, links: &Links, wanted: &str) {
+    let links = links.busy_links(alloc).expect(rt, "memory");
+    are_named(rt, links.as_slice(), wanted.as_bytes());
+}
+
+/// These are the links that the digits name.
+fn are_named(rt: &impl Abort, links: &[LinkId], digits: &[u8]) {
+    assert!(rt; links.len() == digits.len());
+    for (link, byte) in links.iter().zip(digits.iter()) {
+        let number = digit(*byte);
+        assert!(rt; link.0 == number, "{number} is listed");
     }
-    assert!(rt; told.as_str() == wanted, "which links are listed");
 }

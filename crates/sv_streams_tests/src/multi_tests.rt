@@ -64,9 +64,8 @@ fn meaning(letter: char) -> &'static str {
     }
 }
 
-/// The text with its letters spelled out.
-fn spelled(rt: &impl Abort, alloc: Global, text: &str) -> String {
-    let mut out = String::new(alloc);
+/// Adds a text with its letters spelled out.
+fn spell(rt: &impl Abort, out: &mut String, text: &str) {
     for letter in text.chars() {
         let written = meaning(letter);
         if written.is_empty() {
@@ -75,46 +74,48 @@ fn spelled(rt: &impl Abort, alloc: Global, text: &str) -> String {
             out.push_str(written).expect(rt, "memory");
         }
     }
+}
+
+/// The pieces of a text with their letters spelled out.
+fn spelled(rt: &impl Abort, alloc: Global, pieces: &[&str]) -> String {
+    let mut out = String::new(alloc);
+    for piece in pieces {
+        spell(rt, &mut out, piece);
+    }
     out
 }
 
-/// The value of this form.
-fn value_of(rt: &impl Abort, alloc: Global, form: &str) -> Value {
-    let mut text = String::new(alloc);
-    text.push_str("<methodResponse><params><param><value>")
-        .expect(rt, "memory");
-    text.push_str(form).expect(rt, "memory");
-    text.push_str("</value></param></params></methodResponse>")
-        .expect(rt, "memory");
+/// The value of the reply that these pieces are.
+fn value_of_reply(rt: &impl Abort, alloc: Global, pieces: &[&str]) -> Value {
+    let text = spelled(rt, alloc, pieces);
     match read_reply(alloc, text.as_str().as_bytes()).expect(rt, "a reply") {
         Answered::Value(value) => value,
         Answered::Fault(_, _) => Value::Truth(false),
     }
 }
 
+/// The value of this form.
+fn value_of(rt: &impl Abort, alloc: Global, form: &str) -> Value {
+    let head = "<methodResponse><params><param><value>";
+    let end = "</value></param></params></methodResponse>";
+    value_of_reply(rt, alloc, &[head, form, end])
+}
+
 /// A struct of these members, alone in an array.
 fn one_struct(rt: &impl Abort, alloc: Global, members: &str) -> Value {
-    let mut form = String::new(alloc);
-    form.push_str("<array><data><value><struct>")
-        .expect(rt, "memory");
-    form.push_str(spelled(rt, alloc, members).as_str())
-        .expect(rt, "memory");
-    form.push_str("</struct></value></data></array>")
-        .expect(rt, "memory");
-    value_of(rt, alloc, form.as_str())
+    let head = "<methodResponse><params><param><value><array><data><value><struct>";
+    let end = "</struct></value></data></array></value></param></params></methodResponse>";
+    value_of_reply(rt, alloc, &[head, members, end])
 }
 
 /// The text of a call with this name and these params.
 fn call_text(rt: &impl Abort, alloc: Global, name: &str, params: &str) -> String {
-    let mut text = String::new(alloc);
-    text.push_str("<?xml version='1.0'?><methodCall><methodName>")
-        .expect(rt, "memory");
-    text.push_str(name).expect(rt, "memory");
-    text.push_str("</methodName>").expect(rt, "memory");
-    text.push_str(spelled(rt, alloc, params).as_str())
-        .expect(rt, "memory");
-    text.push_str("</methodCall>").expect(rt, "memory");
-    text
+    let head = "<?xml version='1.0'?><methodCall><methodName>";
+    spelled(
+        rt,
+        alloc,
+        &[head, name, "</methodName>", params, "</methodCall>"],
+    )
 }
 
 fn is_call(rt: &impl Abort, alloc: Global, call: &Call, name: &str, params: &str) -> bool {
@@ -132,10 +133,19 @@ fn is_part(rt: &impl Abort, alloc: Global, part: &Part, wanted: &str) -> bool {
     }
 }
 
+/// The parts of a value.
+fn parts_of(rt: &impl Abort, alloc: Global, value: &Value) -> Vec<Part> {
+    parts(alloc, value).ok().expect(rt, "parts")
+}
+
+/// The parts of an array of one struct of these members.
+fn parts_of_struct(rt: &impl Abort, alloc: Global, members: &str) -> Vec<Part> {
+    let value = one_struct(rt, alloc, members);
+    parts_of(rt, alloc, &value)
+}
+
 fn has_part(rt: &impl Abort, alloc: Global, members: &str, wanted: &str) {
-    let found = parts(alloc, &one_struct(rt, alloc, members))
-        .ok()
-        .expect(rt, "parts");
+    let found = parts_of_struct(rt, alloc, members);
     let fits = match found.as_slice() {
         [part] => is_part(rt, alloc, part, wanted),
         _ => false,
@@ -144,7 +154,7 @@ fn has_part(rt: &impl Abort, alloc: Global, members: &str, wanted: &str) {
 }
 
 fn has_no_parts(rt: &impl Abort, alloc: Global, form: &str) {
-    let value = value_of(rt, alloc, spelled(rt, alloc, form).as_str());
+    let value = value_of(rt, alloc, form);
     let refused = match parts(alloc, &value) {
         Ok(_) => false,
         Err(fault) => fault == MultiFault::NotParts,
@@ -158,19 +168,21 @@ fn adds(rt: &impl Abort, alloc: Global, gather: &mut Gather, answered: Answered)
 
 /// The text of a reply with an array of this data.
 fn reply_text(rt: &impl Abort, alloc: Global, data: &str) -> String {
-    let mut text = String::new(alloc);
-    text.push_str("<?xml version='1.0'?><methodResponse><params><param><value><array><data>")
-        .expect(rt, "memory");
-    text.push_str(data).expect(rt, "memory");
-    text.push_str("</data></array></value></param></params></methodResponse>")
-        .expect(rt, "memory");
-    text
+    let text = format!(in alloc;
+        "<?xml version='1.0'?><methodResponse><params><param><value><array><data>{data}</data></array></value></param></params></methodResponse>"
+    );
+    text.expect(rt, "memory")
 }
 
 fn gives(rt: &impl Abort, alloc: Global, gather: Gather, data: &str) {
     let value = gather.value().expect(rt, "memory");
+    is_written(rt, alloc, &value, data);
+}
+
+/// The reply with this value has an array of this data.
+fn is_written(rt: &impl Abort, alloc: Global, value: &Value, data: &str) {
     let text = reply_text(rt, alloc, data);
-    let written = write_reply(alloc, &value).expect(rt, "memory");
+    let written = write_reply(alloc, value).expect(rt, "memory");
     assert!(rt; written.as_slice() == text.as_str().as_bytes());
 }
 
@@ -184,8 +196,12 @@ fn parts_of_structs(rt: HostRuntime) {
 #[test]
 fn an_empty_array_has_no_part(rt: HostRuntime) {
     let value = value_of(&rt, rt.alloc(), "<array><data></data></array>");
-    let found = parts(rt.alloc(), &value).ok().expect(&rt, "parts");
-    assert!(rt; found.as_slice().is_empty());
+    assert!(rt; count_of(&rt, rt.alloc(), &value) == 0);
+}
+
+/// How many parts a value has.
+fn count_of(rt: &impl Abort, alloc: Global, value: &Value) -> usize {
+    parts_of(rt, alloc, value).len()
 }
 
 #[test]
@@ -201,11 +217,7 @@ fn a_call_names_its_parts(rt: HostRuntime) {
         b"<methodCall><methodName>system.multicall</methodName><params><param><value><array><data><value><struct><member><name>methodName</name><value>foo</value></member></struct></value></data></array></value></param></params></methodCall>";
     let call = read_call(rt.alloc(), text).expect(&rt, "a call");
     let count = match call.params.as_slice() {
-        [value] => parts(rt.alloc(), value)
-            .ok()
-            .expect(&rt, "parts")
-            .as_slice()
-            .len(),
+        [value] => count_of(&rt, rt.alloc(), value),
         _ => 0,
     };
     assert!(rt; count == 1);

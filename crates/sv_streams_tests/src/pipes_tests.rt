@@ -1,5 +1,6 @@
 //! Talks, worked by hand from the manual's protocol.
 
+use crate::parts::piece_of;
 use std::alloc::Global;
 use std::process::Abort;
 use sv_pipes::{ListenerTalk, TalkState, Token};
@@ -107,11 +108,16 @@ fn send(rt: &impl Abort, talk: &mut ListenerTalk) {
     talk.sent();
 }
 
+/// Gives a piece, and adds what it tells.
+fn give(rt: &impl Abort, alloc: Global, talk: &mut ListenerTalk, text: &str, told: &mut String) {
+    let piece = bytes_of(rt, alloc, text);
+    feed(rt, alloc, talk, piece.as_slice(), told);
+}
+
 fn play_piece(rt: &impl Abort, alloc: Global, talk: &mut ListenerTalk, step: &str) {
     let (piece, expected) = step.split_once('>').expect(rt, "a piece and what is told");
-    let piece = bytes_of(rt, alloc, piece);
     let mut told = String::new(alloc);
-    feed(rt, alloc, talk, piece.as_slice(), &mut told);
+    give(rt, alloc, talk, piece, &mut told);
     told.push(letter(talk.state())).expect(rt, "ample memory");
     assert_eq!(rt; told.as_str(), expected);
 }
@@ -127,41 +133,52 @@ fn play(rt: &impl Abort, alloc: Global, line: &str) {
     }
 }
 
+/// Gives a piece, whatever it tells.
+fn only_give(rt: &impl Abort, alloc: Global, talk: &mut ListenerTalk, text: &str) {
+    let mut told = String::new(alloc);
+    give(rt, alloc, talk, text, &mut told);
+}
+
 /// So many bytes of this talk aren't decided yet.
 fn check_held(rt: &impl Abort, alloc: Global, text: &str, expected: u64) {
     let mut talk = ListenerTalk::new(alloc);
-    let mut told = String::new(alloc);
     let mut has_begun = false;
     for piece in text.split('^') {
         if has_begun {
             send(rt, &mut talk);
         }
         has_begun = true;
-        let piece = bytes_of(rt, alloc, piece);
-        feed(rt, alloc, &mut talk, piece.as_slice(), &mut told);
+        only_give(rt, alloc, &mut talk, piece);
     }
     assert_eq!(rt; talk.held(), expected);
 }
 
-/// The worked talk, cut after so many bytes, and where the event is sent.
+/// Gives the worked talk, cut after so many bytes, and where the event is sent.
+fn give_cut(
+    rt: &impl Abort,
+    alloc: Global,
+    talk: &mut ListenerTalk,
+    cuts: (usize, usize),
+    told: &mut String,
+) {
+    let mut from = 0usize;
+    for to in 1..24usize {
+        if to == cuts.0 || to == cuts.1 || to == 6 || to == 23 {
+            feed(rt, alloc, talk, piece_of(rt, TALK, from, to), told);
+            from = to;
+        }
+        if to == 6 {
+            send(rt, talk);
+        }
+    }
+}
+
 fn play_cut(rt: &impl Abort, alloc: Global, first: usize, second: usize) {
     let mut talk = ListenerTalk::new(alloc);
     let mut told = String::new(alloc);
-    let mut piece = Vec::new(alloc);
-    let mut count = 0usize;
-    for byte in TALK.as_bytes() {
-        piece.push(*byte).expect(rt, "ample memory");
-        count = count.saturating_add(1);
-        if count == first || count == second || count == 6 || count == 23 {
-            feed(rt, alloc, &mut talk, piece.as_slice(), &mut told);
-            piece.clear();
-        }
-        if count == 6 {
-            send(rt, &mut talk);
-        }
-    }
-    told.push(letter(talk.state())).expect(rt, "ample memory");
-    assert_eq!(rt; told.as_str(), "R=OKRR");
+    give_cut(rt, alloc, &mut talk, (first, second), &mut told);
+    assert!(rt; talk.state() == TalkState::Ready);
+    assert_eq!(rt; told.as_str(), "R=OKR");
 }
 
 /// So many bytes as a piece can have.
@@ -184,13 +201,18 @@ fn feed_longest(rt: &impl Abort, alloc: Global, talk: &mut ListenerTalk, told: &
     feed(rt, alloc, talk, piece.as_slice(), told);
 }
 
+/// A talk that is about to give the longest result.
+fn before_longest(rt: &impl Abort, alloc: Global, talk: &mut ListenerTalk, told: &mut String) {
+    feed(rt, alloc, talk, b"READY\n", told);
+    send(rt, talk);
+    feed(rt, alloc, talk, b"RESULT 1048576\n", told);
+    assert_eq!(rt; talk.held(), 15);
+}
+
 fn longest_result(rt: &impl Abort, alloc: Global) {
     let mut talk = ListenerTalk::new(alloc);
     let mut told = String::new(alloc);
-    feed(rt, alloc, &mut talk, b"READY\n", &mut told);
-    send(rt, &mut talk);
-    feed(rt, alloc, &mut talk, b"RESULT 1048576\n", &mut told);
-    assert_eq!(rt; talk.held(), 15);
+    before_longest(rt, alloc, &mut talk, &mut told);
     feed_longest(rt, alloc, &mut talk, &mut told);
     assert_eq!(rt; talk.held(), 1_048_590);
     assert!(rt; talk.state() == TalkState::Busy);

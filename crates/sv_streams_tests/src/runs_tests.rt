@@ -48,15 +48,26 @@ fn play_all(rt: &impl Abort, alloc: Global, script: &str, is_whole: bool) {
 fn play(rt: &impl Abort, alloc: Global, runs: &mut Runs, word: &str, is_whole: bool) {
     let (step, wanted) = word.split_once(':').unwrap_or((word, ""));
     let mut told = String::new(alloc);
+    make(rt, alloc, runs, step, is_whole, &mut told);
+    assert!(rt; told.as_str() == wanted, "what comes of {word}");
+}
+
+/// Makes the step, and adds what comes of it.
+fn make(
+    rt: &impl Abort,
+    alloc: Global,
+    runs: &mut Runs,
+    step: &str,
+    is_whole: bool,
+    told: &mut String,
+) {
     match step.as_bytes() {
         [b'l', number, b'.', child] => begin(rt, alloc, runs, *number, *child, true),
         [b'p', number, b'.', child] => begin(rt, alloc, runs, *number, *child, false),
-        [b'h', number, b'=', text @ ..] if is_whole => {
-            hear(rt, alloc, runs, run(*number), text, &mut told);
-        }
         [b'h', number, b'=', text @ ..] => {
-            for byte in text.chunks(1) {
-                hear(rt, alloc, runs, run(*number), byte, &mut told);
+            let size = if is_whole { text.len() } else { 1 };
+            for piece in text.chunks(size.max(1)) {
+                hear(rt, alloc, runs, run(*number), piece, told);
             }
         }
         [b's', number] => runs.sent(run(*number)),
@@ -65,11 +76,10 @@ fn play(rt: &impl Abort, alloc: Global, runs: &mut Runs, word: &str, is_whole: b
         [b'e', number] => runs.end_pipe(run(*number), Stream::Err),
         [b'c', number] => runs.lose_stdin(run(*number)),
         [b'u', number] => runs.lose(run(*number)),
-        [b'?', number] => asked(rt, runs, run(*number), &mut told),
-        [b'k'] => closed(rt, runs, &mut told),
-        _ => panic!(rt; "no step is {word}"),
+        [b'?', number] => asked(rt, runs, run(*number), told),
+        [b'k'] => closed(rt, runs, told),
+        _ => panic!(rt; "no step is {step}"),
     }
-    assert!(rt; told.as_str() == wanted, "what comes of {word}");
 }
 
 fn begin(
@@ -107,6 +117,12 @@ fn spelled(rt: &impl Abort, alloc: Global, piece: &[u8]) -> Vec<u8> {
     bytes
 }
 
+/// The tokens that a piece ends.
+fn heard(rt: &impl Abort, alloc: Global, runs: &mut Runs, run: Run, piece: &[u8]) -> Vec<Token> {
+    let bytes = spelled(rt, alloc, piece);
+    runs.hear(alloc, run, bytes.as_slice()).expect(rt, "memory")
+}
+
 /// Gives a piece to a run and adds what it tells.
 fn hear(
     rt: &impl Abort,
@@ -116,8 +132,7 @@ fn hear(
     piece: &[u8],
     told: &mut String,
 ) {
-    let bytes = spelled(rt, alloc, piece);
-    let tokens = runs.hear(alloc, run, bytes.as_slice()).expect(rt, "memory");
+    let tokens = heard(rt, alloc, runs, run, piece);
     for token in tokens.as_slice() {
         tell(rt, told, token);
     }

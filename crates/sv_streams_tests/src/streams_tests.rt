@@ -1,4 +1,5 @@
 //! Runs that begin, write and end, with the parts written out by hand.
+use crate::parts::{APART, JOINED, behind_parts, piece_of};
 use std::alloc::Global;
 use std::process::Abort;
 use std::rt::HostRuntime;
@@ -55,77 +56,121 @@ fn cuts_a_stream_anywhere(rt: HostRuntime) {
 fn play(rt: &impl Abort, alloc: Global, streams: &mut Streams, word: &str) {
     let (step, wanted) = word.split_once(':').unwrap_or((word, ""));
     let wanted = spelled(rt, alloc, wanted.as_bytes());
-    let told = make(rt, alloc, streams, step, word);
-    assert!(rt;
-        told.as_slice() == wanted.as_slice(),
-        "what comes of {word}"
-    );
+    let wanted = std::str::from_utf8(wanted.as_slice()).unwrap_or("no text");
+    make(rt, alloc, streams, step, wanted);
 }
 
-/// Makes the step of a word: what comes of it.
-fn make(rt: &impl Abort, alloc: Global, streams: &mut Streams, step: &str, word: &str) -> Vec<u8> {
+/// Makes a step, of which this comes.
+fn make(rt: &impl Abort, alloc: Global, streams: &mut Streams, step: &str, wanted: &str) {
     match step.as_bytes() {
-        [b'b', number, b'=', ..] => {
-            begin(rt, alloc, streams, run(*number), step);
-            Vec::new(alloc)
+        [b'b', number, b'=', ..] => begin(rt, alloc, streams, run(*number), step),
+        [b'o', number, b'=', text @ ..] => {
+            fed(
+                rt,
+                alloc,
+                streams,
+                (run(*number), Stream::Out),
+                text,
+                wanted,
+            );
         }
-        [b'o', number, b'=', text @ ..] => fed(rt, alloc, streams, run(*number), Stream::Out, text),
-        [b'e', number, b'=', text @ ..] => fed(rt, alloc, streams, run(*number), Stream::Err, text),
-        [b'.', b'o', number] => at_end(rt, alloc, streams, run(*number), Stream::Out),
-        [b'.', b'e', number] => at_end(rt, alloc, streams, run(*number), Stream::Err),
-        [b'?', number] => asked(rt, alloc, streams, run(*number)),
-        _ => panic!(rt; "no step is {word}"),
+        [b'e', number, b'=', text @ ..] => {
+            fed(
+                rt,
+                alloc,
+                streams,
+                (run(*number), Stream::Err),
+                text,
+                wanted,
+            );
+        }
+        [b'.', b'o', number] => at_end(rt, alloc, streams, (run(*number), Stream::Out), wanted),
+        [b'.', b'e', number] => at_end(rt, alloc, streams, (run(*number), Stream::Err), wanted),
+        [b'?', number] => asked(rt, alloc, streams, run(*number), wanted),
+        _ => panic!(rt; "no step is {step}"),
     }
 }
 
-/// Gives a piece to a pipe of a run: the parts that come of it.
+/// One of the pipes of a run.
+type Pipe = (Run, Stream);
+
+/// The parts that a piece of a pipe gives.
+fn parts_of(
+    rt: &impl Abort,
+    alloc: Global,
+    streams: &mut Streams,
+    pipe: Pipe,
+    text: &[u8],
+) -> Vec<Part> {
+    let piece = spelled(rt, alloc, text);
+    let parts = streams.feed(alloc, pipe.0, pipe.1, piece.as_slice());
+    parts.expect(rt, "memory")
+}
+
+/// These are the parts.
+fn are_parts(rt: &impl Abort, parts: &[Part], wanted: &str) {
+    let left = behind_parts(rt, wanted, parts, APART);
+    assert!(rt; left.is_empty(), "{left} isn't told");
+}
+
+/// Gives a piece to a pipe, of which these parts come.
 fn fed(
     rt: &impl Abort,
     alloc: Global,
     streams: &mut Streams,
-    run: Run,
-    pipe: Stream,
+    pipe: Pipe,
     text: &[u8],
-) -> Vec<u8> {
-    let piece = spelled(rt, alloc, text);
-    let parts = streams.feed(alloc, run, pipe, piece.as_slice());
-    told(rt, alloc, parts.expect(rt, "memory").as_slice())
+    wanted: &str,
+) {
+    let parts = parts_of(rt, alloc, streams, pipe, text);
+    are_parts(rt, parts.as_slice(), wanted);
 }
 
-/// Ends a pipe of a run: the parts that come of it.
-fn at_end(
-    rt: &impl Abort,
-    alloc: Global,
-    streams: &mut Streams,
-    run: Run,
-    pipe: Stream,
-) -> Vec<u8> {
-    let parts = streams.end(alloc, run, pipe).expect(rt, "memory");
-    told(rt, alloc, parts.as_slice())
+/// Ends a pipe, of which these parts come.
+fn at_end(rt: &impl Abort, alloc: Global, streams: &mut Streams, pipe: Pipe, wanted: &str) {
+    let parts = streams.end(alloc, pipe.0, pipe.1).expect(rt, "memory");
+    are_parts(rt, parts.as_slice(), wanted);
 }
 
 fn run(number: u8) -> Run {
     Run(u32::from(number.saturating_sub(b'0')))
 }
 
+/// What a run begins with.
+#[derive(Clone, Copy)]
+struct Beginning {
+    child: usize,
+    pid: u32,
+    redirect: bool,
+    out_limit: u64,
+    err_limit: u64,
+}
+
+/// The child, the pid, the redirection and the limits that stand in a text.
+fn read_beginning(rt: &impl Abort, text: &str) -> Beginning {
+    let mut fields = text.split('.');
+    Beginning {
+        child: number(rt, fields.next()) as usize,
+        pid: number(rt, fields.next()),
+        redirect: fields.next() == Some("r"),
+        out_limit: u64::from(number(rt, fields.next())),
+        err_limit: u64::from(number(rt, fields.next())),
+    }
+}
+
 /// Begins a run, whose child, pid, redirection and limits stand after the sign.
 fn begin(rt: &impl Abort, alloc: Global, streams: &mut Streams, run: Run, step: &str) {
     let (_, text) = step.split_once('=').expect(rt, "what it begins with");
-    let mut fields = text.split('.');
-    let child = number(rt, fields.next());
-    let pid = number(rt, fields.next());
-    let redirect = fields.next() == Some("r");
-    let out_limit = number(rt, fields.next());
-    let err_limit = number(rt, fields.next());
+    let with = read_beginning(rt, text);
     streams
         .begin(
             alloc,
             run,
-            child as usize,
-            pid,
-            redirect,
-            u64::from(out_limit),
-            u64::from(err_limit),
+            with.child,
+            with.pid,
+            with.redirect,
+            with.out_limit,
+            with.err_limit,
         )
         .expect(rt, "memory");
 }
@@ -153,94 +198,79 @@ fn spelled(rt: &impl Abort, alloc: Global, text: &[u8]) -> Vec<u8> {
     bytes
 }
 
-fn put(rt: &impl Abort, told: &mut Vec<u8>, bytes: &[u8]) {
-    told.extend_from_slice(bytes).expect(rt, "memory");
-}
-
-/// The parts, each with its letter before and a mark after it.
-fn told(rt: &impl Abort, alloc: Global, parts: &[Part]) -> Vec<u8> {
-    let mut told = Vec::new(alloc);
-    for part in parts {
-        let (letter, bytes) = match part {
-            Part::Logged(bytes) => (b'L', bytes),
-            Part::Message(bytes) => (b'M', bytes),
-        };
-        told.push(letter).expect(rt, "memory");
-        put(rt, &mut told, bytes.as_slice());
-        told.push(b';').expect(rt, "memory");
+/// The letter of the channel of its stderr.
+fn letter(channel: Stream) -> char {
+    match channel {
+        Stream::Out => 'o',
+        Stream::Err => 'e',
     }
-    told
 }
 
 /// Whose output it is, and the channel of its stderr.
-fn asked(rt: &impl Abort, alloc: Global, streams: &Streams, run: Run) -> Vec<u8> {
-    let Some(owner) = streams.owner(run) else {
-        assert!(rt; streams.channel(run, Stream::Err).is_none(), "no channel");
-        return Vec::from_slice(alloc, b"-").expect(rt, "memory");
-    };
-    let channel = match streams.channel(run, Stream::Err).expect(rt, "a channel") {
-        Stream::Out => 'o',
-        Stream::Err => 'e',
-    };
-    let text = format!(in alloc; "{}.{}{}", owner.child, owner.pid, channel).expect(rt, "memory");
-    text.into_bytes()
+fn asked(rt: &impl Abort, alloc: Global, streams: &Streams, run: Run, wanted: &str) {
+    match (streams.owner(run), streams.channel(run, Stream::Err)) {
+        (None, None) => assert!(rt; wanted == "-", "it has no owner"),
+        (Some(owner), Some(channel)) => {
+            let letter = letter(channel);
+            let told = format!(in alloc; "{}.{}{letter}", owner.child, owner.pid).expect(
+                rt, "memory",
+            );
+            assert!(rt; told.as_str() == wanted, "{told} is its owner");
+        }
+        _ => panic!(rt; "an owner without a channel"),
+    }
 }
 
-/// Gives the next bytes of the stream to a pipe of the first run, and adds the parts.
-fn feed(
+/// Streams of which the first run has begun.
+fn begun(rt: &impl Abort, alloc: Global, redirect: bool) -> Streams {
+    let mut streams = Streams::new(alloc);
+    streams
+        .begin(alloc, Run(1), 0, 12, redirect, 10, 0)
+        .expect(rt, "memory");
+    streams
+}
+
+/// Gives a piece to a pipe of the first run: what is left to tell.
+fn left_after_piece<'a>(
     rt: &impl Abort,
     alloc: Global,
     streams: &mut Streams,
     pipe: Stream,
     piece: &[u8],
-    told: &mut Vec<u8>,
-) {
-    let parts = streams.feed(alloc, Run(1), pipe, piece);
-    join(rt, told, parts.expect(rt, "memory").as_slice());
+    left: &'a str,
+) -> &'a str {
+    let parts = streams
+        .feed(alloc, Run(1), pipe, piece)
+        .expect(rt, "memory");
+    behind_parts(rt, left, parts.as_slice(), JOINED)
 }
 
-/// Ends both pipes of the first run, and adds the parts.
-fn end(rt: &impl Abort, alloc: Global, streams: &mut Streams, told: &mut Vec<u8>) {
-    for ended in [Stream::Err, Stream::Out] {
-        let parts = streams.end(alloc, Run(1), ended);
-        join(rt, told, parts.expect(rt, "memory").as_slice());
-    }
+/// Ends a pipe of the first run: what is left to tell.
+fn left_after_end<'a>(
+    rt: &impl Abort,
+    alloc: Global,
+    streams: &mut Streams,
+    pipe: Stream,
+    left: &'a str,
+) -> &'a str {
+    let parts = streams.end(alloc, Run(1), pipe).expect(rt, "memory");
+    behind_parts(rt, left, parts.as_slice(), JOINED)
 }
 
-/// The stream on one pipe of a run, cut after so many bytes, with its parts joined: what is logged as it stands, and messages
-/// in round brackets.
+/// The stream on one pipe of a run, cut after so many bytes.
 fn play_cut(rt: &impl Abort, alloc: Global, redirect: bool, first: usize, second: usize) {
     let pipe = if redirect { Stream::Err } else { Stream::Out };
-    let mut streams = Streams::new(alloc);
-    let begun = streams.begin(alloc, Run(1), 0, 12, redirect, 10, 0);
-    begun.expect(rt, "memory");
-    let mut told = Vec::new(alloc);
-    let mut piece = Vec::new(alloc);
-    let mut count = 0usize;
-    for byte in STREAM.as_bytes() {
-        piece.push(*byte).expect(rt, "memory");
-        count = count.saturating_add(1);
-        if count == first || count == second || count == 56 {
-            feed(rt, alloc, &mut streams, pipe, piece.as_slice(), &mut told);
-            piece.clear();
+    let mut streams = begun(rt, alloc, redirect);
+    let mut left = "ab(hello)cd<";
+    let mut from = 0usize;
+    for to in 1..57usize {
+        if to == first || to == second || to == 56 {
+            let piece = piece_of(rt, STREAM, from, to);
+            left = left_after_piece(rt, alloc, &mut streams, pipe, piece, left);
+            from = to;
         }
     }
-    end(rt, alloc, &mut streams, &mut told);
-    assert!(rt;
-        told.as_slice() == b"ab(hello)cd<".as_slice(),
-        "cut behind {first} and {second}"
-    );
-}
-
-fn join(rt: &impl Abort, told: &mut Vec<u8>, parts: &[Part]) {
-    for part in parts {
-        match part {
-            Part::Logged(bytes) => put(rt, told, bytes.as_slice()),
-            Part::Message(bytes) => {
-                told.push(b'(').expect(rt, "memory");
-                put(rt, told, bytes.as_slice());
-                told.push(b')').expect(rt, "memory");
-            }
-        }
-    }
+    left = left_after_end(rt, alloc, &mut streams, Stream::Err, left);
+    left = left_after_end(rt, alloc, &mut streams, Stream::Out, left);
+    assert!(rt; left.is_empty(), "cut behind {first} and {second}");
 }
