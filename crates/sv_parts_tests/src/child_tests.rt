@@ -1,10 +1,12 @@
 //! Lives of a child, worked out by hand.
+use crate::claims::holds_at;
+use crate::one_child::killed;
 use crate::sample::{moment, process, seconds};
 use std::alloc::Global;
 use std::process::Abort;
 use sv_base::ids::Run;
 use sv_base::moment::Moment;
-use sv_base::number::{ExitSignal, Pid, Retries, Tries};
+use sv_base::number::{Pid, Retries, Tries};
 use sv_base::signal::Signal;
 use sv_base::spec::Spec;
 use sv_base::state::{Autorestart, How, Mood, State};
@@ -102,27 +104,21 @@ fn play(rt: &impl Abort, spec: &Spec, child: &mut Child, now: Moment, line: Line
     match line {
         Line::Pid(pid) => { child.spawned(spec, Run(pid), Pid::new(pid).expect(rt, "a pid"), now) }
         Line::Refused => child.spawn_failed(spec, Text::fixed("no room"), now),
-        Line::Tick => {
+        line => {
             child.rewind(spec, now);
-            child.moment(spec, Mood::Running, now)
+            play_rewound(rt, spec, child, now, line)
         }
-        Line::Code(code) => {
-            child.rewind(spec, now);
-            child.ended(spec, How::Code(code), now)
-        }
-        Line::Killed(signal) => {
-            child.rewind(spec, now);
-            let signal = ExitSignal::new(signal).expect(rt, "a signal");
-            child.ended(spec, How::Signal(signal), now)
-        }
-        Line::Stop => {
-            child.rewind(spec, now);
-            child.want_stop(spec, now)
-        }
-        Line::Start => {
-            child.rewind(spec, now);
-            child.want_start(spec, now)
-        }
+    }
+}
+
+/// Has a line that answers no spawn befall a rewound child.
+fn play_rewound(rt: &impl Abort, spec: &Spec, child: &mut Child, now: Moment, line: Line) -> Step {
+    match line {
+        Line::Code(code) => child.ended(spec, How::Code(code), now),
+        Line::Killed(signal) => child.ended(spec, killed(rt, signal), now),
+        Line::Stop => child.want_stop(spec, now),
+        Line::Start => child.want_start(spec, now),
+        _ => child.moment(spec, Mood::Running, now),
     }
 }
 
@@ -159,17 +155,23 @@ fn step(wanted: Wanted) -> Step {
     }
 }
 
+/// The line befalls the child, which does then what is wanted.
+fn befalls(rt: &impl Abort, spec: &Spec, child: &mut Child, row: &(u64, Line, Wanted)) {
+    let (now, line, wanted) = *row;
+    let told = play(rt, spec, child, moment(rt, now), line);
+    holds_at(rt, told == step(wanted), now);
+}
+
 /// A life of the child, line by line; at its end it has this fault.
 fn check(
     rt: &impl Abort,
     spec: &Spec,
-    mut child: Child,
+    child: &mut Child,
     life: &[(u64, Line, Wanted)],
     fault: &str,
 ) {
-    for (now, line, wanted) in life {
-        let told = play(rt, spec, &mut child, moment(rt, *now), *line);
-        assert!(rt; told == step(*wanted), "at {now}");
+    for row in life {
+        befalls(rt, spec, child, row);
     }
     assert!(rt; child.fault.as_str() == fault);
 }
@@ -300,10 +302,18 @@ const KILL_AT_EACH_DEADLINE: [(u64, Line, Wanted); 9] = [
     (5_600, Line::Tick, Wanted::Nothing),
 ];
 
+/// The life of a child of this program that was never started.
+fn anew(rt: &impl Abort, spec: &Spec, life: &[(u64, Line, Wanted)], fault: &str) {
+    let mut child = Child::new();
+    check(rt, spec, &mut child, life, fault);
+    drop(child);
+}
+
 /// The life of a new child of a program with these habits.
 fn life(rt: &impl Abort, alloc: Global, habits: Habits, life: &[(u64, Line, Wanted)], fault: &str) {
     let spec = program(rt, alloc, habits);
-    check(rt, &spec, Child::new(), life, fault);
+    anew(rt, &spec, life, fault);
+    drop(spec);
 }
 
 #[test]
@@ -371,24 +381,34 @@ const MILLIONTH_TRY: [(u64, Line, Wanted); 6] = [
     (LAST, Line::Tick, Wanted::Goes(State::Backoff, State::Fatal)),
 ];
 
+/// A start fails, and is tried once more.
+fn fails_for_a_while(rt: &impl Abort, spec: &Spec) {
+    let mut child = starting(rt, 999_999);
+    check(rt, spec, &mut child, &MILLIONTH_TRY, "no room");
+    drop(child);
+}
+
+/// When the child has something to do, in milliseconds; 0 where it hasn't.
+fn due(child: &Child) -> u64 {
+    match child.deadline {
+        Some(deadline) => deadline.milliseconds(),
+        None => 0,
+    }
+}
+
 /// A start fails at the last moment, after as many failed starts as are counted.
 fn fails_once_more(rt: &impl Abort, spec: &Spec) {
     let mut child = starting(rt, 1_000_001);
     play(rt, spec, &mut child, moment(rt, LAST), Line::Refused);
-    assert!(rt; child.tries.get() == 1_000_001);
-    let deadline = child.deadline.expect(rt, "a deadline");
-    assert!(rt; deadline.milliseconds() == 253_001_000_001_000);
+    holds_at(rt, child.tries.get() == 1_000_001, LAST);
+    holds_at(rt, due(&child) == 253_001_000_001_000, LAST);
+    drop(child);
 }
 
 #[test]
 fn limits(rt: HostRuntime) {
     let spec = program(&rt, rt.alloc(), AT_LIMITS);
-    check(
-        &rt,
-        &spec,
-        starting(&rt, 999_999),
-        &MILLIONTH_TRY,
-        "no room",
-    );
+    fails_for_a_while(&rt, &spec);
     fails_once_more(&rt, &spec);
+    drop(spec);
 }

@@ -1,6 +1,6 @@
 //! Days that were looked up by hand.
+use crate::sample::moment;
 use std::process::Abort;
-use sv_base::moment::Moment;
 use sv_dates::{Day, date_of};
 
 /// The moment in milliseconds, and its year, month and day.
@@ -26,7 +26,6 @@ fn days_of_moments(rt: HostRuntime) {
     }
 }
 
-fn is_day(rt: &impl Abort, moment: u64, day: Day) {
-    let moment = Moment::new(moment).expect(rt, "a moment");
-    assert!(rt; date_of(moment) == day);
+fn is_day(rt: &impl Abort, milliseconds: u64, day: Day) {
+    assert!(rt; date_of(moment(rt, milliseconds)) == day);
 }

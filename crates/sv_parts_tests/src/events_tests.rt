@@ -1,9 +1,10 @@
 //! Events with their texts, and the ticks of clock moments, worked out by hand.
+use crate::claims::{holds, holds_at, text_of};
+use crate::sample::moment;
 use std::alloc::Global;
 use std::process::Abort;
 use sv_base::bytes::Bytes;
 use sv_base::kind::Kind;
-use sv_base::moment::Moment;
 use sv_base::state::{State, Stream};
 use sv_base::text::Text;
 use sv_events::covers::covers;
@@ -114,17 +115,25 @@ const EVENTS: [(Kind, Told, &str, &str); 14] = [
 
 #[test]
 fn each_event_has_its_text(rt: HostRuntime) {
-    for (kind, told, text, head) in EVENTS {
-        let body = body_of(&rt, rt.alloc(), told);
-        assert!(rt; body.as_slice() == text.as_bytes(), "the body of {head}");
-        is_enveloped(&rt, rt.alloc(), kind, body, text, head);
+    for (kind, told, text, head) in &EVENTS {
+        is_told(&rt, rt.alloc(), *told, text, head);
+        is_enveloped(&rt, rt.alloc(), *kind, text, head);
     }
+}
+
+/// The body of the event that tells this is this text; the event has this head.
+fn is_told(rt: &impl Abort, alloc: Global, told: Told, text: &str, head: &str) {
+    let body = body_of(rt, alloc, told);
+    holds(rt, body.as_slice() == text.as_bytes(), head);
+    drop(body);
 }
 
 /// The body of the event that tells this.
 fn body_of(rt: &impl Abort, alloc: Global, told: Told) -> Bytes {
     let fact = fact_of(rt, alloc, told);
-    body(alloc, &fact).expect(rt, "memory")
+    let body = body(alloc, &fact);
+    drop(fact);
+    body.expect(rt, "memory")
 }
 
 fn fact_of(rt: &impl Abort, alloc: Global, told: Told) -> Fact {
@@ -189,148 +198,106 @@ fn bytes(rt: &impl Abort, alloc: Global, text: &str) -> Bytes {
     Bytes::from_slice(alloc, text.as_bytes()).expect(rt, "memory")
 }
 
-/// The event of this type with this body.
-fn enveloped(rt: &impl Abort, alloc: Global, kind: Kind, body: Bytes) -> Bytes {
+/// The event of this type whose body is this text.
+fn enveloped(rt: &impl Abort, alloc: Global, kind: Kind, text: &str) -> Bytes {
     let event = Event {
         kind,
         serial: 21,
-        body,
+        body: bytes(rt, alloc, text),
     };
-    envelope(alloc, "supervisor", "ear", 10, &event).expect(rt, "memory")
+    let whole = envelope(alloc, "supervisor", "ear", 10, &event);
+    drop(event);
+    whole.expect(rt, "memory")
 }
 
-/// Whether the event of this type with this body has this head before the body's text.
-fn is_enveloped(rt: &impl Abort, alloc: Global, kind: Kind, body: Bytes, text: &str, head: &str) {
-    let whole = enveloped(rt, alloc, kind, body);
-    let whole = std::str::from_utf8(whole.as_slice()).unwrap_or("");
-    assert!(rt;
-        whole.strip_prefix(head) == Some(text),
-        "the envelope of {head}"
-    );
+/// The event of this type whose body is this text has this head before it.
+fn is_enveloped(rt: &impl Abort, alloc: Global, kind: Kind, text: &str, head: &str) {
+    let whole = enveloped(rt, alloc, kind, text);
+    holds(rt, is_joined(text_of(whole.as_slice()), head, text), head);
+    drop(whole);
 }
 
-// each type, and the types that cover it (one of them twice where they are fewer than three)
-const COVERED: [(Kind, [Kind; 3]); 27] = [
-    (Kind::Event, [Kind::Event, Kind::Event, Kind::Event]),
-    (
-        Kind::ProcessState,
-        [Kind::Event, Kind::ProcessState, Kind::ProcessState],
-    ),
+/// Whether the whole is the head and the text behind it.
+fn is_joined(whole: &str, head: &str, text: &str) -> bool {
+    whole.strip_prefix(head) == Some(text)
+}
+
+// each type, and the names of the types that cover it
+const COVERED: [(Kind, &str); 27] = [
+    (Kind::Event, "EVENT"),
+    (Kind::ProcessState, "EVENT PROCESS_STATE"),
     (
         Kind::ProcessStateStarting,
-        [Kind::Event, Kind::ProcessState, Kind::ProcessStateStarting],
+        "EVENT PROCESS_STATE PROCESS_STATE_STARTING",
     ),
     (
         Kind::ProcessStateRunning,
-        [Kind::Event, Kind::ProcessState, Kind::ProcessStateRunning],
+        "EVENT PROCESS_STATE PROCESS_STATE_RUNNING",
     ),
     (
         Kind::ProcessStateBackoff,
-        [Kind::Event, Kind::ProcessState, Kind::ProcessStateBackoff],
+        "EVENT PROCESS_STATE PROCESS_STATE_BACKOFF",
     ),
     (
         Kind::ProcessStateStopping,
-        [Kind::Event, Kind::ProcessState, Kind::ProcessStateStopping],
+        "EVENT PROCESS_STATE PROCESS_STATE_STOPPING",
     ),
     (
         Kind::ProcessStateExited,
-        [Kind::Event, Kind::ProcessState, Kind::ProcessStateExited],
+        "EVENT PROCESS_STATE PROCESS_STATE_EXITED",
     ),
     (
         Kind::ProcessStateStopped,
-        [Kind::Event, Kind::ProcessState, Kind::ProcessStateStopped],
+        "EVENT PROCESS_STATE PROCESS_STATE_STOPPED",
     ),
     (
         Kind::ProcessStateFatal,
-        [Kind::Event, Kind::ProcessState, Kind::ProcessStateFatal],
+        "EVENT PROCESS_STATE PROCESS_STATE_FATAL",
     ),
     (
         Kind::ProcessStateUnknown,
-        [Kind::Event, Kind::ProcessState, Kind::ProcessStateUnknown],
+        "EVENT PROCESS_STATE PROCESS_STATE_UNKNOWN",
     ),
-    (
-        Kind::ProcessCommunication,
-        [
-            Kind::Event,
-            Kind::ProcessCommunication,
-            Kind::ProcessCommunication,
-        ],
-    ),
+    (Kind::ProcessCommunication, "EVENT PROCESS_COMMUNICATION"),
     (
         Kind::ProcessCommunicationStdout,
-        [
-            Kind::Event,
-            Kind::ProcessCommunication,
-            Kind::ProcessCommunicationStdout,
-        ],
+        "EVENT PROCESS_COMMUNICATION PROCESS_COMMUNICATION_STDOUT",
     ),
     (
         Kind::ProcessCommunicationStderr,
-        [
-            Kind::Event,
-            Kind::ProcessCommunication,
-            Kind::ProcessCommunicationStderr,
-        ],
+        "EVENT PROCESS_COMMUNICATION PROCESS_COMMUNICATION_STDERR",
     ),
-    (
-        Kind::ProcessLog,
-        [Kind::Event, Kind::ProcessLog, Kind::ProcessLog],
-    ),
+    (Kind::ProcessLog, "EVENT PROCESS_LOG"),
     (
         Kind::ProcessLogStdout,
-        [Kind::Event, Kind::ProcessLog, Kind::ProcessLogStdout],
+        "EVENT PROCESS_LOG PROCESS_LOG_STDOUT",
     ),
     (
         Kind::ProcessLogStderr,
-        [Kind::Event, Kind::ProcessLog, Kind::ProcessLogStderr],
+        "EVENT PROCESS_LOG PROCESS_LOG_STDERR",
     ),
-    (
-        Kind::RemoteCommunication,
-        [
-            Kind::Event,
-            Kind::RemoteCommunication,
-            Kind::RemoteCommunication,
-        ],
-    ),
-    (
-        Kind::SupervisorStateChange,
-        [
-            Kind::Event,
-            Kind::SupervisorStateChange,
-            Kind::SupervisorStateChange,
-        ],
-    ),
+    (Kind::RemoteCommunication, "EVENT REMOTE_COMMUNICATION"),
+    (Kind::SupervisorStateChange, "EVENT SUPERVISOR_STATE_CHANGE"),
     (
         Kind::SupervisorStateChangeRunning,
-        [
-            Kind::Event,
-            Kind::SupervisorStateChange,
-            Kind::SupervisorStateChangeRunning,
-        ],
+        "EVENT SUPERVISOR_STATE_CHANGE SUPERVISOR_STATE_CHANGE_RUNNING",
     ),
     (
         Kind::SupervisorStateChangeStopping,
-        [
-            Kind::Event,
-            Kind::SupervisorStateChange,
-            Kind::SupervisorStateChangeStopping,
-        ],
+        "EVENT SUPERVISOR_STATE_CHANGE SUPERVISOR_STATE_CHANGE_STOPPING",
     ),
-    (Kind::Tick, [Kind::Event, Kind::Tick, Kind::Tick]),
-    (Kind::Tick5, [Kind::Event, Kind::Tick, Kind::Tick5]),
-    (Kind::Tick60, [Kind::Event, Kind::Tick, Kind::Tick60]),
-    (Kind::Tick3600, [Kind::Event, Kind::Tick, Kind::Tick3600]),
-    (
-        Kind::ProcessGroup,
-        [Kind::Event, Kind::ProcessGroup, Kind::ProcessGroup],
-    ),
+    (Kind::Tick, "EVENT TICK"),
+    (Kind::Tick5, "EVENT TICK TICK_5"),
+    (Kind::Tick60, "EVENT TICK TICK_60"),
+    (Kind::Tick3600, "EVENT TICK TICK_3600"),
+    (Kind::ProcessGroup, "EVENT PROCESS_GROUP"),
     (
         Kind::ProcessGroupAdded,
-        [Kind::Event, Kind::ProcessGroup, Kind::ProcessGroupAdded],
+        "EVENT PROCESS_GROUP PROCESS_GROUP_ADDED",
     ),
     (
         Kind::ProcessGroupRemoved,
-        [Kind::Event, Kind::ProcessGroup, Kind::ProcessGroupRemoved],
+        "EVENT PROCESS_GROUP PROCESS_GROUP_REMOVED",
     ),
 ];
 
@@ -358,32 +325,40 @@ const TICKS: [(u64, u64, [Option<u64>; 3]); 10] = [
 
 #[test]
 fn covers_and_ticks(rt: HostRuntime) {
-    for (kind, above) in COVERED {
-        for (parent, _) in COVERED {
-            check_covers(&rt, parent, kind, above);
+    let covered = COVERED.as_slice();
+    for (kind, above) in covered {
+        are_above(&rt, covered, *kind, above);
+    }
+    for (last, now, ticks) in &TICKS {
+        check_ticks(&rt, *last, *now, ticks);
+    }
+}
+
+/// The types of these names cover this one, and no others of all do.
+fn are_above(rt: &impl Abort, all: &[(Kind, &str)], kind: Kind, above: &str) {
+    for (parent, _) in all {
+        let wanted = is_one_of(parent.name(), above);
+        holds(rt, covers(*parent, kind) == wanted, kind.name());
+    }
+}
+
+/// Whether this is one of these names, with spaces between them.
+fn is_one_of(name: &str, names: &str) -> bool {
+    for one in names.split(' ') {
+        if one == name {
+            return true;
         }
     }
-    for (last, now, ticks) in TICKS {
-        check_ticks(&rt, last, now, ticks);
-    }
+    false
 }
 
-fn check_covers(rt: &impl Abort, parent: Kind, kind: Kind, above: [Kind; 3]) {
-    let wanted = above[0] == parent || above[1] == parent || above[2] == parent;
-    assert!(rt; covers(parent, kind) == wanted, "{parent:?} over {kind:?}");
+/// From the last moment to the new one there are these ticks, and then no more.
+fn check_ticks(rt: &impl Abort, last: u64, now: u64, wanted: &[Option<u64>; 3]) {
+    let mut ticks = Ticks::new(moment(rt, last));
+    let now = moment(rt, now);
+    holds_at(rt, ticks.at(now) == *wanted, last);
+    holds_at(rt, ticks.at(now) == NONE, last);
 }
 
-fn check_ticks(rt: &impl Abort, last: u64, now: u64, wanted: [Option<u64>; 3]) {
-    let mut ticks = Ticks::new(Moment::new(last).expect(rt, "a moment"));
-    let now = Moment::new(now).expect(rt, "a moment");
-    let found = ticks.at(now);
-    assert!(rt;
-        found[0] == wanted[0] && found[1] == wanted[1] && found[2] == wanted[2],
-        "from {last}"
-    );
-    let again = ticks.at(now);
-    assert!(rt;
-        again[0].is_none() && again[1].is_none() && again[2].is_none(),
-        "again at {last}"
-    );
-}
+/// No ticks.
+const NONE: [Option<u64>; 3] = [None, None, None];

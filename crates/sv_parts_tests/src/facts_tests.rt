@@ -1,14 +1,14 @@
 //! The events of a child's life along all edges of the diagram, written out by hand.
-use crate::one_child::{Happening, answered, brought, is_answer, news, one_child, what_happens};
+use crate::claims::{holds, text_of};
+use crate::one_child::{Happening, Telling, answered, brought, is_answer, live, news, one_child};
 use std::alloc::Global;
 use std::process::Abort;
 use std::rt::HostRuntime;
 use sv_base::bytes::Bytes;
-use sv_base::ids::Run;
 use sv_base::state::State;
 use sv_child::step::{Edge, Step};
 use sv_children::Children;
-use sv_events::body;
+use sv_events::{Fact, body};
 use sv_facts::{fact_at, kind_of, pid_at};
 
 /// What happens to the process p of the group g, one second after the other; startsecs is 2, startretries 1, and 0 and 3
@@ -59,35 +59,37 @@ code 0|STOPPED STOPPING pid:13
 
 #[test]
 fn each_edge_has_its_event(rt: HostRuntime) {
-    let mut children = one_child(&rt, rt.alloc());
-    let mut second = 0u64;
-    let mut run = 0u32;
-    for line in LIFE.lines() {
-        let (words, events) = line.split_once('|').unwrap_or((line, ""));
-        if words.starts_with("pid") {
-            run = run.saturating_add(1);
-        }
-        let happening = what_happens(&rt, second, Run(run), words);
-        gives(&rt, rt.alloc(), &mut children, &happening, events);
-        second = second.saturating_add(1);
-    }
+    live(&rt, rt.alloc(), LIFE, Telling::Events);
 }
 
 #[test]
 fn no_child_tells_nothing(rt: HostRuntime) {
     let children = one_child(&rt, rt.alloc());
+    no_child_has_events(&rt, &children);
+    drop(children);
+    assert!(rt; kind_of(State::Unknown).name() == "PROCESS_STATE_UNKNOWN");
+}
+
+/// Whether there is no fact of an edge of the child of this place.
+fn has_no_fact(rt: &impl Abort, children: &Children, place: usize) -> bool {
     let edge = Edge {
         from: State::Stopped,
         to: State::Starting,
     };
-    let fact = fact_at(&children, 1, 0, edge).expect(&rt, "memory");
-    assert!(rt; fact.is_none());
-    assert!(rt; pid_at(&children, 1) == 0);
-    assert!(rt; kind_of(State::Unknown).name() == "PROCESS_STATE_UNKNOWN");
+    let fact = fact_at(children, place, 0, edge).expect(rt, "memory");
+    let is_none = fact.is_none();
+    drop(fact);
+    is_none
+}
+
+/// Where there is no child there are no facts of its edges, and it has no pid.
+fn no_child_has_events(rt: &impl Abort, children: &Children) {
+    holds(rt, has_no_fact(rt, children, 1), "no child");
+    holds(rt, pid_at(children, 1) == 0, "no child");
 }
 
 /// What happens to the child gives these events.
-fn gives(
+pub fn tells_events(
     rt: &impl Abort,
     alloc: Global,
     children: &mut Children,
@@ -101,7 +103,7 @@ fn gives(
             tells(rt, alloc, children, pid, step.edges[0], before);
             tells(rt, alloc, children, pid, step.edges[1], behind);
         }
-        None => assert!(rt; events.is_empty(), "{events} isn't told"),
+        None => holds(rt, events.is_empty(), events),
     }
 }
 
@@ -127,7 +129,7 @@ fn tells(
 ) {
     match edge {
         Some(edge) => is_event(rt, alloc, children, pid, edge, event),
-        None => assert!(rt; event.is_empty(), "{event} isn't told"),
+        None => holds(rt, event.is_empty(), event),
     }
 }
 
@@ -142,20 +144,32 @@ fn is_event(
 ) {
     let (name, rest) = event.split_once(' ').unwrap_or((event, ""));
     let kind = kind_of(edge.to).name();
-    assert!(rt;
-        kind.strip_prefix("PROCESS_STATE_") == Some(name),
-        "{event}"
-    );
+    holds(rt, is_behind(kind, "PROCESS_STATE_", name), event);
     let bytes = body_of(rt, alloc, children, pid, edge);
-    let text = std::str::from_utf8(bytes.as_slice()).unwrap_or("");
-    let told = text.strip_prefix("processname:p groupname:g from_state:");
-    assert!(rt; told == Some(rest), "{event}");
+    let text = text_of(bytes.as_slice());
+    holds(
+        rt,
+        is_behind(text, "processname:p groupname:g from_state:", rest),
+        event,
+    );
+    drop(bytes);
+}
+
+/// Whether the text begins so, and goes on so.
+fn is_behind(text: &str, beginning: &str, rest: &str) -> bool {
+    text.strip_prefix(beginning) == Some(rest)
+}
+
+/// The fact of an edge.
+fn fact_of(rt: &impl Abort, children: &Children, pid: u32, edge: Edge) -> Fact {
+    let fact = fact_at(children, 0, pid, edge).expect(rt, "memory");
+    fact.expect(rt, "a child")
 }
 
 /// The body of the event of an edge.
 fn body_of(rt: &impl Abort, alloc: Global, children: &Children, pid: u32, edge: Edge) -> Bytes {
-    let fact = fact_at(children, 0, pid, edge)
-        .expect(rt, "memory")
-        .expect(rt, "a child");
-    body(alloc, &fact).expect(rt, "memory")
+    let fact = fact_of(rt, children, pid, edge);
+    let body = body(alloc, &fact);
+    drop(fact);
+    body.expect(rt, "memory")
 }

@@ -1,5 +1,7 @@
 //! The first inputs of some runs, worked out by another program.
 
+use crate::claims::{holds, number_of};
+use crate::sample::moment;
 use std::process::Abort;
 use sv_base::ids::Run;
 use sv_base::moment::Moment;
@@ -45,39 +47,35 @@ const CASES: [Case; 6] = [
     },
 ];
 
-/// A number as the tests write it; none is 0.
-fn number(rt: &impl Abort, digits: &str) -> u32 {
-    if digits.is_empty() {
-        0
-    } else {
-        digits.parse::<u32>().ok().expect(rt, "a number")
+/// An input as the tests write it: its moment, its kind, and the number of a run or of a program.
+fn spelled(rt: &impl Abort, text: &str) -> Option<Draw> {
+    match text.split_once(' ') {
+        Some((digits, rest)) => {
+            let at = moment(rt, u64::from(number_of(digits)));
+            let (kind, digits) = rest.split_once(' ').unwrap_or((rest, ""));
+            Some(spelled_at(at, kind, number_of(digits)))
+        }
+        None => None,
     }
 }
 
-/// An input as the tests write it: its moment, its kind, and the number of a run or of a program.
-fn spelled(rt: &impl Abort, text: &str) -> Option<Draw> {
-    let (digits, rest) = text.split_once(' ')?;
-    let at = Moment::new(u64::from(number(rt, digits))).expect(rt, "a moment");
-    let (kind, digits) = rest.split_once(' ').unwrap_or((rest, ""));
-    let number = number(rt, digits);
+/// An input of this kind at this moment, of the run or of the program of this number.
+fn spelled_at(at: Moment, kind: &str, number: u32) -> Draw {
     match kind {
-        "exit" => Some(Draw::Exit(at, Run(number))),
-        "stop" => Some(Draw::Stop(at, number)),
-        "start" => Some(Draw::Start(at, number)),
-        _ => Some(Draw::Tick(at)),
+        "exit" => Draw::Exit(at, Run(number)),
+        "stop" => Draw::Stop(at, number),
+        "start" => Draw::Start(at, number),
+        _ => Draw::Tick(at),
     }
 }
 
 /// Draws the inputs of a case.
 fn are_drawn(rt: &impl Abort, case: &Case) {
-    if case.number <= 1_000_000 && case.issued <= 4_294_967_295 {
-        let mut generated = generate(case.number);
-        for wanted in case.draws.split('|') {
-            assert!(rt;
-                generated.draw(case.issued) == spelled(rt, wanted),
-                "{wanted}"
-            );
-        }
+    assert!(rt; case.number <= 1_000_000 && case.issued <= 4_294_967_295);
+    let mut generated = generate(case.number);
+    for wanted in case.draws.split('|') {
+        let draw = generated.draw(case.issued);
+        holds(rt, draw == spelled(rt, wanted), wanted);
     }
 }
 

@@ -6,6 +6,8 @@
 #[cfg(test)]
 mod child_tests;
 #[cfg(test)]
+mod claims;
+#[cfg(test)]
 mod dates_tests;
 #[cfg(test)]
 mod events_tests;

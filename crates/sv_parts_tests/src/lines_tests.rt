@@ -1,10 +1,11 @@
 //! The lines of a child's life along all edges of the diagram, and the other rows, written out by hand.
-use crate::one_child::{Happening, answered, brought, is_answer, news, one_child, what_happens};
+use crate::claims::holds;
+use crate::one_child::{Happening, Telling, answered, brought, is_answer, live, news, one_child};
 use crate::sample::moment;
 use std::alloc::Global;
 use std::process::Abort;
 use std::rt::HostRuntime;
-use sv_base::ids::Run;
+use sv_base::bytes::Bytes;
 use sv_base::moment::Moment;
 use sv_base::state::{How, Level};
 use sv_base::text::Text;
@@ -97,29 +98,25 @@ signal 64|I stopped: p (terminated by signal 64)
 
 #[test]
 fn each_edge_has_its_line(rt: HostRuntime) {
-    let mut children = one_child(&rt, rt.alloc());
-    let mut second = 0u64;
-    let mut run = 0u32;
-    for line in LIFE.lines() {
-        let (words, lines) = line.split_once('|').unwrap_or((line, ""));
-        if words.starts_with("pid") {
-            run = run.saturating_add(1);
-        }
-        let happening = what_happens(&rt, second, Run(run), words);
-        gives(&rt, rt.alloc(), &mut children, &happening, lines);
-        second = second.saturating_add(1);
-    }
+    live(&rt, rt.alloc(), LIFE, Telling::Lines);
 }
 
 #[test]
 fn other_rows(rt: HostRuntime) {
     overflows(&rt, rt.alloc());
     has_no_line(&rt, rt.alloc());
-    assert!(rt; is_written(Level::Blather, Level::Blather));
-    assert!(rt; !is_written(Level::Blather, Level::Trace));
-    assert!(rt; !is_written(Level::Info, Level::Warn));
-    assert!(rt; is_written(Level::Critical, Level::Warn));
+    for (line, log, wanted) in &WRITTEN {
+        holds(&rt, is_written(*line, *log) == *wanted, "what is written");
+    }
 }
+
+/// Two levels as `is_written` takes them, and what it answers.
+const WRITTEN: [(Level, Level, bool); 4] = [
+    (Level::Blather, Level::Blather, true),
+    (Level::Blather, Level::Trace, false),
+    (Level::Info, Level::Warn, false),
+    (Level::Critical, Level::Warn, true),
+];
 
 /// The row of a pool that drops the last event of all.
 const OVERFLOWED: &str =
@@ -130,25 +127,40 @@ fn overflows(rt: &impl Abort, alloc: Global) {
     let line = overflowed(alloc, &Text::fixed("G"), u64::MAX).expect(rt, "memory");
     is_row(rt, alloc, Level::Error, &line, OVERFLOWED);
     is_row(rt, alloc, Level::Critical, &line, "");
+    drop(line);
 }
 
 /// A main log of this level has this row for the line, a second after its first moment; an empty one is none.
 fn is_row(rt: &impl Abort, alloc: Global, level: Level, line: &Line, row: &str) {
-    match &written(alloc, level, moment(rt, 1_000), line).expect(rt, "memory") {
-        Some(bytes) => assert!(rt; bytes.as_slice() == row.as_bytes(), "{row}"),
-        None => assert!(rt; row.is_empty(), "{row}"),
+    let written = written(alloc, level, moment(rt, 1_000), line).expect(rt, "memory");
+    holds(rt, is_the_row(&written, row), row);
+    drop(written);
+}
+
+/// Whether this is the row; an empty one is none.
+fn is_the_row(written: &Option<Bytes>, row: &str) -> bool {
+    match written {
+        Some(bytes) => bytes.as_slice() == row.as_bytes(),
+        None => row.is_empty(),
     }
+}
+
+/// The line of the spawn of the child of this place.
+fn spawned(rt: &impl Abort, alloc: Global, children: &Children, place: usize) -> Option<Line> {
+    spawned_at(alloc, children, place, 7).expect(rt, "memory")
 }
 
 /// Where there is no child there is no line of its spawn.
 fn has_no_line(rt: &impl Abort, alloc: Global) {
     let children = one_child(rt, alloc);
-    let line = spawned_at(alloc, &children, 1, 7).expect(rt, "memory");
-    assert!(rt; line.is_none());
+    let line = spawned(rt, alloc, &children, 1);
+    holds(rt, line.is_none(), "no child");
+    drop(line);
+    drop(children);
 }
 
 /// What happens to the child gives these lines.
-fn gives(
+pub fn tells_lines(
     rt: &impl Abort,
     alloc: Global,
     children: &mut Children,
@@ -163,7 +175,7 @@ fn gives(
         let news = news(rt, happening);
         after_news(rt, alloc, children, &news, happening.now, lines)
     };
-    assert!(rt; rest.is_empty(), "{rest} isn't told");
+    holds(rt, rest.is_empty(), rest);
 }
 
 /// What is left of these lines after those of an answer to the child's spawn.
@@ -243,14 +255,19 @@ fn after_edge<'a>(
 
 /// What is left of these lines after this one, which is the first of them where there is one.
 fn after<'a>(rt: &impl Abort, line: Option<Line>, lines: &'a str) -> &'a str {
-    match &line {
-        Some(line) => {
-            let (first, rest) = lines.split_once('|').unwrap_or((lines, ""));
-            assert!(rt; is_line(line, first), "{first}");
-            rest
-        }
+    let rest = match &line {
+        Some(line) => behind(rt, line, lines),
         None => lines,
-    }
+    };
+    drop(line);
+    rest
+}
+
+/// What is left of these lines after this one, which is the first of them.
+fn behind<'a>(rt: &impl Abort, line: &Line, lines: &'a str) -> &'a str {
+    let (first, rest) = lines.split_once('|').unwrap_or((lines, ""));
+    holds(rt, is_line(line, first), first);
+    rest
 }
 
 /// The line is this one: the first letter of its level, a space, and its text.

@@ -1,17 +1,16 @@
 //! Logs, spans and lines, worked out by hand.
+use crate::claims::{holds, holds_at};
 use crate::orders::are_of_log;
+use crate::sample::moment;
 use std::alloc::Global;
-use std::collections::BTreeMap;
 use std::process::Abort;
+use sv_base::bytes::Bytes;
 use sv_base::config::FileOrder;
-use sv_base::moment::Moment;
 use sv_base::number::Backups;
 use sv_base::state::Level;
 use sv_base::text::Text;
 use sv_logs::{BadArguments, LogPlan, Span, main_line, read_span, tail_span};
-
-/// The names and texts of some files.
-type Files = BTreeMap<String, String>;
+use sv_out::{MapShelf, Shelf};
 
 fn plan(rt: &impl Abort, maxbytes: u64, backups: u32, size: u64) -> LogPlan {
     LogPlan {
@@ -59,107 +58,135 @@ const APPENDS: [(u64, u32, u64, &str, u64, &str); 12] = [
     ),
 ];
 
+/// The orders that an append of this piece gives.
+fn orders_for(rt: &impl Abort, alloc: Global, plan: &mut LogPlan, piece: &str) -> Vec<FileOrder> {
+    plan.append(alloc, piece.as_bytes()).expect(rt, "memory")
+}
+
+/// An append gives these orders.
+fn gives(rt: &impl Abort, alloc: Global, plan: &mut LogPlan, piece: &str, orders: &str) {
+    let given = orders_for(rt, alloc, plan, piece);
+    are_of_log(rt, given.as_slice(), orders);
+    drop(given);
+}
+
 /// What an append makes of the plan and orders.
 fn appends(
     rt: &impl Abort,
     alloc: Global,
-    plan: &mut LogPlan,
+    mut plan: LogPlan,
     piece: &str,
     size: u64,
     orders: &str,
 ) {
-    let given = plan.append(alloc, piece.as_bytes()).expect(rt, "memory");
-    are_of_log(rt, given.as_slice(), orders);
-    assert_eq!(rt; plan.size, size, "after {piece}");
+    gives(rt, alloc, &mut plan, piece, orders);
+    holds(rt, plan.size == size, piece);
+    drop(plan);
 }
 
 #[test]
 fn orders_of_an_append(rt: HostRuntime) {
-    for (maxbytes, backups, size, piece, after, orders) in APPENDS {
-        let mut plan = plan(&rt, maxbytes, backups, size);
-        appends(&rt, rt.alloc(), &mut plan, piece, after, orders);
+    for (maxbytes, backups, size, piece, after, orders) in &APPENDS {
+        let plan = plan(&rt, *maxbytes, *backups, *size);
+        appends(&rt, rt.alloc(), plan, piece, *after, orders);
     }
 }
 
 /// The orders of a plan with 1,000 backups whose size is over its limit.
 fn many_orders(rt: &impl Abort, alloc: Global) -> Vec<FileOrder> {
     let mut plan = plan(rt, 1, 1_000, 0);
-    plan.append(alloc, b"x").expect(rt, "memory")
+    let orders = orders_for(rt, alloc, &mut plan, "x");
+    drop(plan);
+    orders
+}
+
+/// A part of these orders, in order.
+fn part_of(rt: &impl Abort, orders: &[FileOrder], from: usize, to: usize, wanted: &str) {
+    are_of_log(rt, orders.get(from..to).unwrap_or(&[]), wanted);
 }
 
 /// With 1,000 backups there are 1,000 moves, the last backup first.
 #[test]
 fn orders_of_many_backups(rt: HostRuntime) {
     let orders = many_orders(&rt, rt.alloc());
-    let orders = orders.as_slice();
-    assert!(rt; orders.len() == 1_002);
-    are_of_log(
-        &rt,
-        &orders[..3],
+    are_many(&rt, orders.as_slice());
+    drop(orders);
+}
+
+/// These are the first and the last of 1,002 orders.
+fn are_many(rt: &impl Abort, orders: &[FileOrder]) {
+    holds_at(rt, orders.len() == 1_002, 1_002);
+    part_of(
+        rt,
+        orders,
+        0,
+        3,
         "append /l x;shift /l.999 /l.1000;shift /l.998 /l.999;",
     );
-    are_of_log(
-        &rt,
-        &orders[999..],
+    part_of(
+        rt,
+        orders,
+        999,
+        1_002,
         "shift /l.1 /l.2;shift /l /l.1;fresh /l;",
     );
 }
 
-fn put(rt: &impl Abort, alloc: Global, files: &mut Files, name: &str, held: String) {
-    let key = String::from_str(alloc, name).expect(rt, "memory");
-    let before: Result<_, _> = files.insert(key, held);
-    before.expect(rt, "memory");
-}
-
 /// The file of this name is there, and holds this.
-fn hold(rt: &impl Abort, alloc: Global, files: &mut Files, name: &str, held: &str) {
-    let held = String::from_str(alloc, held).expect(rt, "memory");
-    put(rt, alloc, files, name, held);
-}
-
-/// Adds bytes to the end of a file.
-fn add(rt: &impl Abort, alloc: Global, files: &mut Files, name: &str, bytes: &[u8]) {
-    let mut held = files.remove(name).unwrap_or(String::new(alloc));
-    let text = std::str::from_utf8(bytes).unwrap_or("no text");
-    held.push_str(text).expect(rt, "memory");
-    put(rt, alloc, files, name, held);
+fn hold(rt: &impl Abort, alloc: Global, files: &mut MapShelf, name: &'static str, held: &str) {
+    let held = Bytes::from_slice(alloc, held.as_bytes()).expect(rt, "memory");
+    files.set(Text::fixed(name), held).expect(rt, "memory");
 }
 
 /// Carries out one order on the files.
-fn carry(rt: &impl Abort, alloc: Global, files: &mut Files, order: &FileOrder) {
-    match order {
-        FileOrder::Append(name, bytes) => add(rt, alloc, files, name.as_str(), bytes.as_slice()),
-        FileOrder::Shift(from, to) => if let Some(held) = files.remove(from.as_str()) {
-            put(rt, alloc, files, to.as_str(), held);
-        },
-        FileOrder::Fresh(name) => hold(rt, alloc, files, name.as_str(), ""),
-    }
+fn carry(rt: &impl Abort, alloc: Global, files: &mut MapShelf, order: &FileOrder) {
+    let done = match order {
+        FileOrder::Append(name, bytes) => files.append(alloc, name.as_str(), bytes.as_slice()),
+        FileOrder::Shift(from, to) => files.shift(alloc, from.as_str(), to.as_str()),
+        FileOrder::Fresh(name) => files.fresh(alloc, name.as_str()),
+    };
+    assert!(rt; done.is_ok());
 }
 
 /// Appends a piece to the log and carries out the orders for it.
-fn grow(rt: &impl Abort, alloc: Global, files: &mut Files, plan: &mut LogPlan, piece: &str) {
-    let orders = plan.append(alloc, piece.as_bytes()).expect(rt, "memory");
+fn grow(rt: &impl Abort, alloc: Global, files: &mut MapShelf, plan: &mut LogPlan, piece: &str) {
+    let orders = orders_for(rt, alloc, plan, piece);
     for order in orders.as_slice() {
         carry(rt, alloc, files, order);
     }
+    drop(orders);
 }
 
 /// A log of which there are two backups.
-fn old_files(rt: &impl Abort, alloc: Global) -> Files {
-    let mut files = BTreeMap::new(alloc);
+fn old_files(rt: &impl Abort, alloc: Global) -> MapShelf {
+    let mut files = MapShelf::new(alloc, Vec::new(alloc));
     hold(rt, alloc, &mut files, "/l.1", "P");
     hold(rt, alloc, &mut files, "/l.2", "Q");
     files
 }
 
+/// There are so many files.
+fn are_so_many(rt: &impl Abort, alloc: Global, files: &mut MapShelf, count: usize) {
+    match files.names(alloc, "/*") {
+        Ok(names) => holds_at(rt, names.as_slice().len() == count, count as u64),
+        Err(_) => holds(rt, false, "memory"),
+    }
+}
+
+/// The file of this name holds this text.
+fn is_held(rt: &impl Abort, alloc: Global, files: &MapShelf, name: &str, text: &str) {
+    let held = match files.file(alloc, name) {
+        Ok(Some(bytes)) => bytes.as_slice(),
+        _ => b"no file",
+    };
+    holds(rt, held == text.as_bytes(), name);
+}
+
 /// These are the files, each with what it holds.
-fn are_kept(rt: &impl Abort, files: &Files, wanted: &[(&str, &str)]) {
-    assert!(rt; files.len() == wanted.len());
+fn are_kept(rt: &impl Abort, alloc: Global, files: &mut MapShelf, wanted: &[(&str, &str)]) {
+    are_so_many(rt, alloc, files, wanted.len());
     for (name, text) in wanted {
-        match files.get(*name) {
-            Some(held) => assert!(rt; held.as_str() == *text, "what {name} holds"),
-            None => panic!(rt; "no {name}"),
-        }
+        is_held(rt, alloc, files, name, text);
     }
 }
 
@@ -214,34 +241,45 @@ fn keeps(
     wanted: &[(&str, &str)],
 ) {
     let mut files = old_files(rt, alloc);
+    grow_by_all(rt, alloc, &mut files, limits, pieces);
+    are_kept(rt, alloc, &mut files, wanted);
+    drop(files);
+}
+
+/// Appends pieces to a log with this limit and so many backups.
+fn grow_by_all(
+    rt: &impl Abort,
+    alloc: Global,
+    files: &mut MapShelf,
+    limits: (u64, u32),
+    pieces: &[&str],
+) {
     let mut plan = plan(rt, limits.0, limits.1, 0);
     for piece in pieces {
-        grow(rt, alloc, &mut files, &mut plan, piece);
+        grow(rt, alloc, files, &mut plan, piece);
     }
-    are_kept(rt, &files, wanted);
+    drop(plan);
 }
 
 #[test]
 fn files_after_the_orders(rt: HostRuntime) {
-    for (maxbytes, backups, pieces, wanted) in GROWTHS {
-        keeps(&rt, rt.alloc(), (maxbytes, backups), pieces, wanted);
+    for (maxbytes, backups, pieces, wanted) in &GROWTHS {
+        keeps(&rt, rt.alloc(), (*maxbytes, *backups), pieces, wanted);
     }
 }
 
-fn reads(rt: &impl Abort, size: u64, offset: i64, length: i64, span: Option<(u64, u64)>) {
-    let expected = match span {
-        Some((start, length)) => Ok(Span { start, length }),
-        None => Err(BadArguments),
-    };
-    assert!(rt; read_span(size, offset, length) == expected);
+/// What is read of a log: its start and its length, or nothing where the arguments are bad.
+fn read_of(size: u64, offset: i64, length: i64) -> Option<(u64, u64)> {
+    match read_span(size, offset, length) {
+        Ok(Span { start, length }) => Some((start, length)),
+        Err(BadArguments) => None,
+    }
 }
 
-fn tails(rt: &impl Abort, size: u64, offset: i64, length: i64, span: (u64, u64), missed: bool) {
+/// The end that is read, from this byte and of this length, the size, and whether bytes before it were missed.
+fn is_tail(size: u64, offset: i64, length: i64, span: (u64, u64), missed: bool) -> bool {
     let (part, next, flag) = tail_span(size, offset, length);
-    assert_eq!(rt; part.start, span.0);
-    assert_eq!(rt; part.length, span.1);
-    assert_eq!(rt; next, size);
-    assert_eq!(rt; flag, missed);
+    (part.start, part.length) == span && next == size && flag == missed
 }
 
 /// A size, an offset and a length, and the start and the length of what is read.
@@ -371,21 +409,20 @@ const LINES: [(u64, Level, &str, &str); 11] = [
 
 #[test]
 fn spans_and_lines(rt: HostRuntime) {
-    for (size, offset, length, span) in READS {
-        reads(&rt, size, offset, length, span);
+    for (size, offset, length, span) in &READS {
+        holds_at(&rt, read_of(*size, *offset, *length) == *span, *size);
     }
-    for (size, offset, length, span, missed) in TAILS {
-        tails(&rt, size, offset, length, span, missed);
+    for (size, offset, length, span, missed) in &TAILS {
+        holds_at(&rt, is_tail(*size, *offset, *length, *span, *missed), *size);
     }
-    for (now, level, text, line) in LINES {
-        writes(&rt, rt.alloc(), now, level, text, line);
+    for (now, level, text, line) in &LINES {
+        writes(&rt, rt.alloc(), (*now, *level), text, line);
     }
 }
 
-fn writes(rt: &impl Abort, alloc: Global, now: u64, level: Level, text: &str, line: &str) {
-    let now = Moment::new(now).expect(rt, "a moment");
-    match main_line(alloc, now, level, text) {
-        Ok(written) => assert!(rt; written.as_slice() == line.as_bytes()),
-        Err(_) => assert!(rt; false),
-    }
+/// The line of the main log at this moment, of this level and with this text.
+fn writes(rt: &impl Abort, alloc: Global, (now, level): (u64, Level), text: &str, line: &str) {
+    let written = main_line(alloc, moment(rt, now), level, text).expect(rt, "memory");
+    holds(rt, written.as_slice() == line.as_bytes(), line);
+    drop(written);
 }

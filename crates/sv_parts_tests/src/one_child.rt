@@ -1,7 +1,11 @@
 //! One child, and what the words of a script have befall it.
+use crate::claims::number_of;
+use crate::facts_tests::tells_events;
+use crate::lines_tests::tells_lines;
 use crate::sample::{config, group_of_one, moment, no_log, process, seconds};
 use std::alloc::Global;
 use std::process::Abort;
+use sv_base::config::Config;
 use sv_base::ids::Run;
 use sv_base::moment::Moment;
 use sv_base::number::{ExitSignal, Pid, Retries};
@@ -21,13 +25,13 @@ pub struct Happening<'a> {
 }
 
 /// What these words have befall the child at this second.
-pub fn what_happens<'a>(rt: &impl Abort, second: u64, run: Run, words: &'a str) -> Happening<'a> {
+fn what_happens<'a>(rt: &impl Abort, second: u64, run: Run, words: &'a str) -> Happening<'a> {
     let (word, number) = words.split_once(' ').unwrap_or((words, "0"));
     Happening {
         now: moment(rt, second.saturating_mul(1_000)),
         run,
         word,
-        number: number.parse::<u32>().unwrap_or(0),
+        number: number_of(number),
     }
 }
 
@@ -62,7 +66,7 @@ pub fn news(rt: &impl Abort, happening: &Happening<'_>) -> News {
         "code" => News::Exit(happening.run, code(happening.number)),
         "signal" => News::Exit(happening.run, killed(rt, happening.number)),
         "tick" => News::Time,
-        word => panic!(rt; "no news are {word}"),
+        _ => panic!(rt; "no such news"),
     }
 }
 
@@ -70,7 +74,8 @@ fn code(number: u32) -> How {
     How::Code(u8::try_from(number).unwrap_or(0))
 }
 
-fn killed(rt: &impl Abort, number: u32) -> How {
+/// The end by the signal of this number.
+pub fn killed(rt: &impl Abort, number: u32) -> How {
     How::Signal(ExitSignal::new(number).expect(rt, "a signal"))
 }
 
@@ -85,12 +90,67 @@ fn process_p(rt: &impl Abort, alloc: Global) -> Spec {
     spec
 }
 
-/// The process p alone in the group g.
-pub fn one_child(rt: &impl Abort, alloc: Global) -> Children {
+/// The configuration with the process p alone in the group g.
+fn config_of_p(rt: &impl Abort, alloc: Global) -> Config {
     let mut groups = Vec::new(alloc);
     groups
         .push(group_of_one(rt, alloc, "g", process_p(rt, alloc)))
         .expect(rt, "memory");
-    let config = config(rt, alloc, no_log(), groups);
-    Children::new(alloc, &config).expect(rt, "memory")
+    config(rt, alloc, no_log(), groups)
+}
+
+/// The process p alone in the group g.
+pub fn one_child(rt: &impl Abort, alloc: Global) -> Children {
+    let config = config_of_p(rt, alloc);
+    let children = Children::new(alloc, &config);
+    drop(config);
+    children.expect(rt, "memory")
+}
+
+/// What a life is told by.
+#[derive(Clone, Copy)]
+pub enum Telling {
+    /// By events.
+    Events,
+    /// By lines of the main log.
+    Lines,
+}
+
+/// What happens to the child tells this.
+fn befalls(
+    rt: &impl Abort,
+    alloc: Global,
+    children: &mut Children,
+    happening: &Happening<'_>,
+    told: &str,
+    telling: Telling,
+) {
+    match telling {
+        Telling::Events => tells_events(rt, alloc, children, happening, told),
+        Telling::Lines => tells_lines(rt, alloc, children, happening, told),
+    }
+}
+
+/// The run of the child after this line: the next one where its spawn has a pid.
+fn run_after(run: u32, line: &str) -> u32 {
+    if line.starts_with("pid") {
+        run.saturating_add(1)
+    } else {
+        run
+    }
+}
+
+/// A life of the child, line by line, one second after the other.
+pub fn live(rt: &impl Abort, alloc: Global, life: &str, telling: Telling) {
+    let mut children = one_child(rt, alloc);
+    let mut second = 0u64;
+    let mut run = 0u32;
+    for line in life.lines() {
+        run = run_after(run, line);
+        let (words, told) = line.split_once('|').unwrap_or((line, ""));
+        let happening = what_happens(rt, second, Run(run), words);
+        befalls(rt, alloc, &mut children, &happening, told, telling);
+        second = second.saturating_add(1);
+    }
+    drop(children);
 }

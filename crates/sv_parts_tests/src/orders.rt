@@ -1,10 +1,11 @@
 //! Orders of files as the tables of the tests write them.
+use crate::claims::{holds, text_of};
 use std::process::Abort;
 use sv_base::config::FileOrder;
 use sv_out::order::Order;
 
 /// The first of these orders, each of which a semicolon ends, and the others.
-fn first_of(orders: &str) -> (&str, &str) {
+pub fn first_of(orders: &str) -> (&str, &str) {
     orders.split_once(';').unwrap_or(("", orders))
 }
 
@@ -15,10 +16,6 @@ fn is_written(order: &str, verb: &str, file: &str, rest: &str) -> bool {
 
 fn is_fresh(order: &str, file: &str) -> bool {
     order.strip_prefix("fresh ") == Some(file)
-}
-
-fn text_of(bytes: &[u8]) -> &str {
-    std::str::from_utf8(bytes).unwrap_or("no text")
 }
 
 /// Whether this is the order of a log.
@@ -44,24 +41,34 @@ fn is_of_daemon(order: &Order, wanted: &str) -> bool {
     }
 }
 
+/// What stands behind this order of a log, which comes first.
+fn behind_log<'a>(rt: &impl Abort, order: &FileOrder, wanted: &'a str) -> &'a str {
+    let (first, others) = first_of(wanted);
+    holds(rt, is_of_log(order, first), wanted);
+    others
+}
+
+/// What stands behind this order of a daemon, which comes first.
+fn behind_daemon<'a>(rt: &impl Abort, order: &Order, wanted: &'a str) -> &'a str {
+    let (first, others) = first_of(wanted);
+    holds(rt, is_of_daemon(order, first), wanted);
+    others
+}
+
 /// These are the orders of a log.
 pub fn are_of_log(rt: &impl Abort, orders: &[FileOrder], wanted: &str) {
     let mut left = wanted;
     for order in orders {
-        let (first, others) = first_of(left);
-        assert!(rt; is_of_log(order, first), "{left}");
-        left = others;
+        left = behind_log(rt, order, left);
     }
-    assert!(rt; left.is_empty(), "{left}");
+    holds(rt, left.is_empty(), left);
 }
 
 /// These are the orders of a daemon.
 pub fn are_of_daemon(rt: &impl Abort, orders: &[Order], wanted: &str) {
     let mut left = wanted;
     for order in orders {
-        let (first, others) = first_of(left);
-        assert!(rt; is_of_daemon(order, first), "{left}");
-        left = others;
+        left = behind_daemon(rt, order, left);
     }
-    assert!(rt; left.is_empty(), "{left}");
+    holds(rt, left.is_empty(), left);
 }

@@ -1,4 +1,5 @@
 //! Calls of a pool with what it holds after them, worked out by hand.
+use crate::claims::holds;
 use std::alloc::Global;
 use std::process::Abort;
 use sv_base::bytes::Bytes;
@@ -66,15 +67,18 @@ fn play(rt: &impl Abort, alloc: Global, script: &str) {
     let mut words = script.split(' ');
     let buffer = digit(words.next().unwrap_or(""));
     let listeners = digit(words.next().unwrap_or(""));
-    assert!(rt;
-        1 <= buffer && buffer <= 9 && listeners <= 9,
-        "the sizes of {script}"
-    );
-    let mut pool = Pool::new(alloc, buffer, listeners).expect(rt, "memory");
+    let mut pool = pool_of(rt, alloc, buffer, listeners);
     let mut serial = 100;
     for word in words {
         serial = step(rt, alloc, &mut pool, word, serial);
     }
+    drop(pool);
+}
+
+/// A pool of this size for so many listeners.
+fn pool_of(rt: &impl Abort, alloc: Global, buffer: u32, listeners: u32) -> Pool {
+    assert!(rt; 1 <= buffer && buffer <= 9 && listeners <= 9);
+    Pool::new(alloc, buffer, listeners).expect(rt, "memory")
 }
 
 /// The number that a word of one digit writes.
@@ -89,75 +93,84 @@ fn digit(word: &str) -> u32 {
 fn step(rt: &impl Abort, alloc: Global, pool: &mut Pool, word: &str, serial: u64) -> u64 {
     match word.as_bytes() {
         [b'a', report @ ..] => {
-            accept(rt, alloc, pool, report, serial);
-            return serial.wrapping_add(1);
+            let report = is_reported(accept(rt, alloc, pool, serial), report);
+            holds(rt, report, word);
+            serial.wrapping_add(1)
         }
-        [b'n', number] => next(rt, pool, *number),
+        step => {
+            holds(rt, is_done(rt, pool, step), word);
+            serial
+        }
+    }
+}
+
+/// Makes one step but that of an event that comes: whether it answers what it is to.
+fn is_done(rt: &impl Abort, pool: &mut Pool, step: &[u8]) -> bool {
+    match step {
+        [b'n', number] => is_next(pool, *number),
         [b't', listener] => take(rt, pool, place(*listener)),
         [b'k', listener] => acknowledge(rt, pool, place(*listener)),
-        [b'r', listener, report @ ..] => reject(rt, pool, place(*listener), report),
-        [b'f', number] => assert!(rt; pool.forget() == place(*number), "{word}"),
-        _ => panic!(rt; "no step is {word}"),
+        [b'r', listener, report @ ..] => is_reported(reject(rt, pool, place(*listener)), report),
+        [b'f', number] => pool.forget() == place(*number),
+        _ => false,
     }
-    serial
 }
 
 fn place(digit: u8) -> u32 {
     u32::from(digit.saturating_sub(b'0'))
 }
 
-fn accept(rt: &impl Abort, alloc: Global, pool: &mut Pool, report: &[u8], serial: u64) {
-    let body = Bytes::from_slice(alloc, b"when:5").expect(rt, "memory");
-    let event = Event {
+/// The event of this serial.
+fn event(rt: &impl Abort, alloc: Global, serial: u64) -> Event {
+    Event {
         kind: Kind::Tick5,
         serial,
-        body,
-    };
-    let dropped = pool.accept(event).expect(rt, "memory");
-    check_report(rt, dropped, report);
-}
-
-fn next(rt: &impl Abort, pool: &Pool, number: u8) {
-    match pool.next_for() {
-        Some((event, poolserial)) => {
-            let wanted = u64::from(place(number));
-            assert!(rt;
-                number != b'-' && poolserial == wanted && event.serial == 100 + wanted,
-                "{poolserial} is next"
-            );
-        }
-        None => assert!(rt; number == b'-', "none waits"),
+        body: Bytes::from_slice(alloc, b"when:5").expect(rt, "memory"),
     }
 }
 
-fn take(rt: &impl Abort, pool: &mut Pool, listener: u32) {
-    assert!(rt; pool.next_for().is_some(), "none waits");
-    assert!(rt; pool.is_free(listener), "{listener} isn't free");
+fn accept(rt: &impl Abort, alloc: Global, pool: &mut Pool, serial: u64) -> Option<Dropped> {
+    pool.accept(event(rt, alloc, serial)).expect(rt, "memory")
+}
+
+/// Whether the event of this digit is next, or none where it is no digit.
+fn is_next(pool: &Pool, digit: u8) -> bool {
+    match pool.next_for() {
+        Some((event, poolserial)) => digit != b'-' && is_numbered(event.serial, poolserial, digit),
+        None => digit == b'-',
+    }
+}
+
+/// Whether the event of this digit has these numbers, among all and in the pool.
+fn is_numbered(serial: u64, poolserial: u64, digit: u8) -> bool {
+    let wanted = u64::from(place(digit));
+    poolserial == wanted && serial == 100 + wanted
+}
+
+fn take(rt: &impl Abort, pool: &mut Pool, listener: u32) -> bool {
+    assert!(rt; pool.next_for().is_some() && pool.is_free(listener));
     pool.took(listener);
+    true
 }
 
-fn acknowledge(rt: &impl Abort, pool: &mut Pool, listener: u32) {
-    assert!(rt; pool.is_holding(listener), "{listener} holds none");
+fn acknowledge(rt: &impl Abort, pool: &mut Pool, listener: u32) -> bool {
+    assert!(rt; pool.is_holding(listener));
     pool.acknowledged(listener);
+    true
 }
 
-fn reject(rt: &impl Abort, pool: &mut Pool, listener: u32, report: &[u8]) {
-    assert!(rt; pool.is_holding(listener), "{listener} holds none");
-    let dropped = pool.rejected(listener);
-    check_report(rt, dropped, report);
+fn reject(rt: &impl Abort, pool: &mut Pool, listener: u32) -> Option<Dropped> {
+    assert!(rt; pool.is_holding(listener));
+    pool.rejected(listener)
 }
 
 /// Whether what was dropped is what the report of a script says.
-fn check_report(rt: &impl Abort, dropped: Option<Dropped>, report: &[u8]) {
-    match (dropped, report) {
-        (None, []) => {}
-        (Some(dropped), [b'!', number]) => {
-            let wanted = u64::from(place(*number));
-            assert!(rt;
-                dropped.poolserial == wanted && dropped.serial == 100 + wanted,
-                "{wanted} is to be dropped"
-            );
-        }
-        _ => panic!(rt; "another report"),
+fn is_reported(dropped: Option<Dropped>, report: &[u8]) -> bool {
+    match dropped {
+        Some(dropped) => match report {
+            [b'!', digit] => is_numbered(dropped.serial, dropped.poolserial, *digit),
+            _ => false,
+        },
+        None => report.is_empty(),
     }
 }

@@ -1,8 +1,8 @@
 //! Calls of a daemon's pools, and what they order, worked out by hand.
-use crate::sample::{config, group, no_log, process};
+use crate::claims::{holds, is_number, text_of};
+use crate::sample::{group, processes, roster};
 use std::alloc::Global;
 use std::process::Abort;
-use sv_base::config::Config;
 use sv_base::ids::{ChildId, Run};
 use sv_base::items::Items;
 use sv_base::kind::Kind;
@@ -10,7 +10,6 @@ use sv_base::number::BufferSize;
 use sv_base::spec::{GroupSpec, PoolSpec};
 use sv_base::text::Text;
 use sv_events::Fact;
-use sv_groups::Roster;
 use sv_out::order::Order;
 use sv_pools::Pools;
 
@@ -35,11 +34,17 @@ s k1 r1 h1:11>s0/0 k0 k3 k1 k1 r1 h1
 #[test]
 fn plays_scripts(rt: HostRuntime) {
     for script in SCRIPTS.lines() {
-        let mut pools = pools(&rt, rt.alloc());
-        for word in script.split(' ') {
-            play(&rt, rt.alloc(), &mut pools, word);
-        }
+        play_all(&rt, rt.alloc(), script);
     }
+}
+
+/// Makes the steps of a script.
+fn play_all(rt: &impl Abort, alloc: Global, script: &str) {
+    let mut pools = pools(rt, alloc);
+    for word in script.split(' ') {
+        play(rt, alloc, &mut pools, word);
+    }
+    drop(pools);
 }
 
 /// Makes one step of a script, and looks at what it orders.
@@ -48,6 +53,7 @@ fn play(rt: &impl Abort, alloc: Global, pools: &mut Pools, word: &str) {
     let mut given = Vec::new(alloc);
     make(rt, alloc, pools, step, wanted, &mut given);
     are_ordered(rt, alloc, given.as_slice(), wanted);
+    drop(given);
 }
 
 /// Makes the step.
@@ -60,36 +66,32 @@ fn make(
     given: &mut Vec<Order>,
 ) {
     match step.as_bytes() {
-        [b's'] => is_offered(
-            rt,
-            alloc,
-            pools,
-            Kind::SupervisorStateChangeRunning,
-            Fact::Supervisor,
-            given,
-        ),
-        [b't'] => is_offered(rt, alloc, pools, Kind::Tick5, Fact::Tick { when: 5 }, given),
+        [b's'] => offer(rt, alloc, pools, Kind::SupervisorStateChangeRunning, given),
+        [b't'] => offer(rt, alloc, pools, Kind::Tick5, given),
         [b'h', place] => {
             let is_handed = is_handed(rt, alloc, pools, *place, given);
-            assert!(rt; is_handed != wanted.is_empty(), "handed in {step}");
-            assert!(rt; !is_handed || pools.holds(child(*place)), "held in {step}");
+            holds(rt, is_handed != wanted.is_empty(), step);
+            holds(rt, !is_handed | pools.holds(child(*place)), step);
         }
         [b'k', place] => pools.acknowledge(child(*place)),
         [b'r', place] => pools.reject(child(*place), given).expect(rt, "memory"),
-        _ => panic!(rt; "no step is {step}"),
+        _ => holds(rt, false, "no such step"),
     }
 }
 
-fn is_offered(
-    rt: &impl Abort,
-    alloc: Global,
-    pools: &mut Pools,
-    kind: Kind,
-    fact: Fact,
-    given: &mut Vec<Order>,
-) {
+/// Offers an event of this type: a tick, or that the daemon runs.
+fn offer(rt: &impl Abort, alloc: Global, pools: &mut Pools, kind: Kind, given: &mut Vec<Order>) {
+    let fact = fact_of(kind);
     let done = pools.offer(alloc, kind, &fact, given);
+    drop(fact);
     done.expect(rt, "memory");
+}
+
+fn fact_of(kind: Kind) -> Fact {
+    match kind {
+        Kind::Tick5 => Fact::Tick { when: 5 },
+        _ => Fact::Supervisor,
+    }
 }
 
 /// Whether an event is handed to the process of this place.
@@ -112,9 +114,9 @@ fn child(digit: u8) -> ChildId {
 /// Nothing is ordered, or what a script writes.
 fn are_ordered(rt: &impl Abort, alloc: Global, orders: &[Order], wanted: &str) {
     match orders {
-        [] => assert!(rt; wanted.is_empty(), "{wanted} isn't ordered"),
+        [] => holds(rt, wanted.is_empty(), wanted),
         [order] => is_ordered(rt, alloc, order, wanted),
-        _ => panic!(rt; "more than {wanted}"),
+        _ => holds(rt, false, wanted),
     }
 }
 
@@ -127,14 +129,10 @@ fn is_ordered(rt: &impl Abort, alloc: Global, order: &Order, wanted: &str) {
             poolserial,
         } => {
             let numbers = wanted.strip_prefix(pool.as_str()).unwrap_or("");
-            assert!(rt;
-                are_numbers(numbers, *poolserial, *serial),
-                "{wanted} is dropped"
-            );
+            holds(rt, are_numbers(numbers, *poolserial, *serial), wanted);
         }
         Order::Stdin { run, bytes } => {
-            let text = std::str::from_utf8(bytes.as_slice()).unwrap_or("");
-            is_handed_over(rt, alloc, run.0, text, wanted);
+            is_handed_over(rt, alloc, run.0, text_of(bytes.as_slice()), wanted);
         }
         _ => panic!(rt; "no such order is given"),
     }
@@ -143,32 +141,41 @@ fn is_ordered(rt: &impl Abort, alloc: Global, order: &Order, wanted: &str) {
 /// Whether these are written with a stroke between them.
 fn are_numbers(text: &str, first: u64, second: u64) -> bool {
     match text.split_once('/') {
-        Some((one, other)) => {
-            one.parse::<u64>() == Ok(first) && other.parse::<u64>() == Ok(second)
-        }
+        Some((one, other)) => is_number(one, first) && is_number(other, second),
         None => false,
     }
 }
 
 /// The run gets the event that a script writes.
 fn is_handed_over(rt: &impl Abort, alloc: Global, run: u32, text: &str, wanted: &str) {
-    let (digits, event) = wanted.split_once('>').expect(rt, "a run");
-    assert!(rt; digits.parse::<u32>() == Ok(run), "{wanted} is handed over");
+    let (digits, event) = wanted.split_once('>').unwrap_or(("", wanted));
+    holds(rt, is_number(digits, u64::from(run)), wanted);
     let pool = if run == 13 { "t" } else { "e" };
-    let envelope = envelope(rt, alloc, pool, event);
-    assert!(rt; envelope.as_str() == text, "{wanted} is handed over");
+    is_enveloped(rt, alloc, pool, event, text);
 }
 
-/// The envelope of the event that a script writes by its letter, its number among all and its number in this pool.
-fn envelope(rt: &impl Abort, alloc: Global, pool: &str, event: &str) -> String {
-    let (serial, poolserial) = event.split_once('/').expect(rt, "two numbers");
-    let (serial, head) = match serial.strip_prefix('s') {
+/// The text is the envelope of the event that a script writes, in this pool.
+fn is_enveloped(rt: &impl Abort, alloc: Global, pool: &str, event: &str, text: &str) {
+    let (serial, poolserial) = event.split_once('/').unwrap_or((event, ""));
+    let envelope = envelope(rt, alloc, pool, serial, poolserial);
+    holds(rt, envelope.as_str() == text, event);
+    drop(envelope);
+}
+
+/// The serial of an event that a script writes, and what its envelope says behind the numbers.
+fn told_of(serial: &str) -> (&str, &str) {
+    match serial.strip_prefix('s') {
         Some(serial) => (serial, "eventname:SUPERVISOR_STATE_CHANGE_RUNNING len:0\n"),
         None => (
-            serial.strip_prefix('t').expect(rt, "a tick"),
+            serial.strip_prefix('t').unwrap_or(""),
             "eventname:TICK_5 len:6\nwhen:5",
         ),
-    };
+    }
+}
+
+/// The envelope of the event that a script writes by its letter and its number among all, with this number in this pool.
+fn envelope(rt: &impl Abort, alloc: Global, pool: &str, event: &str, poolserial: &str) -> String {
+    let (serial, head) = told_of(event);
     let text = format!(in alloc;
         "ver:3.0 server:sv serial:{serial} pool:{pool} poolserial:{poolserial} {head}"
     );
@@ -182,12 +189,7 @@ fn group_of(
     name: &'static str,
     members: &[&'static str],
 ) -> GroupSpec {
-    let mut specs = Items::new(alloc);
-    for member in members {
-        let spec = process(alloc, name, *member);
-        specs.push(spec).expect(rt, "memory");
-    }
-    group(Text::fixed(name), specs)
+    group(Text::fixed(name), processes(rt, alloc, name, members))
 }
 
 /// A pool of this size for events of this type.
@@ -214,7 +216,7 @@ fn listeners(
     group
 }
 
-fn configured(rt: &impl Abort, alloc: Global) -> Config {
+fn groups(rt: &impl Abort, alloc: Global) -> Vec<GroupSpec> {
     let mut groups = Vec::new(alloc);
     groups
         .push(group_of(rt, alloc, "a", &["a"]))
@@ -225,15 +227,12 @@ fn configured(rt: &impl Abort, alloc: Global) -> Config {
     groups
         .push(listeners(rt, alloc, "t", &["t"], Kind::Tick, 1))
         .expect(rt, "memory");
-    config(rt, alloc, no_log(), groups)
-}
-
-fn roster(rt: &impl Abort, alloc: Global) -> Roster {
-    let config = configured(rt, alloc);
-    Roster::new(alloc, &config).expect(rt, "memory")
+    groups
 }
 
 fn pools(rt: &impl Abort, alloc: Global) -> Pools {
-    let roster = roster(rt, alloc);
-    Pools::new(alloc, &roster).expect(rt, "memory")
+    let roster = roster(rt, alloc, groups(rt, alloc));
+    let pools = Pools::new(alloc, &roster);
+    drop(roster);
+    pools.expect(rt, "memory")
 }

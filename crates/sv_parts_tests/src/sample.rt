@@ -10,6 +10,7 @@ use sv_base::signal::Signal;
 use sv_base::spec::{GroupSpec, LogSpec, Spec};
 use sv_base::state::{Autorestart, Level};
 use sv_base::text::Text;
+use sv_groups::Roster;
 
 /// A log without a file.
 pub fn no_log() -> LogSpec {
@@ -60,6 +61,22 @@ pub fn logging(
     }
 }
 
+/// Processes with these names in a group of this name.
+pub fn processes(
+    rt: &impl Abort,
+    alloc: Global,
+    group: &'static str,
+    names: &[&'static str],
+) -> Items<Spec> {
+    let mut specs = Items::new(alloc);
+    for name in names {
+        specs
+            .push(process(alloc, group, *name))
+            .expect(rt, "memory");
+    }
+    specs
+}
+
 /// A group of these processes, without a pool.
 pub fn group(name: Text, members: Items<Spec>) -> GroupSpec {
     GroupSpec {
@@ -92,6 +109,14 @@ pub fn config(rt: &impl Abort, alloc: Global, main: LogSpec, groups: Vec<GroupSp
         },
         rpc: false,
     }
+}
+
+/// The roster of these groups.
+pub fn roster(rt: &impl Abort, alloc: Global, groups: Vec<GroupSpec>) -> Roster {
+    let config = config(rt, alloc, no_log(), groups);
+    let roster = Roster::new(alloc, &config);
+    drop(config);
+    roster.expect(rt, "memory")
 }
 
 pub fn seconds(rt: &impl Abort, number: u32) -> Seconds {
