@@ -40,7 +40,7 @@ impl<R: rt::Clock> Clock for OsClock<R> {
 }
 
 /// The moment at this time after the beginning of 1970, and at most the greatest one.
-pub(crate) fn moment_of(since: Duration) -> Moment
+pub fn moment_of(since: Duration) -> Moment
     ensures { result ≡ min (as_nanos since / 1_000_000) moment_limit }
 {
     let milliseconds = since.as_millis().min(u128::from(MOMENT_LIMIT)) as u64;

@@ -57,7 +57,7 @@ fn here_of<R: Env + AllocGlobal>(rt: &R, file: Option<&str>) -> Result<Text, All
 }
 
 /// The directory of a file whose name is read from this directory on.
-pub(crate) fn directory_of(alloc: Global, current: &str, file: &str) -> Result<Text, AllocError>
+pub fn directory_of(alloc: Global, current: &str, file: &str) -> Result<Text, AllocError>
     ensures { IfOk result (λ directory.
         directory ≡ unwrap_or (path_parent (path_join current.now file.now)) current.now) }
 {
@@ -69,10 +69,7 @@ pub(crate) fn directory_of(alloc: Global, current: &str, file: &str) -> Result<T
 }
 
 /// The variables of the environment, by rising names. Of two of one name the first counts.
-pub(crate) fn environment_of<E: Env>(
-    alloc: Global,
-    rt: &E,
-) -> Result<Items<(Text, Text)>, AllocError>
+pub fn environment_of<E: Env>(alloc: Global, rt: &E) -> Result<Items<(Text, Text)>, AllocError>
     ensures { IfOk result (λ variables. AreRising (map (λ variable. variable.0) variables)) }
 {
     let mut variables = BTreeMap::new(alloc);

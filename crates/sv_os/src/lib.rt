@@ -7,25 +7,19 @@ mod clock;
 mod disk;
 mod gate;
 mod host;
-#[cfg(test)]
-mod listen_tests;
 mod listening;
 mod listing;
-#[cfg(test)]
-mod machine_tests;
-#[cfg(test)]
-mod program_tests;
 mod programs;
 mod sockets;
 mod streams;
 mod words;
 
-pub use clock::OsClock;
+pub use clock::{OsClock, moment_of};
 pub use disk::OsShelf;
 pub use gate::{Errand, LinksAtWork, OsGate, receive_and_work};
-pub use host::host_of;
+pub use host::{directory_of, environment_of, host_of};
 pub use listening::{OsListen, opening_line, remove_socket};
-pub use programs::{OsSpawner, OsWaiter};
+pub use programs::{OsSpawner, OsWaiter, fault_of, how_of, kill_line};
 pub use sockets::{OsDial, OsLink};
 pub use streams::{ReadSource, WriteSink};
 pub use words::{words_of, words_untold};

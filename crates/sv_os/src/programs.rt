@@ -131,7 +131,7 @@ fn is_directory<R: Files>(rt: &R, path: &str) -> bool {
 }
 
 /// Why a program wasn't started. Where the system itself has no memory for a process, the program is refused.
-pub(crate) fn fault_of(alloc: Global, error: &io::Error) -> Result<SpawnFault, AllocError> {
+pub fn fault_of(alloc: Global, error: &io::Error) -> Result<SpawnFault, AllocError> {
     if is_own_memory(error) {
         return Ok(SpawnFault::OutOfMemory);
     }
@@ -201,12 +201,7 @@ fn send<R: Processes>(
 
 /// The shell's line that signals a process, or its group; where there is no such group, the process alone. Process 1 is
 /// never taken for a group, since the number of its group would stand for every process.
-pub(crate) fn kill_line(
-    alloc: Global,
-    pid: Pid,
-    signal: Signal,
-    group: bool,
-) -> Result<String, AllocError>
+pub fn kill_line(alloc: Global, pid: Pid, signal: Signal, group: bool) -> Result<String, AllocError>
     ensures { IfOk result (λ line. string_bytes line ≡ kill_line pid signal group) }
 {
     let one = line_to(alloc, "", pid, signal)?;
@@ -250,7 +245,7 @@ impl<P: OpenProcess> Waiter for OsWaiter<P> {
 }
 
 /// How a process ended: by its code, or by a signal of a number up to 64; none where the status tells no such end.
-pub(crate) fn how_of(status: ExitStatus) -> Option<How>
+pub fn how_of(status: ExitStatus) -> Option<How>
     ensures code { (code : ℕ) → exit_code status ≡ Some (pos code) → result ≡ Some (How.Code code) }
     ensures signal { (number : ℕ) → exit_signal status ≡ Some (pos number) → number ≤ 64
         → result ≡ Some (How.Signal number) }

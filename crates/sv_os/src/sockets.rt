@@ -6,15 +6,16 @@ use crate::streams::{read_some, write_some};
 use std::alloc::{AllocError, Global};
 use std::io;
 use std::io::{ErrorKind, Read, Write};
-use std::net::{Net, TcpStream};
+use std::net::{Net, OpenStream, TcpStream};
 use std::os::unix::net::UnixStream;
+use std::time::Duration;
 use sv_base::Place;
 use sv_out::failed::Failed;
 use sv_out::{Dial, DialFault, Link};
 
 /// The two kinds of sockets.
 #[derive(Drop)]
-pub(crate) enum Socket<S> {
+enum Socket<S> {
     Inet(S),
     Unix(UnixStream),
 }
@@ -23,7 +24,7 @@ pub(crate) enum Socket<S> {
 /// the content.
 #[derive(Drop)]
 pub struct OsLink<S> {
-    pub(crate) socket: Socket<S>,
+    socket: Socket<S>,
     faults: u64,
 }
 
@@ -45,6 +46,24 @@ impl<S> OsLink<S> {
         OsLink {
             socket: Socket::Unix(stream),
             faults: 0,
+        }
+    }
+}
+
+impl<S: OpenStream> OsLink<S> {
+    /// How long a read may wait for the peer; none where it may wait forever.
+    pub fn read_limit(&self) -> io::Result<Option<Duration>> {
+        match &self.socket {
+            Socket::Inet(stream) => stream.read_timeout(),
+            Socket::Unix(stream) => stream.read_timeout(),
+        }
+    }
+
+    /// How long a write may wait for the peer; none where it may wait forever.
+    pub fn write_limit(&self) -> io::Result<Option<Duration>> {
+        match &self.socket {
+            Socket::Inet(stream) => stream.write_timeout(),
+            Socket::Unix(stream) => stream.write_timeout(),
         }
     }
 }

@@ -5,9 +5,33 @@ use std::alloc::Global;
 use std::process::Abort;
 use std::sync::Wait;
 use std::thread;
+use std::thread::Threads;
 use sv_base::LinkId;
+use sv_gate::{Ready, hand};
 use sv_os::{Errand, LinksAtWork, OsGate, receive_and_work};
 use sv_outside::{Gate, Job, JobWord, PumpEnd};
+
+/// Starts these jobs in threads, by one gate, which counts the links that are at work.
+pub(crate) fn start_in_threads<
+    R: Abort + Threads + Wait + Copy + Send + 'static,
+    J: Job + Send + 'static,
+>(rt: R, alloc: Global, links: &LinksAtWork, jobs: Vec<J>) {
+    let others = links.another().expect(&rt, "ample memory");
+    let gate = OsGate::new(rt, alloc, others, move |from: Receiver<Errand<J>>| {
+        thread::spawn(&rt, move || receive_and_work(&rt, &from)).is_ok()
+    });
+    start_all(&rt, gate, jobs);
+}
+
+/// Starts these jobs, all of which the gate keeps.
+fn start_all<J: Job, G: Gate<J> + Drop>(rt: &impl Abort, gate: G, jobs: Vec<J>)
+    requires { G.ready gate }
+{
+    let mut gate = Ready::new(gate);
+    for job in jobs {
+        assert!(rt; hand(&mut gate, job));
+    }
+}
 
 /// A job that waits to be let go, and then tells its number.
 #[derive(Drop)]
@@ -67,6 +91,16 @@ fn waiting_job(rt: &impl Abort, word: JobWord, number: u32, ends: &Ends) -> Wait
     }
 }
 
+/// The jobs of a link and of the console, with the numbers 3 and 4.
+fn two_jobs(rt: &impl Abort, alloc: Global, ends: &Ends) -> Vec<Waits> {
+    let mut jobs = Vec::new(alloc);
+    for (word, number) in [(JobWord::Link(LinkId(1)), 3), (JobWord::Console, 4)] {
+        jobs.push(waiting_job(rt, word, number, ends))
+            .expect(rt, "ample memory");
+    }
+    jobs
+}
+
 /// Lets two jobs go, and hears the numbers 3 and 4.
 fn let_go<R: Abort + Wait>(rt: &R, ends: &Ends) {
     for _ in 0..2 {
@@ -80,18 +114,8 @@ fn let_go<R: Abort + Wait>(rt: &R, ends: &Ends) {
 #[test]
 fn jobs_run_in_threads(rt: HostRuntime) {
     let links = LinksAtWork::new(rt.alloc()).expect(&rt, "ample memory");
-    let mut gate = OsGate::new(
-        rt,
-        rt.alloc(),
-        links.another().expect(&rt, "ample memory"),
-        move |from: Receiver<Errand<Waits>>| {
-            thread::spawn(&rt, move || receive_and_work(&rt, &from)).is_ok()
-        },
-    );
     let ends = ends_of(&rt, rt.alloc());
-    for (word, number) in [(JobWord::Link(LinkId(1)), 3), (JobWord::Console, 4)] {
-        assert!(rt; gate.start(waiting_job(&rt, word, number, &ends)).is_ok());
-    }
+    start_in_threads(rt, rt.alloc(), &links, two_jobs(&rt, rt.alloc(), &ends));
     assert!(rt; links.number() == 1 && !links.wait_for_none(&rt, 2));
     let_go(&rt, &ends);
     assert!(rt; links.wait_for_none(&rt, 10_000));

@@ -2,26 +2,24 @@
 
 ghost use Rattle.std.specs.Prelude.{◌≤◌};
 
+use crate::gate_tests::start_in_threads;
 use crate::os_tests::socket_at;
-use crossbeam_channel::Receiver;
 use std::alloc::Global;
 use std::io::Stdin;
 use std::process::{Abort, ChildStderr, ChildStdin, ChildStdout, SystemProcess};
 use std::sync::Wait;
-use std::{env, fs, io, process, thread};
+use std::thread::Threads;
+use std::{env, fs, io, process};
 use sv_base::{Bytes, How, Items, LinkId, Place, Run, Side, Stream, Text};
 use sv_job_types::{
     AnyJob, ConsoleJob, ErrPump, LinkJob, LinksJob, NoBoard, OutPump, StdinJob, TickerJob, WatchJob,
 };
 use sv_jobs::{LinkWord, Note, StdinWord};
 use sv_lane::{Poster, Seats, Taker, lane};
-use sv_os::{
-    Errand, LinksAtWork, OsClock, OsDial, OsGate, OsListen, OsSpawner, OsWaiter, ReadSource,
-    WriteSink, receive_and_work,
-};
+use sv_os::{LinksAtWork, OsClock, OsDial, OsListen, OsSpawner, OsWaiter, ReadSource, WriteSink};
 use sv_out::order::SpawnOrder;
 use sv_out::{Dial, Link};
-use sv_outside::{Gate, Listen, Spawner, Started};
+use sv_outside::{Listen, Spawner, Started};
 
 type RealJob = AnyJob<
     WriteSink<ChildStdin>,
@@ -76,78 +74,123 @@ fn seat_of(rt: &impl Abort, seats: &mut Seats<Note>) -> Poster<Note> {
     seats.seat().expect(rt, "ample memory")
 }
 
-/// The jobs of a program, whose standard input takes these words.
-fn program_jobs(
+/// The job that writes the standard input of a program, which takes these words.
+fn stdin_job(
+    sink: WriteSink<ChildStdin>,
+    words: Taker<StdinWord>,
+    poster: Poster<Note>,
+) -> RealJob {
+    AnyJob::Stdin(StdinJob {
+        run: Run(1),
+        sink,
+        poster,
+        words,
+    })
+}
+
+/// The job that reads the standard output of a program.
+fn out_job(alloc: Global, source: ReadSource<ChildStdout>, poster: Poster<Note>) -> RealJob {
+    AnyJob::Out(OutPump {
+        run: Run(1),
+        source,
+        poster,
+        alloc,
+    })
+}
+
+/// The job that reads the standard error output of a program.
+fn err_job(alloc: Global, source: ReadSource<ChildStderr>, poster: Poster<Note>) -> RealJob {
+    AnyJob::Err(ErrPump {
+        run: Run(1),
+        source,
+        poster,
+        alloc,
+    })
+}
+
+/// The job that waits for the end of a program.
+fn watch_job(waiter: OsWaiter<SystemProcess>, poster: Poster<Note>) -> RealJob {
+    AnyJob::Watch(WatchJob {
+        run: Run(1),
+        waiter,
+        poster,
+    })
+}
+
+/// The job of the clock, for one tick.
+fn ticker_job(clock: OsClock<HostRuntime>, poster: Poster<Note>) -> RealJob {
+    AnyJob::Ticker(TickerJob {
+        clock,
+        turns: 1,
+        poster,
+    })
+}
+
+/// The job of the console.
+fn console_job(alloc: Global, console: Stdin, poster: Poster<Note>) -> RealJob {
+    AnyJob::Console(ConsoleJob {
+        source: ReadSource::new(console),
+        poster,
+        alloc,
+    })
+}
+
+/// Adds the jobs of a program, whose standard input takes these words.
+fn add_program(
     rt: &impl Abort,
     alloc: Global,
+    jobs: &mut Vec<RealJob>,
     program: RealProgram,
     words: Taker<StdinWord>,
     seats: &mut Seats<Note>,
-) -> (RealJob, RealJob, RealJob, RealJob) {
-    let stdin = AnyJob::Stdin(StdinJob {
-        run: Run(1),
-        sink: program.stdin,
-        poster: seat_of(rt, seats),
-        words,
-    });
-    let out = AnyJob::Out(OutPump {
-        run: Run(1),
-        source: program.stdout,
-        poster: seat_of(rt, seats),
-        alloc,
-    });
-    let err = AnyJob::Err(ErrPump {
-        run: Run(1),
-        source: program.stderr,
-        poster: seat_of(rt, seats),
-        alloc,
-    });
-    let watch = AnyJob::Watch(WatchJob {
-        run: Run(1),
-        waiter: program.waiter,
-        poster: seat_of(rt, seats),
-    });
-    (stdin, out, err, watch)
+) {
+    add(
+        rt,
+        jobs,
+        stdin_job(program.stdin, words, seat_of(rt, seats)),
+    );
+    add(rt, jobs, out_job(alloc, program.stdout, seat_of(rt, seats)));
+    add(rt, jobs, err_job(alloc, program.stderr, seat_of(rt, seats)));
+    add(rt, jobs, watch_job(program.waiter, seat_of(rt, seats)));
 }
 
-/// The jobs of the clock, for one tick, and of the console.
-fn own_jobs(
+/// Adds a job.
+fn add(rt: &impl Abort, jobs: &mut Vec<RealJob>, job: RealJob) {
+    jobs.push(job).expect(rt, "ample memory");
+}
+
+/// The jobs of `cat`, whose standard input takes these words, of the clock and of the console.
+fn all_jobs(
     rt: &impl Abort,
-    alloc: Global,
-    clock: OsClock<HostRuntime>,
-    console: Stdin,
+    host: HostRuntime,
+    words: Taker<StdinWord>,
     seats: &mut Seats<Note>,
-) -> (RealJob, RealJob) {
-    let ticker = AnyJob::Ticker(TickerJob {
-        clock,
-        turns: 1,
-        poster: seat_of(rt, seats),
-    });
-    let console = AnyJob::Console(ConsoleJob {
-        source: ReadSource::new(console),
-        poster: seat_of(rt, seats),
-        alloc,
-    });
-    (ticker, console)
-}
-
-/// What hears the jobs of a program, and posts the words of its standard input.
-#[derive(Drop)]
-struct Hearing {
-    notes: Taker<Note>,
-    words: Poster<StdinWord>,
-}
-
-/// The jobs of `cat`, of the clock and of the console, and what hears them.
-fn all_jobs(rt: &impl Abort, host: HostRuntime) -> ([RealJob; 6], Hearing) {
+) -> Vec<RealJob> {
     let alloc = host.alloc();
-    let (notes, mut seats) = lane(alloc, 256).expect(rt, "ample memory");
-    let (taker, words) = lane_of(rt, alloc, 65);
+    let mut jobs = Vec::new(alloc);
     let cat = started_cat(rt, alloc, &mut OsSpawner::new(host));
-    let (stdin, out, err, watch) = program_jobs(rt, alloc, cat, taker, &mut seats);
-    let (ticker, console) = own_jobs(rt, alloc, OsClock::new(host), host.stdin(), &mut seats);
-    let jobs = [stdin, out, err, watch, ticker, console];
-    (jobs, Hearing { notes, words })
+    add_program(rt, alloc, &mut jobs, cat, words, seats);
+    add(
+        rt,
+        &mut jobs,
+        ticker_job(OsClock::new(host), seat_of(rt, seats)),
+    );
+    add(
+        rt,
+        &mut jobs,
+        console_job(alloc, host.stdin(), seat_of(rt, seats)),
+    );
+    jobs
+}
+
+/// Starts these jobs in threads.
+fn start<R: Abort + Threads + Wait + Copy + Send + 'static>(
+    rt: R,
+    alloc: Global,
+    links: &LinksAtWork,
+    jobs: Vec<RealJob>,
+) {
+    start_in_threads(rt, alloc, links, jobs);
 }
 
 /// Writes `hello` to the standard input, and closes it.
@@ -178,19 +221,29 @@ fn hear_hello<R: Abort + Wait>(rt: &R, notes: &mut Taker<Note>) {
     assert!(rt; seen == 63 && said == 5);
 }
 
+/// Starts the jobs of `cat`, of the clock and of the console: what posts the words of the program's standard input.
+fn start_cat<R: Abort + Threads + Wait + Copy + Send + 'static>(
+    rt: R,
+    host: HostRuntime,
+    seats: &mut Seats<Note>,
+) -> Poster<StdinWord> {
+    let links = LinksAtWork::new(host.alloc()).expect(&rt, "ample memory");
+    let (taker, words) = lane_of(&rt, host.alloc(), 65);
+    start(rt, host.alloc(), &links, all_jobs(&rt, host, taker, seats));
+    words
+}
+
+/// Starts `cat`, which is given `hello` and gives it back.
+fn runs_cat<R: Abort + Threads + Wait + Copy + Send + 'static>(rt: R, host: HostRuntime) {
+    let (mut notes, mut seats) = lane(host.alloc(), 256).expect(&rt, "ample memory");
+    let mut words = start_cat(rt, host, &mut seats);
+    write_hello(&rt, host.alloc(), &mut words);
+    hear_hello(&rt, &mut notes);
+}
+
 #[test]
 fn a_program_has_its_jobs(rt: HostRuntime) {
-    let alloc = rt.alloc();
-    let links = LinksAtWork::new(alloc).expect(&rt, "ample memory");
-    let mut gate = OsGate::new(rt, alloc, links, move |from: Receiver<Errand<RealJob>>| {
-        thread::spawn(&rt, move || receive_and_work(&rt, &from)).is_ok()
-    });
-    let (jobs, mut hearing) = all_jobs(&rt, rt);
-    for job in jobs {
-        assert!(rt; gate.start(job).is_ok());
-    }
-    write_hello(&rt, alloc, &mut hearing.words);
-    hear_hello(&rt, &mut hearing.notes);
+    runs_cat(rt, rt);
 }
 
 /// The path of a socket of this process alone.
@@ -206,7 +259,6 @@ type RealLink = <OsListen<HostRuntime> as Listen>::Link;
 /// An address, and what hears the jobs of it and takes its links.
 #[derive(Drop)]
 struct Address {
-    path: String,
     place: Place,
     notes: Taker<Note>,
     seats: Seats<Note>,
@@ -215,12 +267,11 @@ struct Address {
 }
 
 /// The address of this path.
-fn address_of(rt: &impl Abort, alloc: Global, path: String) -> Address {
-    let place = socket_at(rt, alloc, path.as_str());
+fn address_of(rt: &impl Abort, alloc: Global, path: &str) -> Address {
+    let place = socket_at(rt, alloc, path);
     let (notes, seats) = lane(alloc, 256).expect(rt, "ample memory");
     let (accepted, accepting) = lane(alloc, 64).expect(rt, "ample memory");
     Address {
-        path,
         place,
         notes,
         seats,
@@ -287,29 +338,49 @@ fn talk<R: Abort + Wait, K: Link>(
     assert!(rt; matches!(client.read(&mut piece), Ok(0)));
 }
 
-#[test]
-fn an_address_has_its_jobs(rt: HostRuntime) {
-    let alloc = rt.alloc();
-    let links = LinksAtWork::new(alloc).expect(&rt, "ample memory");
-    let mut gate = OsGate::new(
-        rt,
-        alloc,
-        links.another().expect(&rt, "ample memory"),
-        move |from: Receiver<Errand<RealJob>>| {
-            thread::spawn(&rt, move || receive_and_work(&rt, &from)).is_ok()
-        },
-    );
-    let path = socket_path(&rt).expect(&rt, "the system does it");
-    let mut address = address_of(&rt, alloc, path);
-    assert!(rt; gate.start(links_job(&rt, rt, &mut address)).is_ok());
-    let mut client = client_of(&rt, rt, &mut address);
+/// Starts this job in a thread.
+fn start_one<R: Abort + Threads + Wait + Copy + Send + 'static>(
+    rt: R,
+    alloc: Global,
+    links: &LinksAtWork,
+    job: RealJob,
+) {
+    let mut jobs = Vec::new(alloc);
+    add(&rt, &mut jobs, job);
+    start(rt, alloc, links, jobs);
+}
+
+/// The address's link is served at one end by a job, and talks at the other.
+fn serve_link<R: Abort + Threads + Wait + Copy + Send + 'static>(
+    rt: R,
+    host: HostRuntime,
+    links: &LinksAtWork,
+    address: &mut Address,
+) {
+    let alloc = host.alloc();
+    let mut client = client_of(&rt, host, address);
     let (words, mut poster) = lane_of(&rt, alloc, 18);
-    assert!(rt;
-        gate.start(link_job(&rt, alloc, &mut address, words))
-            .is_ok()
-    );
+    start_one(rt, alloc, links, link_job(&rt, alloc, address, words));
     assert!(rt; links.number() == 1);
     talk(&rt, alloc, &mut client, &mut address.notes, &mut poster);
-    assert!(rt; links.wait_for_none(&rt, 10_000));
-    fs::remove_file(&rt, address.path.as_str()).expect(&rt, "the system does it");
+    assert!(rt; links.wait_for_none(&host, 10_000));
+}
+
+/// An address of this path is opened, and serves a link.
+fn serve_address<R: Abort + Threads + Wait + Copy + Send + 'static>(
+    rt: R,
+    host: HostRuntime,
+    path: &str,
+) {
+    let links = LinksAtWork::new(host.alloc()).expect(&rt, "ample memory");
+    let mut address = address_of(&rt, host.alloc(), path);
+    start_one(rt, host.alloc(), &links, links_job(&rt, host, &mut address));
+    serve_link(rt, host, &links, &mut address);
+}
+
+#[test]
+fn an_address_has_its_jobs(rt: HostRuntime) {
+    let path = socket_path(&rt).expect(&rt, "the system does it");
+    serve_address(rt, rt, path.as_str());
+    fs::remove_file(&rt, path.as_str()).expect(&rt, "the system does it");
 }

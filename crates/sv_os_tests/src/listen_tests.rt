@@ -35,11 +35,16 @@ fn is_no_address<R: Abort + Net + Files + Clock + Copy>(
     name: &str,
 ) {
     let path = path_in(&rt, alloc, directory, name);
-    let (listen, opened) = OsListen::open(rt, socket_at(&rt, alloc, path.as_str()));
-    assert!(rt; matches!(opened, Err(error) if error.kind() == ErrorKind::AddrInUse));
-    drop(listen);
+    is_taken(rt, socket_at(&rt, alloc, path.as_str()));
     let place = socket_at(&rt, alloc, path.as_str());
     remove_socket(&rt, &place).expect(&rt, "the system does it");
+}
+
+/// Something else has this address.
+pub(crate) fn is_taken<R: Abort + Net + Files + Clock + Copy>(rt: R, place: Place) {
+    let (listen, opened) = OsListen::open(rt, place);
+    drop(listen);
+    assert!(rt; matches!(opened, Err(error) if error.kind() == ErrorKind::AddrInUse));
 }
 
 /// The file is as it was made.

@@ -6,7 +6,7 @@ use std::fs;
 use std::fs::{File, Permissions};
 use std::net::{Ipv4Addr, SocketAddr, TcpListener};
 use std::os::unix::fs::PermissionsExt;
-use std::process::{Abort, Processes};
+use std::process::Abort;
 use std::rt::Files;
 use sv_base::{ExitSignal, How, Items, Pid, Run, Signal, Text};
 use sv_os::OsSpawner;
@@ -25,8 +25,14 @@ fn words_of(rt: &impl Abort, alloc: Global, words: &[&str]) -> Items<Text> {
     all
 }
 
-/// An order for these words, with one variable.
-fn order(rt: &impl Abort, alloc: Global, words: &[&str]) -> SpawnOrder {
+/// An order for these words in this directory and for this user, with one variable.
+fn order_in(
+    rt: &impl Abort,
+    alloc: Global,
+    words: &[&str],
+    directory: &str,
+    user: &'static str,
+) -> SpawnOrder {
     let mut environment = Items::new(alloc);
     environment
         .push((Text::fixed("SV_OS_TEST"), Text::fixed("a b")))
@@ -35,17 +41,36 @@ fn order(rt: &impl Abort, alloc: Global, words: &[&str]) -> SpawnOrder {
         run: Run(1),
         group: Text::fixed("g"),
         name: Text::fixed("p"),
-        directory: Text::fixed(""),
+        directory: Text::from_str(alloc, directory).expect(rt, "ample memory"),
         umask: Text::fixed(""),
-        user: Text::fixed(""),
+        user: Text::fixed(user),
         words: words_of(rt, alloc, words),
         environment,
     }
 }
 
-/// An order for a line of the shell.
-fn shell(rt: &impl Abort, alloc: Global, line: &str) -> SpawnOrder {
-    order(rt, alloc, ["/bin/sh", "-c", line].as_slice())
+/// Starts the program of these words in this directory.
+fn started_in<S: Spawner>(
+    rt: &impl Abort,
+    alloc: Global,
+    spawner: &mut S,
+    words: &[&str],
+    directory: &str,
+) -> Started<S::Stdin, S::Stdout, S::Stderr, S::Waiter> {
+    let order = order_in(rt, alloc, words, directory, "");
+    spawner
+        .spawn(alloc, &order)
+        .expect(rt, "a program is started")
+}
+
+/// Starts a line of the shell.
+fn started_line<S: Spawner>(
+    rt: &impl Abort,
+    alloc: Global,
+    spawner: &mut S,
+    line: &str,
+) -> Started<S::Stdin, S::Stdout, S::Stderr, S::Waiter> {
+    started_in(rt, alloc, spawner, ["/bin/sh", "-c", line].as_slice(), "")
 }
 
 /// What a source gives up to its end.
@@ -69,39 +94,25 @@ fn gives<S: Source>(rt: &impl Abort, alloc: Global, source: &mut S, text: &str) 
     assert!(rt; all.as_slice() == text.as_bytes());
 }
 
-/// An order for a program in this directory that writes what it got.
-fn telling(rt: &impl Abort, alloc: Global, directory: &str) -> SpawnOrder {
-    let line =
-        "read -r line; echo \"$SV_OS_TEST,${PATH:+path},$line\"; pwd -P; echo oh >&2; exit 3";
-    let mut order = shell(rt, alloc, line);
-    order.directory = Text::from_str(alloc, directory).expect(rt, "ample memory");
-    order
-}
+/// A line of the shell that writes what it got.
+const TELLING: &str =
+    "read -r line; echo \"$SV_OS_TEST,${PATH:+path},$line\"; pwd -P; echo oh >&2; exit 3";
 
 /// Starts a program in this directory that writes what it got, and gives it a line.
 fn tells<S: Spawner>(rt: &impl Abort, alloc: Global, spawner: &mut S, directory: &str) {
-    let mut started = started_telling(rt, alloc, spawner, directory);
-    let count = started
-        .stdin
-        .write(b"hello\n")
-        .expect(rt, "its input is written");
-    assert!(rt; count == 6);
-    drop(started.stdin);
+    let words = ["/bin/sh", "-c", TELLING];
+    let mut started = started_in(rt, alloc, spawner, words.as_slice(), directory);
+    says_hello(rt, started.stdin);
     gives_hello(rt, alloc, &mut started.stdout, directory);
     gives(rt, alloc, &mut started.stderr, "oh\n");
     assert!(rt; matches!(started.waiter.wait(), Ok(How::Code(3))));
 }
 
-fn started_telling<S: Spawner>(
-    rt: &impl Abort,
-    alloc: Global,
-    spawner: &mut S,
-    directory: &str,
-) -> Started<S::Stdin, S::Stdout, S::Stderr, S::Waiter> {
-    let order = telling(rt, alloc, directory);
-    spawner
-        .spawn(alloc, &order)
-        .expect(rt, "a program is started")
+/// Writes a line to a sink, which ends.
+fn says_hello<S: Sink + Drop>(rt: &impl Abort, sink: S) {
+    let mut sink = sink;
+    let count = sink.write(b"hello\n").expect(rt, "its input is written");
+    assert!(rt; count == 6);
 }
 
 /// A source gives the variables, the line and the directory.
@@ -120,28 +131,13 @@ fn a_program_gets_what_its_order_says(rt: HostRuntime) {
 /// Starts a program that names its descriptors: 0, 1 and 2.
 fn names_three<S: Spawner>(rt: &impl Abort, alloc: Global, spawner: &mut S) {
     let line = "n=0; while [ $n -lt 40 ]; do [ -e /proc/$$/fd/$n ] && echo $n; n=$((n+1)); done";
-    let order = shell(rt, alloc, line);
-    let mut started = spawner
-        .spawn(alloc, &order)
-        .expect(rt, "a program is started");
+    let mut started = started_line(rt, alloc, spawner, line);
     gives(rt, alloc, &mut started.stdout, "0\n1\n2\n");
-}
-
-/// Starts a program that waits for a line.
-fn waiting<S: Spawner>(
-    rt: &impl Abort,
-    alloc: Global,
-    spawner: &mut S,
-) -> Started<S::Stdin, S::Stdout, S::Stderr, S::Waiter> {
-    let order = shell(rt, alloc, "read -r line");
-    spawner
-        .spawn(alloc, &order)
-        .expect(rt, "a program that waits")
 }
 
 /// Starts a program that waits, one that names its descriptors, and closes the input of the first, which ends.
 fn names_three_beside<S: Spawner>(rt: &impl Abort, alloc: Global, spawner: &mut S) {
-    let other = waiting(rt, alloc, spawner);
+    let other = started_line(rt, alloc, spawner, "read -r line");
     names_three(rt, alloc, spawner);
     drop(other.stdin);
     let mut waiter = other.waiter;
@@ -160,42 +156,48 @@ fn a_program_holds_three_descriptors(rt: HostRuntime) {
     drop(listener);
 }
 
+/// This process, or its group, is signalled, and ends by the signal of this number.
+fn is_signalled<S: Spawner>(
+    rt: &impl Abort,
+    alloc: Global,
+    spawner: &mut S,
+    pid: Pid,
+    waiter: &mut S::Waiter,
+    (signal, group, number): (Signal, bool, u32),
+) {
+    spawner
+        .kill(alloc, pid, signal, group)
+        .expect(rt, "a signal is sent");
+    let how = waiter.wait().ok();
+    assert!(rt; how == ExitSignal::new(number).map(How::Signal));
+}
+
 /// Starts a program, which is ended by this signal.
 fn signal_one<S: Spawner>(
     rt: &impl Abort,
     alloc: Global,
     spawner: &mut S,
-    signal: Signal,
-    group: bool,
-    number: u32,
+    row: (Signal, bool, u32),
 ) {
-    let order = order(rt, alloc, ["sleep", "50"].as_slice());
-    let mut started = spawner
-        .spawn(alloc, &order)
-        .expect(rt, "a program is started");
-    spawner
-        .kill(alloc, started.pid, signal, group)
-        .expect(rt, "a signal is sent");
-    let how = started.waiter.wait().ok();
-    assert!(rt; how == ExitSignal::new(number).map(How::Signal));
+    let mut started = started_in(rt, alloc, spawner, ["sleep", "50"].as_slice(), "");
+    is_signalled(rt, alloc, spawner, started.pid, &mut started.waiter, row);
+}
+
+/// A source gives a line that tells that its program has begun.
+fn has_begun<S: Source>(rt: &impl Abort, source: &mut S) {
+    let mut piece = [0u8; 9];
+    let count = source.read(&mut piece).expect(rt, "it has begun");
+    assert!(rt; &piece[..count] == b"go\n".as_slice());
 }
 
 /// Starts a group of two programs, both of which are ended by one signal.
 fn signal_group<S: Spawner>(rt: &impl Abort, alloc: Global, spawner: &mut S) {
     let words = ["setsid", "sh", "-c", "sleep 50 & echo go; sleep 50"];
-    let order = order(rt, alloc, words.as_slice());
-    let mut started = spawner
-        .spawn(alloc, &order)
-        .expect(rt, "a group is started");
-    let mut piece = [0u8; 9];
-    let count = started.stdout.read(&mut piece).expect(rt, "it has begun");
-    assert!(rt; &piece[..count] == b"go\n".as_slice());
-    spawner
-        .kill(alloc, started.pid, Signal::Kill, true)
-        .expect(rt, "a signal is sent to a group");
-    let how = started.waiter.wait().ok();
-    assert!(rt; how == ExitSignal::new(9).map(How::Signal));
-    assert!(rt; all_of(rt, alloc, &mut started.stdout).is_empty());
+    let mut started = started_in(rt, alloc, spawner, words.as_slice(), "");
+    has_begun(rt, &mut started.stdout);
+    let row = (Signal::Kill, true, 9);
+    is_signalled(rt, alloc, spawner, started.pid, &mut started.waiter, row);
+    gives(rt, alloc, &mut started.stdout, "");
 }
 
 #[test]
@@ -207,8 +209,8 @@ fn programs_are_signalled(rt: HostRuntime) {
         (Signal::Kill, false, 9),
         (Signal::Term, true, 15),
     ];
-    for (signal, group, number) in rows {
-        signal_one(&rt, alloc, &mut spawner, signal, group, number);
+    for row in rows {
+        signal_one(&rt, alloc, &mut spawner, row);
     }
     signal_group(&rt, alloc, &mut spawner);
     let none = Pid::new(4_194_305).expect(&rt, "past the last process");
@@ -228,15 +230,28 @@ fn refusal<S: Spawner>(alloc: Global, spawner: &mut S, order: &SpawnOrder) -> Te
     }
 }
 
-/// An order is refused for this reason.
-fn is_refused<R: Abort + Processes + Files + Copy>(
-    rt: R,
+/// Why the spawner refuses an order for these words in this directory and for this user.
+fn refusal_of<S: Spawner>(
+    rt: &impl Abort,
     alloc: Global,
-    order: &SpawnOrder,
+    spawner: &mut S,
+    words: &[&str],
+    directory: &str,
+    user: &'static str,
+) -> Text {
+    let order = order_in(rt, alloc, words, directory, user);
+    refusal(alloc, spawner, &order)
+}
+
+/// An order for these words is refused for this reason.
+fn is_refused<S: Spawner>(
+    rt: &impl Abort,
+    alloc: Global,
+    spawner: &mut S,
+    words: &[&str],
     wanted: &str,
 ) {
-    let mut spawner = OsSpawner::new(rt);
-    let reason = refusal(alloc, &mut spawner, order);
+    let reason = refusal_of(rt, alloc, spawner, words, "", "");
     assert_eq!(rt; reason.as_str(), wanted);
 }
 
@@ -248,13 +263,37 @@ fn make_files<R: Abort + Files>(rt: &R, plain: &str, noise: &str) {
 }
 
 /// A program is refused whose directory is a file, and one with a user.
-fn is_refused_in_file<R: Abort + Processes + Files + Copy>(rt: R, alloc: Global, plain: &str) {
-    let mut order = order(&rt, alloc, ["/bin/true"].as_slice());
-    order.directory = Text::from_str(alloc, plain).expect(&rt, "ample memory");
-    let wanted = format!(in alloc; "can't change to directory {plain}").expect(&rt, "ample memory");
-    is_refused(rt, alloc, &order, wanted.as_str());
-    order.user = Text::fixed("nobody");
-    is_refused(rt, alloc, &order, "can't become user nobody");
+fn are_refused_in_file<S: Spawner>(rt: &impl Abort, alloc: Global, spawner: &mut S, plain: &str) {
+    let wanted = format!(in alloc; "can't change to directory {plain}").expect(rt, "ample memory");
+    let words = ["/bin/true"];
+    let reason = refusal_of(rt, alloc, spawner, words.as_slice(), plain, "");
+    assert!(rt; reason.as_str() == wanted.as_str());
+    let reason = refusal_of(rt, alloc, spawner, words.as_slice(), plain, "nobody");
+    assert!(rt; reason.as_str() == "can't become user nobody");
+}
+
+/// Programs are refused by their names; of a directory and of two files in it none is executed.
+fn are_refused<'a, S: Spawner>(
+    rt: &impl Abort,
+    alloc: Global,
+    spawner: &mut S,
+    directory: &'a str,
+    plain: &'a str,
+    noise: &'a str,
+) {
+    let rows = [
+        ("/none/such", "no file"),
+        ("sv-os-none-such", "no file"),
+        ("/dev/null/such", "no file"),
+        (plain, "not executable"),
+        (noise, "not executable"),
+        (directory, "not executable"),
+        ("a\0b", "nul byte found in provided data"),
+    ];
+    for (program, wanted) in rows {
+        is_refused(rt, alloc, spawner, [program].as_slice(), wanted);
+    }
+    is_refused(rt, alloc, spawner, [].as_slice(), "no file");
 }
 
 #[test]
@@ -264,21 +303,15 @@ fn programs_are_refused_by_name(rt: HostRuntime) {
     let plain = path_in(&rt, alloc, directory.as_str(), "plain");
     let noise = path_in(&rt, alloc, directory.as_str(), "noise");
     make_files(&rt, plain.as_str(), noise.as_str());
-    let rows = [
-        ("/none/such", "no file"),
-        ("sv-os-none-such", "no file"),
-        ("/dev/null/such", "no file"),
-        (plain.as_str(), "not executable"),
-        (noise.as_str(), "not executable"),
-        (directory.as_str(), "not executable"),
-        ("a\0b", "nul byte found in provided data"),
-    ];
-    for (program, wanted) in rows {
-        let order = order(&rt, alloc, [program].as_slice());
-        is_refused(rt, alloc, &order, wanted);
-    }
-    let none = order(&rt, alloc, [].as_slice());
-    is_refused(rt, alloc, &none, "no file");
-    is_refused_in_file(rt, alloc, plain.as_str());
+    let mut spawner = OsSpawner::new(rt);
+    are_refused(
+        &rt,
+        alloc,
+        &mut spawner,
+        directory.as_str(),
+        plain.as_str(),
+        noise.as_str(),
+    );
+    are_refused_in_file(&rt, alloc, &mut spawner, plain.as_str());
     fs::remove_dir_all(&rt, directory.as_str()).expect(&rt, "the system does it");
 }

@@ -1,0 +1,127 @@
+//! Real addresses: what their links are.
+
+use crate::listen_tests::is_taken;
+use crate::os_tests::{new_directory, path_in, socket_at};
+use std::alloc::Global;
+use std::fs;
+use std::net::{Ipv4Addr, Net, OpenListener, OpenStream, SocketAddr, TcpListener};
+use std::os::unix::net::UnixListener;
+use std::process::Abort;
+use std::rt::{Clock, Files};
+use std::time::Duration;
+use sv_base::{Place, Text};
+use sv_os::{OsDial, OsLink, OsListen, remove_socket};
+use sv_out::{Dial, Link};
+use sv_outside::Listen;
+
+/// A read and a write of a link may wait for a minute.
+fn has_limits<S: OpenStream>(rt: &impl Abort, link: &OsLink<S>) {
+    let limit = Some(Duration::from_secs(60));
+    assert!(rt; matches!(link.read_limit(), Ok(read) if read == limit));
+    assert!(rt; matches!(link.write_limit(), Ok(write) if write == limit));
+}
+
+/// Four bytes pass from one end to the other.
+fn passes<F: Link, T: Link>(rt: &impl Abort, from: &mut F, to: &mut T, bytes: &[u8]) {
+    let mut piece = [0u8; 8];
+    assert!(rt; matches!(from.write(bytes), Ok(4)));
+    assert!(rt; matches!(to.read(&mut piece), Ok(4)));
+    assert!(rt; &piece[..4] == bytes);
+}
+
+/// A link passes bytes both ways, and tells its end.
+fn serves<L: Link, K: Link + Drop>(rt: &impl Abort, link: &mut L, peer: K) {
+    let mut peer = peer;
+    passes(rt, &mut peer, link, b"ping".as_slice());
+    passes(rt, link, &mut peer, b"pong".as_slice());
+    drop(peer);
+    let mut piece = [0u8; 8];
+    assert!(rt; matches!(link.read(&mut piece), Ok(0)));
+}
+
+/// The link of a client at this place is accepted, and serves.
+fn is_served<R: Abort + Net + Files + Clock>(
+    rt: &R,
+    alloc: Global,
+    listen: &mut OsListen<R>,
+    place: &Place,
+) {
+    let peer = OsDial::new(rt).connect(alloc, place).expect(rt, "a client");
+    let mut link = listen.accept().expect(rt, "a link");
+    has_limits(rt, &link);
+    serves(rt, &mut link, peer);
+}
+
+/// What accepts the links of this address.
+fn opened_at<R: Abort + Net + Files + Clock + Copy>(rt: R, place: Place) -> OsListen<R> {
+    let (listen, opened) = OsListen::open(rt, place);
+    opened.expect(&rt, "the system does it");
+    listen
+}
+
+/// A port of this machine that is free again, after it was taken.
+fn taken_port<R: Abort + Net + Files + Clock + Copy>(rt: R) -> u16 {
+    let free = TcpListener::bind(&rt, SocketAddr::from((Ipv4Addr::LOCALHOST, 0))).expect(
+        &rt,
+        "the system does it",
+    );
+    let port = free.local_addr().expect(&rt, "the system does it").port();
+    is_taken(rt, Place::Inet(Text::fixed("localhost"), port));
+    port
+}
+
+/// Links are served at this host's port.
+fn serves_host<R: Abort + Net + Files + Clock + Copy>(
+    rt: R,
+    alloc: Global,
+    host: &'static str,
+    port: u16,
+) {
+    let mut listen = opened_at(rt, Place::Inet(Text::fixed(host), port));
+    let place = Place::Inet(Text::fixed("127.0.0.1"), port);
+    is_served(&rt, alloc, &mut listen, &place);
+}
+
+#[test]
+fn links_come_over_tcp(rt: HostRuntime) {
+    let port = taken_port(rt);
+    for host in ["localhost", "127.0.0.1", ""] {
+        serves_host(rt, rt.alloc(), host, port);
+    }
+}
+
+/// Nobody else opens this socket's file, and whoever tries looks whether somebody accepts there.
+fn is_kept<R: Abort + Net + Files + Clock + Copy>(
+    rt: R,
+    alloc: Global,
+    listen: &mut OsListen<R>,
+    path: &str,
+) {
+    is_taken(rt, socket_at(&rt, alloc, path));
+    assert!(rt; listen.accept().is_ok());
+}
+
+/// Links are served at this socket's file, which nobody else opens meanwhile.
+fn serves_file<R: Abort + Net + Files + Clock + Copy>(rt: R, alloc: Global, path: &str) {
+    let mut listen = opened_at(rt, socket_at(&rt, alloc, path));
+    is_kept(rt, alloc, &mut listen, path);
+    is_served(&rt, alloc, &mut listen, &socket_at(&rt, alloc, path));
+}
+
+/// A socket's file at which nobody accepts is replaced, twice, and is removed.
+fn is_replaced<R: Abort + Net + Files + Clock + Copy>(rt: R, alloc: Global, path: &str) {
+    drop(UnixListener::bind(&rt, path).expect(&rt, "the system does it"));
+    for _ in 0..2 {
+        serves_file(rt, alloc, path);
+    }
+    remove_socket(&rt, &socket_at(&rt, alloc, path)).expect(&rt, "the system does it");
+    assert!(rt; !fs::exists(&rt, path).expect(&rt, "the system does it"));
+}
+
+#[test]
+fn links_come_over_a_socket_file(rt: HostRuntime) {
+    let directory = new_directory(&rt, "listen").expect(&rt, "a new directory");
+    let path = path_in(&rt, rt.alloc(), directory.as_str(), "socket");
+    is_replaced(rt, rt.alloc(), path.as_str());
+    fs::remove_dir_all(&rt, directory.as_str()).expect(&rt, "the system does it");
+}
