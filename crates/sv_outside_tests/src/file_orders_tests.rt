@@ -40,10 +40,15 @@ fn shelf_of(
         Vec::from_slice(alloc, &[failing]).expect(rt, "memory"),
     );
     for (name, text) in files {
-        let bytes = Bytes::from_slice(alloc, text.as_bytes()).expect(rt, "memory");
-        shelf.set(Text::fixed(name), bytes).expect(rt, "memory");
+        put(rt, alloc, &mut shelf, name, text);
     }
     shelf
+}
+
+/// Puts a file there.
+fn put(rt: &impl Abort, alloc: Global, shelf: &mut MapShelf, name: &'static str, text: &str) {
+    let bytes = Bytes::from_slice(alloc, text.as_bytes()).expect(rt, "memory");
+    shelf.set(Text::fixed(name), bytes).expect(rt, "memory");
 }
 
 /// Whether this is what a file holds, `-` being no file.
@@ -55,66 +60,120 @@ fn holds(alloc: Global, shelf: &MapShelf, name: &str, text: &str) -> bool {
     }
 }
 
-/// Appends `ab` to `/l`.
-fn append_ab(alloc: Global, shelf: &mut MapShelf) -> Result<Handed, AllocError> {
-    let bytes = Bytes::from_slice(alloc, b"ab")?;
-    append(alloc, shelf, &Text::fixed("/l"), &bytes)
-}
-
 /// A letter for what came of an order that writes.
-fn letter(handed: Result<Handed, AllocError>) -> char {
+fn letter(handed: Result<Handed, AllocError>) -> u8 {
     match handed {
-        Ok(Handed::Done) => 'd',
-        Ok(Handed::Failed) => 'f',
-        Err(AllocError) => '?',
+        Ok(Handed::Done) => b'd',
+        Ok(Handed::Failed) => b'f',
+        Err(AllocError) => b'?',
     }
 }
 
 /// A letter for an answer: the first byte that was read, and `.` where none was; the number of names; `6` for that size.
-fn answer_letter(answer: &Result<FileAnswer, AllocError>) -> char {
+fn answer_letter(answer: &Result<FileAnswer, AllocError>) -> u8 {
     match answer {
-        Ok(FileAnswer::Read(bytes)) => match bytes.as_slice().first() {
-            Some(first) => *first as char,
-            None => '.',
-        },
-        Ok(FileAnswer::Done) => 'd',
-        Ok(FileAnswer::Missing) => 'm',
+        Ok(FileAnswer::Read(bytes)) => first_letter(bytes),
+        Ok(FileAnswer::Done) => b'd',
+        Ok(FileAnswer::Missing) => b'm',
         Ok(FileAnswer::Names(names)) => match names.as_slice() {
-            [] => '0',
-            [_] => '1',
-            _ => '2',
+            [] => b'0',
+            [_] => b'1',
+            _ => b'2',
         },
-        Ok(FileAnswer::Size(6)) => '6',
-        Ok(FileAnswer::Size(_)) => 's',
-        Ok(FileAnswer::Failed) => 'f',
-        Err(_) => '?',
+        Ok(FileAnswer::Size(6)) => b'6',
+        Ok(FileAnswer::Size(_)) => b's',
+        Ok(FileAnswer::Failed) => b'f',
+        Err(_) => b'?',
     }
+}
+
+/// The first byte that was read, and `.` where none was.
+fn first_letter(bytes: &Bytes) -> u8 {
+    match bytes.as_slice().first() {
+        Some(first) => *first,
+        None => b'.',
+    }
+}
+
+/// Appends these bytes to `/l`.
+fn append_bytes(alloc: Global, shelf: &mut MapShelf, bytes: &Bytes) -> u8 {
+    letter(append(alloc, shelf, &Text::fixed("/l"), bytes))
+}
+
+/// Appends `ab` to `/l`.
+fn append_ab(rt: &impl Abort, alloc: Global, shelf: &mut MapShelf) -> u8 {
+    let bytes = Bytes::from_slice(alloc, b"ab").expect(rt, "memory");
+    append_bytes(alloc, shelf, &bytes)
+}
+
+/// Renames `/l` to `/m`.
+fn rename(alloc: Global, shelf: &mut MapShelf) -> u8 {
+    letter(shift(alloc, shelf, &Text::fixed("/l"), &Text::fixed("/m")))
+}
+
+/// Makes `/l` anew.
+fn make_anew(alloc: Global, shelf: &mut MapShelf) -> u8 {
+    letter(fresh(alloc, shelf, &Text::fixed("/l")))
+}
+
+/// Asks for something of the files of this name.
+fn ask(
+    alloc: Global,
+    shelf: &mut MapShelf,
+    asking: Asking,
+    name: &Text,
+) -> Result<FileAnswer, AllocError> {
+    match asking {
+        Asking::Clear(_) => clear_file(alloc, shelf, name),
+        Asking::Names(_) => file_names(alloc, shelf, name),
+        Asking::Size(_) => file_size(alloc, shelf, name),
+        _ => read_file(alloc, shelf, name, 2, 3),
+    }
+}
+
+/// Asks for something of the files of this name: the letter of the answer.
+fn answered(alloc: Global, shelf: &mut MapShelf, asking: Asking, name: &'static str) -> u8 {
+    answer_letter(&ask(alloc, shelf, asking, &Text::fixed(name)))
 }
 
 /// Gives an order to the shelf: the letter of what came of it.
-fn come_of(alloc: Global, shelf: &mut MapShelf, asking: Asking) -> char {
+fn come_of(rt: &impl Abort, alloc: Global, shelf: &mut MapShelf, asking: Asking) -> u8 {
     match asking {
-        Asking::Append => letter(append_ab(alloc, shelf)),
-        Asking::Rename => { letter(shift(alloc, shelf, &Text::fixed("/l"), &Text::fixed("/m"))) }
-        Asking::Anew => letter(fresh(alloc, shelf, &Text::fixed("/l"))),
-        Asking::Part => answer_letter(&read_file(alloc, shelf, &Text::fixed("/l"), 2, 3)),
-        Asking::Clear(name) => answer_letter(&clear_file(alloc, shelf, &Text::fixed(name))),
-        Asking::Names(pattern) => {
-            answer_letter(&file_names(alloc, shelf, &Text::fixed(pattern)))
-        }
-        Asking::Size(name) => answer_letter(&file_size(alloc, shelf, &Text::fixed(name))),
+        Asking::Append => append_ab(rt, alloc, shelf),
+        Asking::Rename => rename(alloc, shelf),
+        Asking::Anew => make_anew(alloc, shelf),
+        Asking::Part => answered(alloc, shelf, asking, "/l"),
+        Asking::Clear(name) => answered(alloc, shelf, asking, name),
+        Asking::Names(pattern) => answered(alloc, shelf, asking, pattern),
+        Asking::Size(name) => answered(alloc, shelf, asking, name),
     }
 }
 
-/// Gives these orders to the shelf: the letters of what came of them.
-fn all_come_of(rt: &impl Abort, alloc: Global, shelf: &mut MapShelf, all: &[Asking]) -> String {
-    let mut letters = String::new(alloc);
-    for asking in all {
-        letters
-            .push(come_of(alloc, shelf, *asking))
-            .expect(rt, "memory");
+/// Gives these orders to the shelf, and what comes of each has its letter.
+fn all_come_to(
+    rt: &impl Abort,
+    alloc: Global,
+    shelf: &mut MapShelf,
+    all: &[Asking],
+    letters: &str,
+) {
+    assert!(rt; all.len() == letters.len());
+    for (asking, letter) in all.iter().zip(letters.as_bytes()) {
+        assert!(rt; come_of(rt, alloc, shelf, *asking) == *letter);
     }
-    letters
+}
+
+/// Gives these orders to a shelf with these files, which fails at this call; what comes of each has its letter.
+fn answers(
+    rt: &impl Abort,
+    alloc: Global,
+    failing: u64,
+    files: &[(&'static str, &'static str)],
+    all: &[Asking],
+    letters: &str,
+) {
+    let mut shelf = shelf_of(rt, alloc, failing, files);
+    all_come_to(rt, alloc, &mut shelf, all, letters);
 }
 
 /// Appends, renames and makes anew.
@@ -129,20 +188,23 @@ const WRITTEN: [(u64, &str, &str, &str); 4] = [
     (3, "ddf", "-", "ab"),
 ];
 
+/// Writes to a shelf that fails at this call; what comes of each order has its letter, and the files hold these texts.
+fn written(rt: &impl Abort, alloc: Global, failing: u64, letters: &str, first: &str, second: &str) {
+    let mut shelf = shelf_of(rt, alloc, failing, &[]);
+    all_come_to(rt, alloc, &mut shelf, &WRITES, letters);
+    assert!(rt; holds(alloc, &shelf, "/l", first));
+    assert!(rt; holds(alloc, &shelf, "/m", second));
+}
+
 #[test]
 fn files_are_written(rt: HostRuntime) {
-    let alloc = rt.alloc();
-    for (failing, letters, first, second) in WRITTEN {
-        let mut shelf = shelf_of(&rt, alloc, failing, &[]);
-        let told = all_come_of(&rt, alloc, &mut shelf, &WRITES);
-        assert!(rt;
-            told.as_str() == letters
-                && holds(alloc, &shelf, "/l", first)
-                && holds(alloc, &shelf, "/m", second),
-            "{failing}"
-        );
+    for (failing, letters, first, second) in &WRITTEN {
+        written(&rt, rt.alloc(), *failing, letters, first, second);
     }
 }
+
+/// One file and its text.
+const ONE_FILE: [(&str, &str); 1] = [("/l", "abcdef")];
 
 /// Reads a part of `/l`, clears `/none`, clears `/l`, and reads the part again.
 const QUESTIONS: [Asking; 4] = [
@@ -164,13 +226,13 @@ const ASKED: [(u64, &str); 6] = [
 
 #[test]
 fn questions_are_answered(rt: HostRuntime) {
-    let alloc = rt.alloc();
-    for (failing, letters) in ASKED {
-        let mut shelf = shelf_of(&rt, alloc, failing, &[("/l", "abcdef")]);
-        let told = all_come_of(&rt, alloc, &mut shelf, &QUESTIONS);
-        assert!(rt; told.as_str() == letters, "{failing}");
+    for (failing, letters) in &ASKED {
+        answers(&rt, rt.alloc(), *failing, &ONE_FILE, &QUESTIONS, letters);
     }
 }
+
+/// Two files and their texts.
+const TWO_FILES: [(&str, &str); 2] = [("/l", "abcdef"), ("/l.1", "ab")];
 
 /// Asks which names `/l*` matches, which `/n*` matches, for the size of `/l`, and for that of `/none`.
 const LOOKS: [Asking; 4] = [
@@ -191,10 +253,7 @@ const LOOKED: [(u64, &str); 5] = [
 
 #[test]
 fn names_and_sizes_are_answered(rt: HostRuntime) {
-    let alloc = rt.alloc();
-    for (failing, letters) in LOOKED {
-        let mut shelf = shelf_of(&rt, alloc, failing, &[("/l", "abcdef"), ("/l.1", "ab")]);
-        let told = all_come_of(&rt, alloc, &mut shelf, &LOOKS);
-        assert!(rt; told.as_str() == letters, "{failing}");
+    for (failing, letters) in &LOOKED {
+        answers(&rt, rt.alloc(), *failing, &TWO_FILES, &LOOKS, letters);
     }
 }

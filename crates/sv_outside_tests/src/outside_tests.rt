@@ -32,8 +32,8 @@ fn clock_of(rt: &impl Abort, alloc: Global) -> FixedClock {
 #[test]
 fn a_clock_gives_its_moments_and_then_the_last(rt: HostRuntime) {
     let mut clock = clock_of(&rt, rt.alloc());
-    for milliseconds in [5, 7, 7] {
-        assert!(rt; clock.now().milliseconds() == milliseconds);
+    for milliseconds in &[5, 7, 7] {
+        assert!(rt; clock.now().milliseconds() == *milliseconds);
     }
     clock.pause(1_000);
     clock.pause(20);
@@ -46,8 +46,8 @@ fn a_clock_gives_its_moments_and_then_the_last(rt: HostRuntime) {
 fn a_waiter_fails_at_its_calls(rt: HostRuntime) {
     let mut waiter = ScriptWaiter::new(How::Code(3), calls_of(&rt, rt.alloc(), &[2]));
     let end = Some(How::Code(3));
-    for (how, faults) in [(end, 0), (None, 1), (end, 1)] {
-        assert!(rt; waiter.wait().ok() == how && waiter.faults() == faults);
+    for (how, faults) in &[(end, 0), (None, 1), (end, 1)] {
+        assert!(rt; waiter.wait().ok() == *how && waiter.faults() == *faults);
     }
 }
 
@@ -69,14 +69,17 @@ fn listen_of(rt: &impl Abort, alloc: Global) -> ScriptListen {
     ScriptListen::new(links, calls_of(rt, alloc, &[2]))
 }
 
+/// The one byte that a link gives at first.
+fn first_byte(rt: &impl Abort, link: &mut ScriptLink) -> u8 {
+    let mut buffer = [0u8; 9];
+    assert!(rt; matches!(link.read(&mut buffer), Ok(1)));
+    buffer[0]
+}
+
 /// The one byte that the next link gives at first; none where there is no link.
 fn next_byte(rt: &impl Abort, listen: &mut ScriptListen) -> Option<u8> {
     match listen.accept() {
-        Ok(mut link) => {
-            let mut buffer = [0u8; 9];
-            assert!(rt; matches!(link.read(&mut buffer), Ok(1)));
-            Some(buffer[0])
-        }
+        Ok(mut link) => Some(first_byte(rt, &mut link)),
         Err(_) => None,
     }
 }
@@ -84,16 +87,16 @@ fn next_byte(rt: &impl Abort, listen: &mut ScriptListen) -> Option<u8> {
 #[test]
 fn links_come_in_turn(rt: HostRuntime) {
     let mut listen = listen_of(&rt, rt.alloc());
-    for byte in [Some(b'a'), None, Some(b'b'), None] {
-        assert!(rt; next_byte(&rt, &mut listen) == byte);
+    for byte in &[Some(b'a'), None, Some(b'b'), None] {
+        assert!(rt; next_byte(&rt, &mut listen) == *byte);
     }
     assert!(rt; listen.given() == 2 && listen.faults() == 2);
 }
 
 /// A job that is about this word and does nothing.
 #[derive(Drop)]
-struct Idle {
-    word: JobWord,
+pub(crate) struct Idle {
+    pub(crate) word: JobWord,
 }
 
 impl Job for Idle {
@@ -123,28 +126,46 @@ fn keeps(gate: &mut HoldGate<Idle>, word: JobWord) -> bool {
     gate.start(Idle { word }).is_ok()
 }
 
+/// Whether a job about the console came back, and ends.
+pub(crate) fn came_back<R: Wait>(rt: &R, answer: &mut Result<(), Idle>) -> bool {
+    match answer {
+        Ok(()) => false,
+        Err(back) => back.word() == JobWord::Console && back.work(rt) == PumpEnd::Ended,
+    }
+}
+
 /// The gate gives a job back as it was.
 fn gives_back<R: Abort + Wait>(rt: &R, gate: &mut HoldGate<Idle>) {
     let word = JobWord::Console;
-    match gate.start(Idle { word }) {
-        Ok(()) => assert!(rt; false, "the job was kept"),
-        Err(mut back) => assert!(rt; back.word() == word && back.work(rt) == PumpEnd::Ended),
+    let mut answer = gate.start(Idle { word });
+    assert!(rt; came_back(rt, &mut answer));
+}
+
+/// The gate keeps two jobs, and gives one back between them and one behind them.
+fn keeps_two<R: Abort + Wait>(rt: &R, gate: &mut HoldGate<Idle>) {
+    assert!(rt; keeps(gate, JobWord::Ticker));
+    gives_back(rt, gate);
+    assert!(rt; keeps(gate, JobWord::Watch(Run(4))));
+    assert!(rt; !keeps(gate, JobWord::Pump(Run(4), Stream::Err)));
+    assert!(rt; gate.faults() == 2 && gate.jobs().len() == 2);
+}
+
+/// Whether these are the two jobs that the gate keeps.
+fn are_kept(jobs: &[Idle]) -> bool {
+    match jobs {
+        [first, second] => {
+            first.word() == JobWord::Ticker && second.word() == JobWord::Watch(Run(4))
+        }
+        _ => false,
     }
 }
 
 #[test]
 fn a_gate_holds_jobs_while_it_has_room(rt: HostRuntime) {
     let mut gate = gate_of(&rt, rt.alloc());
-    assert!(rt; keeps(&mut gate, JobWord::Ticker));
-    gives_back(&rt, &mut gate);
-    assert!(rt; keeps(&mut gate, JobWord::Watch(Run(4))));
-    assert!(rt; !keeps(&mut gate, JobWord::Pump(Run(4), Stream::Err)));
-    assert!(rt; gate.faults() == 2 && gate.jobs().len() == 2);
+    keeps_two(&rt, &mut gate);
     let jobs = gate.into_jobs();
-    assert!(rt;
-        matches!(jobs.as_slice(), [first, second]
-            if first.word() == JobWord::Ticker && second.word() == JobWord::Watch(Run(4)))
-    );
+    assert!(rt; are_kept(jobs.as_slice()));
 }
 
 fn order(alloc: Global, run: u32) -> SpawnOrder {
@@ -197,11 +218,11 @@ enum Outcome {
     Other,
 }
 
+/// A program that was started.
+type Running = Started<ListSink, ListSource, ListSource, ScriptWaiter>;
+
 /// A program takes its input, writes nothing, and ends.
-fn ended(
-    rt: &impl Abort,
-    program: &mut Started<ListSink, ListSource, ListSource, ScriptWaiter>,
-) -> Outcome {
+fn ended(rt: &impl Abort, program: &mut Running) -> Outcome {
     let mut buffer = [0u8; 4];
     assert!(rt; matches!(program.stdin.write(b"in"), Ok(2)));
     assert!(rt; matches!(program.stdout.read(&mut buffer), Ok(0)));
@@ -211,26 +232,32 @@ fn ended(
     }
 }
 
-/// What comes of an order for a program.
-fn came(rt: &impl Abort, alloc: Global, spawner: &mut ScriptSpawner, run: u32) -> Outcome {
-    match spawner.spawn(alloc, &order(alloc, run)) {
-        Ok(mut program) => ended(rt, &mut program),
+/// The answer to an order for a program.
+fn answer(alloc: Global, spawner: &mut ScriptSpawner, run: u32) -> Result<Running, SpawnFault> {
+    spawner.spawn(alloc, &order(alloc, run))
+}
+
+/// What comes of this answer.
+fn came_of(rt: &impl Abort, answer: &mut Result<Running, SpawnFault>) -> Outcome {
+    match answer {
+        Ok(program) => ended(rt, program),
         Err(SpawnFault::Refused(Refusal::Refused(_))) => Outcome::Reason,
         Err(SpawnFault::Refused(Refusal::NoFile)) => Outcome::NoFile,
         Err(_) => Outcome::Other,
     }
 }
 
+/// What comes of an order for a program.
+fn came(rt: &impl Abort, alloc: Global, spawner: &mut ScriptSpawner, run: u32) -> Outcome {
+    came_of(rt, &mut answer(alloc, spawner, run))
+}
+
 /// A signal to the first process is sent, and another one isn't.
 fn one_signal_is_sent(rt: &impl Abort, alloc: Global, spawner: &mut ScriptSpawner) {
-    let pid = Pid::least();
-    assert!(rt; spawner.kill(alloc, pid, Signal::Term, true).is_ok());
-    assert!(rt;
-        matches!(
-            spawner.kill(alloc, pid, Signal::Kill, false),
-            Err(KillFault::Failed)
-        )
-    );
+    let term = spawner.kill(alloc, Pid::least(), Signal::Term, true);
+    assert!(rt; term.is_ok());
+    let kill = spawner.kill(alloc, Pid::least(), Signal::Kill, false);
+    assert!(rt; matches!(kill, Err(KillFault::Failed)));
 }
 
 /// Whether this is what the spawner was asked for.
@@ -248,18 +275,20 @@ fn are_asked(asked: &[Asked]) -> bool {
     }
 }
 
+/// What comes of four orders and two signals.
+fn orders_come(rt: &impl Abort, alloc: Global, spawner: &mut ScriptSpawner) {
+    assert!(rt; came(rt, alloc, spawner, 1) == Outcome::Process(1, How::Code(9)));
+    assert!(rt; came(rt, alloc, spawner, 2) == Outcome::Reason);
+    one_signal_is_sent(rt, alloc, spawner);
+    assert!(rt; came(rt, alloc, spawner, 3) == Outcome::NoFile);
+    assert!(rt; came(rt, alloc, spawner, 4) == Outcome::Process(2, How::Code(0)));
+    assert!(rt; spawner.faults() == 3 && are_asked(spawner.asked()));
+}
+
 #[test]
 fn a_spawner_tells_what_it_was_asked_for(rt: HostRuntime) {
-    let alloc = rt.alloc();
-    let mut spawner = spawner_of(&rt, alloc);
-    let first = came(&rt, alloc, &mut spawner, 1);
-    let second = came(&rt, alloc, &mut spawner, 2);
-    one_signal_is_sent(&rt, alloc, &mut spawner);
-    let third = came(&rt, alloc, &mut spawner, 3);
-    let fourth = came(&rt, alloc, &mut spawner, 4);
-    assert!(rt; first == Outcome::Process(1, How::Code(9)) && second == Outcome::Reason);
-    assert!(rt; third == Outcome::NoFile && fourth == Outcome::Process(2, How::Code(0)));
-    assert!(rt; spawner.faults() == 3 && are_asked(spawner.asked()));
+    let mut spawner = spawner_of(&rt, rt.alloc());
+    orders_come(&rt, rt.alloc(), &mut spawner);
 }
 
 fn is_spawn(asked: &Asked, run: u32, pid: Option<u32>) -> bool {
