@@ -1,4 +1,4 @@
 pub mod Accepted
+pub mod Crowded
+pub mod EachOnce
 pub mod FewEnough
-pub mod Folds
-pub mod Lookups

@@ -16,7 +16,7 @@ use Rattle.sv_keys.specs.KeyTable.{Keys, priority}
 use Rattle.sv_keys.specs.KnownNames.{host_names}
 use Rattle.sv_keys.specs.ProgramNames.{titled}
 use Rattle.sv_keys.specs.Rows.{needed}
-use Rattle.sv_sections.specs.ServerSections.{others_of, common_of, or_else}
+use Rattle.sv_sections.specs.ServerSections.{others_of, common_of}
 use Rattle.sv_sections.specs.SectionFaults.{or_missing, or_section_fault}
 use Rattle.sv_keys.specs.Values.{programs_of}
 use Rattle.sv_sections.specs.declared.fault.ConfFault.{ConfFault}
@@ -26,6 +26,7 @@ use Rattle.sv_keys.specs.declared.key.Key.TheVariants as key
 use Rattle.sv_sections.specs.declared.server.Others.{Others}
 use Rattle.sv_expand.specs.declared.names.Names.{Names}
 use Rattle.sv_ini.specs.declared.section.Section.{Section}
+use Rattle.sv_crowd.specs.Duplicates.{first_twice}
 use Rattle.sv_programs.specs.Programs.{all_parts}
 use Rattle.sv_ranks.specs.Ranks.{sorted_from}
 use Rattle.sv_sections.specs.AllSections.{all_supported, with_included}
@@ -91,16 +92,6 @@ all_groups host sections parts = groups_from sections (host_names host) [] secti
 
 -- 8. Duplicate names: a group's among the groups before it, then those of its processes among
 -- themselves.
-unfoldable pub twice_at : List Spec → Spec → Option (List ℕ)
-twice_at before member =
-    if list_any (λ (other : Spec). bytes_eq other.name member.name) before then Some member.name
-    else None
-
--- the first name of a process that stands before it already
-abbrev pub first_twice : List Spec → List Spec → Option (List ℕ)
-first_twice before [] = None
-first_twice before (member ∷ members) =
-    or_else (twice_at before member) (first_twice (before ++ member ∷ []) members)
 
 -- a duplicate name of this group: its own among the groups before it, or one of its processes
 unfoldable pub twice_in : List GroupSpec → GroupSpec → Option (List ℕ)

@@ -1,3 +1,4 @@
 pub mod Configuration
+pub mod Crowded
 pub mod Limits
 pub mod Titles

@@ -1,6 +1,6 @@
 -- The titles of all sections, kept in a set. It has those that going through all sections would
 -- find.
-use Rattle.std.specs.Prelude.{◌≡◌, ℕ, List, Bool, ◌||◌, String}
+use Rattle.std.specs.Prelude.{◌≡◌, ℕ, List, Bool, String}
 use Rattle.std.specs.HashSet.{HashSet, contains_text}
 use Rattle.std.specs.List.{list_any}
 use Rattle.std.specs.Str.{bytes_eq}
@@ -11,11 +11,6 @@ abbrev pub has_title : List ℕ → List Section → Bool
 has_title title sections = list_any (λ (s : Section). bytes_eq s.name title) sections
 
 module _ {Y S : Type 0} where
-  -- one title more, and the same for all others
-  abbrev pub AddsTitle : HashSet (String Y) S → HashSet (String Y) S → List ℕ → Type 0
-  AddsTitle old new title =
-      (other : List ℕ) → contains_text new other ≡ (bytes_eq title other || contains_text old other)
-
   -- the set has the titles of these sections
   abbrev pub HasTitles : HashSet (String Y) S → List Section → Type 0
   HasTitles titles sections =

@@ -1,6 +1,6 @@
 //! The groups of a configuration, each name once, in start order.
 
-ghost use Rattle.std.specs.Prelude.{◌≡◌, ◌++◌, [], Ok, true, false, IfOk, IfErr, OnOk, List};
+ghost use Rattle.std.specs.Prelude.{◌≡◌, ◌++◌, [], Ok, true, false, IfOk, IfErr, OnOk};
 ghost use Rattle.std.specs.Prelude.{map, codes};
 ghost use Rattle.sv_sections.specs.FaultTexts.{IsFault};
 ghost use Rattle.sv_sections.specs.SectionFaults.{or_section_fault};
@@ -9,15 +9,11 @@ ghost use Rattle.sv_keys.specs.Rows.{needed};
 ghost use Rattle.sv_keys.specs.Values.{programs_of};
 ghost use Rattle.sv_keys.specs.declared.key.Key.TheVariants as key;
 ghost use Rattle.sv_keys.specs.ProgramNames.{titled};
-ghost use Rattle.std.specs.List.{find, list_any};
-ghost use Rattle.std.specs.Option.{option_map};
-ghost use Rattle.std.specs.Str.{bytes_eq};
-ghost use Rattle.sv_base.specs.declared.spec.GroupSpec.{GroupSpec};
-ghost use Rattle.sv_base.specs.declared.spec.Spec.{Spec};
-ghost use Rattle.sv_conf.specs.Titles.{has_title, AddsTitle, HasTitles};
+ghost use Rattle.std.specs.List.{find};
+ghost use Rattle.sv_conf.specs.Titles.{has_title, HasTitles};
 ghost use Rattle.sv_conf.specs.Configuration.{is_program, is_missing, missing_in, members_of};
 ghost use Rattle.sv_conf.specs.Configuration.{group_at, groups_by, groups_from, all_groups};
-ghost use Rattle.sv_conf.specs.Configuration.{twice_at, first_twice, twice_in, each_once};
+ghost use Rattle.sv_conf.specs.Configuration.{each_once};
 ghost use Rattle.sv_conf.specs.Configuration.{sorted_members, with_sorted, sorted_groups};
 
 use std::alloc::{AllocError, Global};
@@ -27,6 +23,7 @@ use sv_base::config::Host;
 use sv_base::items::Items;
 use sv_base::spec::{GroupSpec, Spec};
 use sv_base::text::Text;
+use sv_crowd::duplicates::{add_name, first_twice};
 use sv_expand::names::Names;
 use sv_ini::section::Section;
 use sv_keys::judged::Unread;
@@ -81,18 +78,10 @@ fn titles_of(alloc: Global, sections: &[Section]) -> Result<HashSet<String>, All
     let mut titles = HashSet::new(alloc);
     let mut left = sections;
     while let [section, rest @ ..] = left {
-        add_title(alloc, &mut titles, section.name.as_str())?;
+        add_name(alloc, &mut titles, section.name.as_str())?;
         left = rest;
     }
     Ok(titles)
-}
-
-fn add_title(alloc: Global, titles: &mut HashSet<String>, title: &str) -> Result<(), AllocError>
-    ensures { OnOk result (AddsTitle titles.old titles.new title.now) }
-{
-    let title = String::from_str(alloc, title)?;
-    titles.insert(title)?;
-    Ok(())
 }
 
 fn is_program(alloc: Global, sections: &Titled, program: &str) -> Result<bool, AllocError>
@@ -277,70 +266,23 @@ fn add_groups(groups: &mut Items<GroupSpec>, more: Items<GroupSpec>) -> Result<(
     Ok(())
 }
 
-fn is_named(members: &[Spec], name: &str) -> bool
-    ensures { result ≡ list_any (λ (other : Spec). bytes_eq other.name name.now) members.now }
-{
-    members.iter().any(|member| member.name.as_str() == name)
-}
-
-fn is_group(groups: &[GroupSpec], name: &str) -> bool
-    ensures { result ≡ list_any (λ (other : GroupSpec). bytes_eq other.name name.now) groups.now }
-{
-    groups.iter().any(|group| group.name.as_str() == name)
-}
-
-/// The first process that has the name of one before it.
-#[tactic(auto, using(crate::proofs::Folds::taken_more, crate::proofs::Folds::dropped_more))]
-fn first_twice(members: &[Spec]) -> Option<&Text>
-    ensures { option_map (λ x. x.now) result ≡ first_twice [] members.now }
-{
-    let mut place = 0;
-    let mut left = members;
-    while let [member, rest @ ..] = left {
-        match twice_at(&members[..place], member) {
-            Some(name) => return Some(name),
-            None => {}
-        }
-        place += 1;
-        left = rest;
-    }
-    None
-}
-
-#[tactic(auto, unfolding(crate::specs::Configuration::twice_at))]
-fn twice_at<'a>(before: &[Spec], member: &'a Spec) -> Option<&'a Text>
-    ensures { option_map (λ x. x.now) result ≡ twice_at before.now member.now }
-{
-    if is_named(before, member.name.as_str()) {
-        Some(&member.name)
-    } else {
-        None
-    }
-}
-
-#[tactic(auto, unfolding(crate::specs::Configuration::twice_in))]
-fn twice_in<'a>(before: &[GroupSpec], group: &'a GroupSpec) -> Option<&'a Text>
-    ensures { option_map (λ x. x.now) result ≡ twice_in before.now group.now }
-{
-    if is_group(before, group.name.as_str()) {
-        return Some(&group.name);
-    }
-    first_twice(group.members.as_slice())
-}
-
 /// Nothing where each name stands once, else the first duplicate as a fault.
-#[tactic(auto, using(crate::proofs::Folds::taken_more, crate::proofs::Folds::dropped_more))]
-pub fn each_once(groups: &[GroupSpec]) -> Result<(), ConfFault>
+pub fn each_once(alloc: Global, groups: &[GroupSpec]) -> Result<(), ConfFault>
     ensures good { IfOk result (λ _. each_once [] groups.now ≡ Ok true) }
     ensures fault { IfErr result (λ fault. IsFault fault (each_once [] groups.now)) }
 {
-    let mut place = 0;
+    let mut names = HashSet::new(alloc);
+    let mut place: usize = 0;
     let mut left = groups;
     while let [group, rest @ ..] = left {
-        match twice_in(&groups[..place], group) {
-            Some(name) => return Err(ConfFault::TwiceNamed(name.clone()?)),
-            None => {}
+        let name = group.name.as_str();
+        if names.contains(name) {
+            return Err(ConfFault::TwiceNamed(group.name.clone()?));
         }
+        if let Some(name) = first_twice(alloc, group.members.as_slice())? {
+            return Err(ConfFault::TwiceNamed(name.clone()?));
+        }
+        add_name(alloc, &mut names, name)?;
         place += 1;
         left = rest;
     }

@@ -1,4 +1,4 @@
-//! Configurations of 1,048,576 bytes, and of one more, with ample memory.
+//! Configurations of 1,048,576 bytes, and of one more, and those with too many processes, with ample memory.
 
 use crate::tests::{fault_said, host, included, order_said};
 use std::alloc::Global;
@@ -29,13 +29,38 @@ const LINES: (&str, &str) = (
     "  line #abcdefghijklmnopqrstuvwxyzabcdefghijklmnopqrstuvwxy\n",
 );
 
+/// The same of texts with more processes than there may be, and how often the block stands: programs with 1,024 processes
+/// each, one such program in many groups, and programs with one process each.
+const CROWDS: [((&str, &str), u32); 3] = [
+    (
+        (
+            "",
+            "[program:#]\ncommand=c\nnumprocs=1024\nprocess_name=%(process_num)d\n",
+        ),
+        200,
+    ),
+    (
+        (
+            "[program:a]\ncommand=c\nnumprocs=1024\nprocess_name=%(process_num)d\n",
+            "[group:#]\nprograms=a\n",
+        ),
+        20_000,
+    ),
+    (("", "[program:#]\ncommand=c\n"), 20_000),
+];
+
 fn filled(rt: &impl Abort, alloc: Global, parts: (&str, &str)) -> String {
+    let text = repeated(rt, alloc, parts, 16_383);
+    assert_eq!(rt; text.as_str().len(), MOST);
+    text
+}
+
+fn repeated(rt: &impl Abort, alloc: Global, parts: (&str, &str), count: u32) -> String {
     let mut text = String::from_str(alloc, parts.0).expect(rt, "memory");
     let (before, after) = parts.1.split_once('#').unwrap_or(("", ""));
-    for number in 10_000..26_383u32 {
+    for number in 10_000..10_000 + count.min(90_000) {
         put_block(rt, &mut text, before, number, after);
     }
-    assert_eq!(rt; text.as_str().len(), MOST);
     text
 }
 
@@ -97,6 +122,18 @@ fn an_included_text_of_the_most_bytes_and_of_one_more(rt: HostRuntime) {
     is_said_included(&rt, rt.alloc(), text.as_str(), "p:p");
     text.push('\n').expect(&rt, "memory");
     is_said_included(&rt, rt.alloc(), text.as_str(), TOO_LONG);
+}
+
+#[test]
+fn crowds_are_refused(rt: HostRuntime) {
+    for (parts, count) in CROWDS {
+        is_too_many(&rt, rt.alloc(), parts, count);
+    }
+}
+
+fn is_too_many(rt: &impl Abort, alloc: Global, parts: (&str, &str), count: u32) {
+    let text = repeated(rt, alloc, parts, count);
+    is_said(rt, alloc, text.as_str(), &[], "9 TooMany");
 }
 
 #[test]

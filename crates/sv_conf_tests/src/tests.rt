@@ -292,7 +292,18 @@ k=v => 1 Ini 3 OutsideSection 1
 [group:g]~programs=q,q~[program:q]~command=q~@[eventlistener:p]~command=c~events=EVENT => 8 TwiceNamed q
 @numprocs=1024~process_name=%(process_num)d~[program:q]~command=q => 9 TooMany
 @numprocs=1024~process_name=%(process_num)d~[group:g]~programs=p~[group:h]~programs=p~[group:g2]~programs=p,p => 8 TwiceNamed 0
-@numprocs=513~process_name=%(process_num)d~[group:g]~programs=p~[group:h]~programs=p => 9 TooMany"#;
+@numprocs=513~process_name=%(process_num)d~[group:g]~programs=p~[group:h]~programs=p => 9 TooMany
+@numprocs=1024~process_name=%(process_num)d~stdout_logfile=/%(program_name)s~[program:q]~command=q => 9 TooMany
+@numprocs=1024~process_name=%(process_num)d~startsecs=%(process_num)d~[program:q]~command=q => 9 TooMany
+@numprocs=1024~process_name=%(group_name)s%(process_num)d~[group:g]~programs=p~[group:h]~programs=p => 9 TooMany
+&numprocs=1024~process_name=%(process_num)d~@ => 9 TooMany
+@numprocs=1024~process_name=%(process_num)d~startsecs=99999%(process_num)d~[program:q] => 3 BadValue program:p startsecs
+@numprocs=1024~process_name=/%(process_num)d~[program:q] => 3 BadValue program:p process_name
+@numprocs=1024~process_name=%(process_num)d~[program:q]~command=q~startsecs=x => 3 BadValue program:q startsecs
+@numprocs=1024~process_name=%(process_num)d~[program:q]~command=q~numprocs=2 => 5 NeedsNumber program:q
+@numprocs=1024~process_name=%(process_num)d~[program:q]~command=q~[supervisord]~loglevel=x => 3 BadValue supervisord loglevel
+@numprocs=1024~process_name=%(process_num)d~[program:q]~command=q~[group:g]~programs=q,x => 6 NoSuchProgram g x
+@numprocs=1024~process_name=%(process_num)d~[eventlistener:p]~command=c~events=EVENT => 8 TwiceNamed p"#;
 
 pub fn put(rt: &impl Abort, said: &mut String, text: &str) {
     said.push_str(text).expect(rt, "ample memory");

@@ -138,9 +138,9 @@ abbrev pub lacks_number : Keys → ℕ → Option (List ℕ) → Bool
 lacks_number pairs count None = true
 lacks_number pairs count (Some text) = is_expanded (expansion_of (with_count pairs count) text)
 
--- several processes want a number in their name
-unfoldable pub needs_number : Host → List ℕ → Keys → GroupSpec → Bool
-needs_number host program keys part =
-    nat_lt 1 (length part.members)
-    && lacks_number (program_pairs host program part.name) (length part.members)
+-- so many processes of a section in this group want a number in their name
+unfoldable pub needs_number : Host → List ℕ → Keys → List ℕ → ℕ → Bool
+needs_number host program keys group count =
+    nat_lt 1 count
+    && lacks_number (program_pairs host program group) count
     (value_of (key_name ProcessName) keys)

@@ -1,6 +1,6 @@
 -- The processes of all programs and listeners (step 5), or the first fault.
 use Rattle.std.specs.Prelude.{ℕ, suc, List, [], ◌∷◌, Bool, true, false}
-use Rattle.std.specs.Prelude.{Option, Some, None, Result, Ok, Err, map, codes}
+use Rattle.std.specs.Prelude.{Option, Some, None, Result, Ok, Err, map, codes, length}
 use Rattle.std.specs.List.{list_any}
 use Rattle.sv_base.specs.declared.config.Host.{Host}
 use Rattle.sv_base.specs.declared.spec.GroupSpec.{GroupSpec}
@@ -38,7 +38,8 @@ parts_from host common listener program keys done (home ∷ homes) =
 -- several processes of a section want a number in their name
 unfoldable pub need_numbers : Host → List ℕ → Keys → List Part → Bool
 need_numbers host program keys parts =
-    list_any (λ (p : Part). needs_number host program keys p.group) parts
+    list_any
+    (λ (p : Part). needs_number host program keys p.group.name (length p.group.members)) parts
 
 -- the fault where numbers are wanted
 abbrev pub numbered_by : Bool → List ℕ → List Part → Result (List Part) ConfFault

@@ -5,7 +5,7 @@ ghost use Rattle.sv_programs.specs.Homes.{named_by, named_in, all_named, homes_i
 ghost use Rattle.sv_programs.specs.Homes.{own_home, or_own, homes_of, with_part, with_parts};
 ghost use Rattle.sv_programs.specs.HomesByName.{AddsHome, AddsHomes, HasHomes};
 ghost use Rattle.std.specs.Option.{option_map};
-ghost use Rattle.std.specs.Prelude.{[], ◌∷◌};
+ghost use Rattle.std.specs.Prelude.{[], ◌∷◌, ℕ};
 ghost use Rattle.sv_keys.specs.KeyTable.{or_default};
 ghost use Rattle.sv_keys.specs.Rows.{needed};
 ghost use Rattle.sv_keys.specs.Values.{programs_of};
@@ -216,6 +216,15 @@ pub fn homes_of(
         return own_home(alloc, place, program);
     }
     copied(alloc, homes)
+}
+
+/// How many groups a program has, wherever its section stands.
+#[tactic(auto, unfolding(crate::specs::Homes::homes_of))]
+pub fn count_homes(program: &str, named: &NamedGroups) -> usize
+    ensures { (place : ℕ) → result ≡ length (homes_of place program.now named.now) }
+{
+    let homes = named.homes(program);
+    if homes.is_empty() { 1 } else { homes.len() }
 }
 
 fn copied(alloc: Global, homes: &[Home]) -> Result<Items<Home>, AllocError>

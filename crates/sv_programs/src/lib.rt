@@ -1,8 +1,8 @@
 //! The processes of the sections of programs and listeners, in the groups that they belong to.
 #![tactic(auto)]
 
-mod homes;
-mod processes;
+pub mod homes;
+pub mod processes;
 pub mod programs;
 
 pub use crate::programs::all_parts;

@@ -346,21 +346,22 @@ fn is_expanded(alloc: Global, text: &str, names: &Names) -> Result<bool, AllocEr
     }
 }
 
-/// Whether a section's processes in a group want a number in their name.
+/// Whether so many processes of a section in this group want a number in their name.
 #[tactic(auto, unfolding(crate::specs::Processes::needs_number))]
 pub fn needs_number(
     alloc: Global,
     host: &Host,
     program: &str,
     keys: &[(Text, Text)],
-    part: &GroupSpec,
+    group: &str,
+    count: usize,
 ) -> Result<bool, AllocError>
-    ensures { IfOk result (λ needs. needs ≡ needs_number host.now program.now keys.now part.now) }
+    ensures { IfOk result (λ needs.
+        needs ≡ needs_number host.now program.now keys.now group.now count) }
 {
-    let count = part.members.as_slice().len();
     if count <= 1 {
         return Ok(false);
     }
-    let pairs = names::program_pairs(alloc, host, program, part.name.as_str())?;
+    let pairs = names::program_pairs(alloc, host, program, group)?;
     lacks_number(alloc, pairs, count, text_of(keys, Key::ProcessName.name()))
 }

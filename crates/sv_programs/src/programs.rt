@@ -25,7 +25,8 @@ use sv_sections::fault::ConfFault;
 use sv_sections::section_faults::{check_name, must_have, section_fault};
 use sv_sections::server::Common;
 
-fn with_place(place: usize, part: Result<GroupSpec, KeyFault>) -> Result<Part, KeyFault>
+/// A part with the place of its group, or its fault.
+pub fn with_place(place: usize, part: Result<GroupSpec, KeyFault>) -> Result<Part, KeyFault>
     ensures { result ≡ with_place place part }
 {
     match part {
@@ -35,7 +36,7 @@ fn with_place(place: usize, part: Result<GroupSpec, KeyFault>) -> Result<Part, K
 }
 
 /// The processes of a section in a group, or their fault.
-fn part_in(
+pub fn part_in(
     alloc: Global,
     host: &Host,
     common: &Common,
@@ -137,7 +138,9 @@ fn need_numbers(
 {
     let mut left = parts;
     while let [part, rest @ ..] = left {
-        if needs_number(alloc, host, program, keys, &part.group)? {
+        let group = part.group.name.as_str();
+        let count = part.group.members.as_slice().len();
+        if needs_number(alloc, host, program, keys, group, count)? {
             return Ok(true);
         }
         left = rest;
@@ -226,7 +229,8 @@ pub fn all_parts(
     Ok(Items::from_vec(parts))
 }
 
-fn no_parts(alloc: Global, sections: &[Section]) -> Result<Vec<Items<GroupSpec>>, AllocError>
+/// No parts yet for each section.
+pub fn no_parts(alloc: Global, sections: &[Section]) -> Result<Vec<Items<GroupSpec>>, AllocError>
     ensures { IfOk result (λ parts. parts.items ≡ map no_parts sections.now) }
 {
     let mut parts = Vec::new(alloc);

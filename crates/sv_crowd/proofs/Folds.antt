@@ -1,5 +1,8 @@
 -- Folds over a list, one element further.
-use Rattle.std.proofs.Common.{◌≡◌, ◌+◌, ℕ, suc, zero, List, [], ◌∷◌, ◌++◌, take, drop, ap, add-one, sym}
+use Rattle.std.proofs.Common.{◌≡◌, ◌+◌, ℕ, suc, zero, List, [], ◌∷◌, ◌++◌, take, drop, ap, add-one, sym, refl}
+use Rattle.sv_crowd.specs.Crowds.{with_counted, with_counts}
+use Rattle.sv_crowd.specs.declared.counted.Counted.{Counted}
+use Rattle.sv_crowd.specs.declared.crowd.Crowd.{Crowd}
 
 taken_suc : {X : Type 0} (xs : List X) (place : ℕ) (x : X) (rest : List X) → drop place xs ≡ x ∷ rest → take (suc place) xs ≡ take place xs ++ x ∷ []
 taken_suc [] zero x rest e = cc
@@ -18,3 +21,7 @@ taken_more xs place x rest e = rw (add-one place) (taken_suc xs place x rest (sy
 
 pub dropped_more : {X : Type 0} (xs : List X) (place : ℕ) (x : X) (rest : List X) → x ∷ rest ≡ drop place xs → rest ≡ drop (place + 1) xs
 dropped_more xs place x rest e = rw (add-one place) (sym (dropped_suc xs place x rest (sym e)))
+
+pub counts_more : (crowd : Crowd) (counts : List Counted) (counted : Counted) → with_counts crowd (counts ++ counted ∷ []) ≡ with_counted (with_counts crowd counts) counted
+counts_more crowd [] counted = refl
+counts_more crowd (first ∷ counts) counted = counts_more (with_counted crowd first) counts counted

@@ -1,0 +1,10 @@
+pub mod CrowdFolds
+pub mod DraftsOnce
+pub mod Folds
+pub mod Keeping
+pub mod Lookups
+pub mod NamesOnce
+pub mod OneName
+pub mod Repeats
+pub mod Tells
+pub mod Unset

@@ -1,0 +1,5 @@
+pub mod Crowds
+pub mod Duplicates
+pub mod Emptied
+pub mod Once
+pub mod Promised
