@@ -4,6 +4,8 @@
 
 pub mod fault;
 pub mod includes;
+mod joined;
+mod keyed;
 pub mod section_faults;
 pub mod sections;
 pub mod server;

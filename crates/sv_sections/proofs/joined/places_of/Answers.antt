@@ -1,0 +1,25 @@
+use Rattle.std.proofs.Common.{◌≡◌, ◌∙◌, ◌-◌, ◌+◌, ℕ, List, cond, ap, sym, subst, arith, drop, take, length}
+use Rattle.std.specs.HashMap.{get_by_text}
+use Rattle.std.specs.List.{position}
+use Rattle.std.specs.Prelude.{Some}
+use Rattle.std.specs.Str.{bytes_eq}
+use Rattle.sv_ini.specs.declared.section.Section.{Section}
+use Rattle.sv_sections.proofs.Folds.{taken_more, dropped_more, parted, count_more, taken_count}
+use Rattle.sv_sections.proofs.Lookups.{one_more}
+use Rattle.sv_sections.specs.Lookups.{or_place}
+use Rattle.sv_sections.proofs.joined.places_of.Goals as goal
+
+pub loop-left-preserved : goal.loop-left-preserved
+loop-left-preserved c =
+    let left = c.loop-left.left.now in
+    let there = sym (parted left c.section-item.result c.in-len1-up.len_at_least c.section-item.is) ∙ c.loop-left.invariant.rest in
+    record {
+      has = λ q. subst (λ (xs : List (Section)). get_by_text c.add_place.new.places q ≡ position (λ (x : Section). bytes_eq x.name q) xs)
+          (sym (taken_more c.args.sections.now c.loop-left.place c.section-item.result _ there))
+          (one_more (λ (s : Section). s.name) (take c.loop-left.place c.args.sections.now) c.section-item.result c.loop-left.place (get_by_text c.loop-left.places) (get_by_text c.add_place.new.places)
+          (taken_count c.args.sections.now left c.loop-left.place c.loop-left.invariant.few) c.loop-left.invariant.has
+          (λ other. c.in_ok-add_place.ensures other
+          ∙ ap (λ (n : List ℕ). cond (bytes_eq n other) (Some (or_place (get_by_text c.loop-left.places n) c.loop-left.place)) (get_by_text c.loop-left.places other)) c.as_str.ensures) q);
+      rest = dropped_more c.args.sections.now c.loop-left.place c.section-item.result _ there;
+      few = count_more c.args.sections.now left c.loop-left.place c.in-len1-up.len_at_least c.loop-left.invariant.few;
+    }
