@@ -5,8 +5,7 @@ use Rattle.std.specs.List.{list_any}
 use Rattle.std.specs.Str.{bytes_eq}
 use Rattle.sv_base.specs.declared.spec.GroupSpec.{GroupSpec}
 use Rattle.sv_conf.specs.Configuration.{twice_in, each_once}
-use Rattle.sv_crowd.proofs.Folds.{taken_more}
-use Rattle.sv_crowd.proofs.Repeats.{parted}
+use Rattle.sv_sections.proofs.Folds.{parted, taken_more}
 use Rattle.sv_crowd.specs.Duplicates.{first_twice}
 use Rattle.sv_sections.specs.declared.fault.ConfFault.TheVariants.{TwiceNamed}
 

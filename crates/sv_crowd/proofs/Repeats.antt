@@ -1,37 +1,22 @@
 -- One element more, whose name isn't that of one before it.
-use Rattle.std.proofs.Common.{◌≡◌, ◌+◌, ◌-◌, ◌≤◌, ℕ, List, [], ◌∷◌, Bool, true, false, ◌||◌, take, drop, length, get_or, ap, sym, ◌∙◌, arith}
-use Rattle.std.proofs.Common.{take_all}
+use Rattle.std.proofs.Common.{◌≡◌, ◌+◌, ◌-◌, ◌≤◌, ℕ, List, [], ◌∷◌, Bool, true, false, ◌||◌, take, drop, length, get_or, ap, sym, ◌∙◌}
 use Rattle.std.specs.Prelude.{Some}
 use Rattle.std.specs.List.{list_any}
 use Rattle.std.specs.Str.{bytes_eq}
 use Rattle.sv_base.specs.declared.spec.Spec.{Spec}
-use Rattle.sv_crowd.proofs.Folds.{taken_more}
+use Rattle.sv_sections.proofs.Folds.{parted, taken_more}
 use Rattle.sv_crowd.proofs.NamesOnce.{any_last}
 use Rattle.sv_crowd.specs.Duplicates.{twice_at, first_twice}
 
-module _ {A : Type 0} where
-  -- a list that isn't empty is its first element and the others
-  pub parted : (left : List A) (item : A) → 1 ≤ length left → item ≡ get_or left 0 item → left ≡ item ∷ take (length left - 1) (drop 1 left)
-  parted [] item some read = absurd (omega (arith, some))
-  parted (x ∷ xs) item some read =
-      let less : length (x ∷ xs) - 1 ≡ length xs = omega arith in
-      rw (less, take_all (length xs) xs (omega arith)) (ap (λ y. y ∷ xs) (sym read))
-
-  -- what a set has after one name more
-  pub seen_more : (name : A → List ℕ) (all : List A) (place : ℕ) (item : A) (rest : List A) (was now : List ℕ → Bool) → item ∷ rest ≡ drop place all
-      → ((other : List ℕ) → was other ≡ list_any (λ (x : A). bytes_eq (name x) other) (take place all))
-      → ((other : List ℕ) → now other ≡ (bytes_eq (name item) other || was other))
-      → (other : List ℕ) → now other ≡ list_any (λ (x : A). bytes_eq (name x) other) (take (place + 1) all)
-  seen_more name all place item rest was now there seen adds other =
-      adds other ∙ ap (λ b. bytes_eq (name item) other || b) (seen other)
-      ∙ sym (any_last (λ (x : A). bytes_eq (name x) other) (take place all) item)
-      ∙ ap (λ xs. list_any (λ (x : A). bytes_eq (name x) other) xs) (sym (taken_more all place item rest there))
-
-  pub count_more : (all left : List A) (place : ℕ) → 1 ≤ length left → place + length left ≡ length all → place + 1 + length (take (length left - 1) (drop 1 left)) ≡ length all
-  count_more all [] place some same = absurd (omega (arith, some))
-  count_more all (x ∷ xs) place some same =
-      let less : length (x ∷ xs) - 1 ≡ length xs = omega arith in
-      rw (less, take_all (length xs) xs (omega arith)) (omega (arith, same))
+-- what a set has after one name more
+pub seen_more : {A : Type 0} (name : A → List ℕ) (all : List A) (place : ℕ) (item : A) (rest : List A) (was now : List ℕ → Bool) → item ∷ rest ≡ drop place all
+    → ((other : List ℕ) → was other ≡ list_any (λ (x : A). bytes_eq (name x) other) (take place all))
+    → ((other : List ℕ) → now other ≡ (bytes_eq (name item) other || was other))
+    → (other : List ℕ) → now other ≡ list_any (λ (x : A). bytes_eq (name x) other) (take (place + 1) all)
+seen_more {A} name all place item rest was now there seen adds other =
+    adds other ∙ ap (λ b. bytes_eq (name item) other || b) (seen other)
+    ∙ sym (any_last (λ (x : A). bytes_eq (name x) other) (take place all) item)
+    ∙ ap (λ xs. list_any (λ (x : A). bytes_eq (name x) other) xs) (sym (taken_more all place item rest there))
 
 pub found : (members left : List Spec) (place : ℕ) (member : Spec) → 1 ≤ length left → member ≡ get_or left 0 member
     → first_twice (take place members) left ≡ first_twice [] members → list_any (λ (other : Spec). bytes_eq other.name member.name) (take place members) ≡ true

@@ -43,7 +43,7 @@ fn twice_at<'a>(before: &[Spec], member: &'a Spec) -> Option<&'a Text>
 }
 
 /// The same by comparing each with those before it.
-#[tactic(auto, using(crate::proofs::Folds::taken_more, crate::proofs::Folds::dropped_more))]
+#[tactic(auto, using(sv_sections::proofs::Folds::taken_more, sv_sections::proofs::Folds::dropped_more))]
 fn first_of_few(members: &[Spec]) -> Option<&Text>
     ensures { option_map (λ x. x.now) result ≡ first_twice [] members.now }
 {

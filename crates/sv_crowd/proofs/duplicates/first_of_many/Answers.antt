@@ -2,8 +2,8 @@ use Rattle.std.proofs.Common.{◌∙◌, ◌||◌, ap, sym}
 use Rattle.std.specs.HashSet.{contains_text}
 use Rattle.std.specs.Str.{bytes_eq}
 use Rattle.sv_base.specs.declared.spec.Spec.{Spec}
-use Rattle.sv_crowd.proofs.Folds.{dropped_more}
-use Rattle.sv_crowd.proofs.Repeats.{parted, seen_more, count_more, found, goes_on}
+use Rattle.sv_crowd.proofs.Repeats.{seen_more, found, goes_on}
+use Rattle.sv_sections.proofs.Folds.{count_more, dropped_more, parted}
 use Rattle.sv_crowd.proofs.duplicates.first_of_many.Goals as goal
 
 pub returns-then-contains : goal.returns-then-contains
