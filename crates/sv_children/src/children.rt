@@ -1,5 +1,5 @@
 //! The children in start order, and what comes to the one of a place.
-ghost use Rattle.std.specs.Prelude.{◌≡◌, ℕ, IfOk, MatchOption, None, OnOk, Some, length, replicate};
+ghost use Rattle.std.specs.Prelude.{IsTrue, ◌≡◌, ℕ, IfOk, MatchOption, None, OnOk, Some, length, replicate};
 ghost use Rattle.sv_base.specs.declared.state.Mood.{Mood};
 ghost use Rattle.sv_child.specs.Moves.{new_child};
 ghost use Rattle.sv_children.specs.Awake.{IsNextAwake, NoneAwake, place_of};
@@ -163,6 +163,13 @@ impl Children {
         let next = self.watch.agenda.next(from, now);
         self.looks = self.looks.wrapping_add(next.looks as u64);
         place_of(next.child)
+    }
+
+    /// Whether no child has woken at this moment. It looks at no child.
+    pub fn all_sleep(&self, now: Moment) -> bool
+        ensures { IsTrue result → (to : ℕ) → NoneAwake now self.now 0 to }
+    {
+        self.watch.agenda.none_due(now)
     }
 
     /// How many children were looked at so far to find those that had woken, modulo 2^64.

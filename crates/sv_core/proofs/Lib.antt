@@ -3,6 +3,7 @@ mod LinkTests
 mod Logged
 mod Moved
 mod Named
+mod Resting
 mod Served
 mod Shown
 pub mod Standing

@@ -1,5 +1,5 @@
 -- Time passes by a child that hasn't woken, and nothing is handed out where no event waits.
-use Rattle.std.proofs.Common.{◌≡◌, ℕ, zero, suc, ◌+◌, ◌-◌, ◌<◌, ◌≤◌, true, false, Bool, ◌&&◌, ◌||◌, List, [], ◌∷◌, Option, Some, None, is_none, is_some, length, arith, ap, sym, ◌∙◌, refl, subst, append-nil}
+use Rattle.std.proofs.Common.{◌≡◌, ℕ, zero, suc, ◌+◌, ◌-◌, ◌≤◌, true, false, Bool, ◌&&◌, ◌||◌, List, [], ◌∷◌, Option, Some, None, is_none, is_some, length, arith, ap, sym, ◌∙◌, refl, subst, append-nil}
 use Rattle.std.specs.List.{flat_map, list_any}
 use Rattle.std.proofs.lemmas.Bool.{not-true}
 use Rattle.std.specs.Prelude.{MatchOption, map, nat_le, nat_lt, slice_get, slice_set}
@@ -128,7 +128,7 @@ none_sent (Some run) c w none =
       append-nil w.given,
     ) refl
 
-none_from : (n c : ℕ) (w : World) → some_wait w.pools ≡ false → hands_from n c w ≡ w
+pub none_from : (n c : ℕ) (w : World) → some_wait w.pools ≡ false → hands_from n c w ≡ w
 none_from zero c w none = refl
 none_from (suc n) c w none =
     ap (hands_from n (c + 1)) (none_sent (ready_of (slice_get w.children.all c) w.runs) c w none) ∙ none_from n (c + 1) w none

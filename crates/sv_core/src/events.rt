@@ -146,6 +146,9 @@ impl Machine {
         } }
         ensures ticked { OnOk result (Makes ticks self.old self.new) }
     {
+        if self.clock.moves_within(self.hand.moment) {
+            return Ok(());
+        }
         let due = self.clock.at(self.hand.moment);
         self.offer_tick(Kind::Tick5, due[0])?;
         self.offer_tick(Kind::Tick60, due[1])?;

@@ -1,12 +1,12 @@
 //! A turn: its nine steps in order, up to a question, and what followed its input.
-ghost use Rattle.std.specs.Prelude.{◌≡◌, ◌-◌, IsTrue, List, OnOk, Some};
+ghost use Rattle.std.specs.Prelude.{◌≡◌, ◌-◌, IsTrue, List, None, OnOk, Some};
 ghost use Rattle.sv_core.specs.Frames.{GoesOn, Makes};
 ghost use Rattle.sv_core.specs.Left.{serving_answered};
 ghost use Rattle.sv_core.specs.Failure.{refusal_of};
 ghost use Rattle.sv_core.specs.StandsFor.{At, Shows, is_sound, question_of, rest};
 ghost use Rattle.sv_core.specs.Turn.{turn, come, after_links, after_pass, after_stimulus, rewinds};
-ghost use Rattle.sv_core.specs.Turn.{world_of};
-ghost use Rattle.sv_core.specs.Sweeps.{sweeps};
+ghost use Rattle.sv_core.specs.Turn.{applies, passes, world_of};
+ghost use Rattle.sv_core.specs.Sweeps.{Turn, sweeps};
 ghost use Rattle.sv_core.specs.Moves.{answered};
 ghost use Rattle.sv_core.specs.World.{World};
 ghost use Rattle.sv_out.specs.declared.order.Order.{Order};
@@ -17,6 +17,7 @@ use crate::part::{Cause, Followed, Reply, refusal_of};
 use crate::place::{Paused, Serving, Suspended, question_of};
 use std::alloc::AllocError;
 use sv_base::moment::Moment;
+use sv_base::state::Mood;
 use sv_children::News;
 
 impl Machine {
@@ -30,6 +31,25 @@ impl Machine {
     {
         self.announce()?;
         self.rewind(at);
+        match cause {
+            Cause::Tick => {
+                self.after_stimulus()?;
+                Ok(())
+            }
+            cause => {
+                self.stimulate(cause)?;
+                Ok(())
+            }
+        }
+    }
+
+    /// Step 2, up to a question, and then the others.
+    fn stimulate(&mut self, cause: Cause) -> Result<(), AllocError>
+        requires { IsTrue (is_sound self.old.links cause) }
+        ensures kept { GoesOn self.old self.new }
+        ensures turn { OnOk result ((older : List Order) (w : World) → Shows self.old older w
+            → At self.new older (applies cause w after_stimulus) (rest self.new.hand.place)) }
+    {
         match self.apply(cause)? {
             Some(paused) => {
                 self.hand.place = Some(Suspended::Stimulus(paused));
@@ -49,6 +69,9 @@ impl Machine {
             → At self.new older (after_stimulus w) (rest self.new.hand.place)) }
     {
         self.tick()?;
+        if self.rests() {
+            return Ok(());
+        }
         let all = self.children.len();
         match self.sweep_over(News::Time, 0, all)? {
             Some(paused) => {
@@ -60,6 +83,22 @@ impl Machine {
                 Ok(())
             }
         }
+    }
+
+    /// Whether nothing is left to do in this turn, as far as that can be seen without looking at a child: no question stands,
+    /// the daemon doesn't end, no link is open, no event waits, and no child has woken.
+    fn rests(&self) -> bool
+        ensures place { IsTrue result → self.now.hand.place ≡ None }
+        ensures rests { IsTrue result → (older : List Order) (w : World) → Shows self.now older w
+            → passes w after_pass ≡ Turn.Done w }
+    {
+        if self.hand.place.is_some() || self.course.mood != Mood::Running {
+            return false;
+        }
+        if !self.links.are_idle() || self.pools.some_wait() {
+            return false;
+        }
+        self.children.all_sleep(self.hand.moment)
     }
 
     /// Step 5, the links, up to a question, and then the others.

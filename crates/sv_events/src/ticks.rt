@@ -1,5 +1,5 @@
 //! The ticks that clock moments give.
-ghost use Rattle.std.specs.Prelude.{◌≡◌, ◌≤◌, ◌<◌, ◌*◌, ◌/◌};
+ghost use Rattle.std.specs.Prelude.{◌≡◌, ◌≤◌, ◌<◌, ◌*◌, ◌/◌, IsTrue, None, false};
 ghost use Rattle.sv_events.specs.TickSlice.{slice_of, tick, ticks};
 
 use std::marker::Model;
@@ -25,6 +25,21 @@ impl Ticks {
         ensures { result ≡ now }
     {
         Ticks { last: now }
+    }
+
+    /// Moves the clock to this moment, if no period ticks then: whether it was moved. Longer periods tick only where the
+    /// shortest does.
+    pub fn moves_within(&mut self, now: Moment) -> bool
+        ensures none { IsTrue result → (tick 5 self.old now ≡ None)
+            × (tick 60 self.old now ≡ None) × (tick 3600 self.old now ≡ None) }
+        ensures moved { IsTrue result → self.new ≡ now }
+        ensures kept { result ≡ false → self.new ≡ self.old }
+    {
+        if tick(5, self.last, now).is_some() {
+            return false;
+        }
+        self.last = now;
+        true
     }
 
     /// The ticks of 5, 60 and 3,600 seconds, in this order: one comes where this moment lies in another slice of its

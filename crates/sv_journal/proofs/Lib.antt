@@ -34,4 +34,5 @@ pub mod SharpCodes
 pub mod SharpPiece
 pub mod SharpAbove
 pub mod SharpLines
+mod TickLines
 pub mod SharpOrders

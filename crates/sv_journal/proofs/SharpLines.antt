@@ -192,7 +192,7 @@ digit_head : (front : List ℕ) (b : ℕ) (more other : List ℕ) → begins_wit
 digit_head [] b more other = refl
 digit_head (c ∷ front) b more other = refl
 
-chosen_event : (bs : List ℕ) → begins_with_digit bs ≡ true → input_at bs ≡ event_at bs
+pub chosen_event : (bs : List ℕ) → begins_with_digit bs ≡ true → input_at bs ≡ event_at bs
 unfolding input_at
 chosen_event bs e = go (begins_with_digit bs) e
   where

@@ -1,6 +1,7 @@
 //! Reading an input line, part by part.
-ghost use Rattle.std.specs.Prelude.{◌≡◌, ◌≤◌};
+ghost use Rattle.std.specs.Prelude.{◌≡◌, ◌≤◌, IfSome, Ok};
 ghost use Rattle.sv_base.specs.Limits.{moment_limit};
+ghost use Rattle.sv_out.specs.declared.input.Input.{Input};
 ghost use Rattle.sv_journal.specs.Reading.{Gives, GivesAlways};
 ghost use Rattle.sv_journal.specs.ReadingLines.{how_at, exit_at, out_at, out_end_at, open_at};
 ghost use Rattle.sv_journal.specs.ReadingLines.{link_piece_at, link_end_at, event_of, event_at};
@@ -26,9 +27,22 @@ use sv_out::input::Input;
 pub fn input(alloc: Global, bytes: &[u8]) -> Result<Input, Stop>
     ensures { Gives (λ x. x) result (input_at bytes.now) }
 {
+    if let Some(at) = tick(bytes) {
+        return Ok(Input::Tick { at });
+    }
     match bytes {
         [first, ..] if first.is_ascii_digit() => event(alloc, bytes),
         _ => answer(alloc, bytes),
+    }
+}
+
+/// Reads the line of a clock moment, of which a journal has the most; none where it is another line.
+fn tick(bytes: &[u8]) -> Option<Moment>
+    ensures { IfSome result (λ at. input_at bytes.now ≡ Ok (Input.Tick at)) }
+{
+    match number(0, MOMENT_LIMIT, bytes) {
+        Ok((milliseconds, rest)) if rest == b" tick".as_slice() => Some(moment(milliseconds)),
+        _ => None,
     }
 }
 

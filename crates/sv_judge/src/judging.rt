@@ -1,6 +1,6 @@
 //! What is to be said of one line at its place.
 ghost use Rattle.std.specs.Prelude.{◌≡◌, ◌≢◌, ◌↔◌, ◌++◌, List, ℕ, [], IsTrue, IsSome, IfOk, IfSome};
-ghost use Rattle.std.specs.Prelude.{MatchOption, codes};
+ghost use Rattle.std.specs.Prelude.{MatchOption, Err, Ok, codes};
 ghost use Rattle.sv_base.specs.Roster.{is_roster};
 ghost use Rattle.sv_core.specs.MachineState.{Model};
 ghost use Rattle.sv_core.specs.StandsFor.{StandsFor};
@@ -10,12 +10,13 @@ ghost use Rattle.sv_judge.specs.JournalPlaces.{Stage, adds, heads, titles};
 ghost use Rattle.sv_judge.specs.ShortHeader.{group_of};
 ghost use Rattle.sv_judge.specs.JournalPlaces.Stage.{Fresh, Named, Running};
 ghost use Rattle.sv_judge.specs.JournalPlaces.Verdict.{Stands};
-ghost use Rattle.sv_judge.specs.Judging.{IsPlace, JudgedAs, JudgedHead};
-ghost use Rattle.sv_judge.specs.Judging.{IsRunning};
+ghost use Rattle.sv_judge.specs.Judging.{IsMachine, IsPlace, IsRunning, JudgedAs, JudgedHead};
+ghost use Rattle.sv_judge.specs.Judging.{JudgedNoted};
 
 use crate::long::{LongPlace, judge_long};
 use crate::short::{config_of, group_of, host_at};
 use std::alloc::{AllocError, Global};
+use std::mem;
 use sv_base::groups::Groups;
 use sv_base::moment::Moment;
 use sv_core::machine::Machine;
@@ -40,20 +41,9 @@ pub enum JournalProgress {
     Running(Box<Machine>),
 }
 
-impl JournalProgress {
-    /// Whether the machine runs.
-    pub fn is_running(&self) -> bool
-        ensures { IsTrue result ↔ IsRunning self.now }
-    {
-        matches!(self, JournalProgress::Running(_))
-    }
-}
-
-/// What is to be said of a line at its place.
-#[derive(Drop)]
-pub enum Judged {
-    /// It stands, leads to this place and gives these orders.
-    Stands(JournalProgress, Vec<Order>),
+/// Why a line doesn't stand at its place.
+#[derive(Debug, Drop)]
+pub enum Refused {
     /// It is outside the grammar of its place.
     BadLine,
     /// Its input isn't accepted.
@@ -64,80 +54,112 @@ pub enum Judged {
     NoMemory,
 }
 
-/// Judges the line at this place, where the machine takes the line's input.
-pub fn judge(alloc: Global, place: JournalProgress, line: &[u8]) -> Judged
-    ensures { (at : Stage) → IsPlace place at → JudgedAs result at line.now }
-{
-    match place {
-        JournalProgress::Running(machine) => judge_input(alloc, machine, line),
-        place => judge_header(alloc, place, line),
+impl JournalProgress {
+    /// Whether the machine runs.
+    pub fn is_running(&self) -> bool
+        ensures { IsTrue result ↔ IsRunning self.now }
+    {
+        matches!(self, JournalProgress::Running(_))
     }
-}
 
-/// Before `go` stand lines of the header alone.
-fn judge_header(alloc: Global, place: JournalProgress, line: &[u8]) -> Judged
-    requires { IsRunning place → ⊥ }
-    ensures { (at : Stage) → IsPlace place at → JudgedAs result at line.now }
-{
-    match read_header(alloc, line) {
-        Ok(header) => judge_head(alloc, place, header),
-        Err(LineFault::BadLine(_)) => Judged::BadLine,
-        Err(LineFault::OutOfMemory) => Judged::NoMemory,
+    /// Judges the line at this place, where the machine takes the line's input. It leads to the next place, and gives
+    /// these orders; after a line that is refused no other is to be judged.
+    pub fn judge(
+        &mut self,
+        alloc: Global,
+        line: &[u8],
+        orders: &mut Vec<Order>,
+    ) -> Result<(), Refused>
+        ensures { (at : Stage) → IsPlace self.old at
+            → JudgedAs result orders.new.items (IsPlace self.new) at line.now }
+    {
+        match self {
+            JournalProgress::Running(machine) => judge_input(alloc, machine, line, orders),
+            _ => {
+                orders.clear();
+                self.judge_header(alloc, line)
+            }
+        }
+    }
+
+    /// Before `go` stand lines of the header alone, which give no orders.
+    fn judge_header(&mut self, alloc: Global, line: &[u8]) -> Result<(), Refused>
+        requires { IsRunning self.old → ⊥ }
+        ensures { (at : Stage) → IsPlace self.old at
+            → JudgedAs result [] (IsPlace self.new) at line.now }
+    {
+        let place = mem::replace(self, JournalProgress::Fresh);
+        match read_header(alloc, line) {
+            Ok(header) => {
+                *self = judge_head(alloc, place, header)?;
+                Ok(())
+            }
+            Err(LineFault::BadLine(_)) => Err(Refused::BadLine),
+            Err(LineFault::OutOfMemory) => Err(Refused::NoMemory),
+        }
     }
 }
 
 #[tactic(auto, using(crate::proofs::Headers::no_header_behind_go))]
-fn judge_head(alloc: Global, place: JournalProgress, header: Header) -> Judged
+fn judge_head(
+    alloc: Global,
+    place: JournalProgress,
+    header: Header,
+) -> Result<JournalProgress, Refused>
     ensures { (at : Stage) → IsPlace place at → JudgedHead result (heads at header) }
 {
     match place {
         JournalProgress::Fresh => judge_first(alloc, &header),
         JournalProgress::Named(groups) => judge_short(alloc, groups, header),
         JournalProgress::Long(long) => judge_long(alloc, long, header),
-        JournalProgress::Running(_) => Judged::BadLine,
+        JournalProgress::Running(_) => Err(Refused::BadLine),
     }
 }
 
-fn judge_first(alloc: Global, header: &Header) -> Judged
+fn judge_first(alloc: Global, header: &Header) -> Result<JournalProgress, Refused>
     ensures judged { JudgedHead result (heads Fresh header.now) }
-    ensures memory { result ≢ Judged.NoMemory }
+    ensures memory { result ≢ Err Refused.NoMemory }
 {
     match header {
         Header::Journal(version) => judge_version(alloc, *version),
-        _ => Judged::BadLine,
+        _ => Err(Refused::BadLine),
     }
 }
 
 /// Version 0 has a short header, version 1 a long one.
-fn judge_version(alloc: Global, version: Version) -> Judged
+fn judge_version(alloc: Global, version: Version) -> Result<JournalProgress, Refused>
     ensures judged { JudgedHead result (titles version) }
-    ensures memory { result ≢ Judged.NoMemory }
+    ensures memory { result ≢ Err Refused.NoMemory }
 {
     match version.get() {
-        0 => Judged::Stands(JournalProgress::Named(Groups::none(alloc)), Vec::new(alloc)),
-        1 => Judged::Stands(JournalProgress::Long(LongPlace::Titled), Vec::new(alloc)),
-        _ => Judged::BadLine,
+        0 => Ok(JournalProgress::Named(Groups::none(alloc))),
+        1 => Ok(JournalProgress::Long(LongPlace::Titled)),
+        _ => Err(Refused::BadLine),
     }
 }
 
 /// A line of a short header after the title.
-fn judge_short(alloc: Global, groups: Groups, header: Header) -> Judged
+fn judge_short(alloc: Global, groups: Groups, header: Header) -> Result<JournalProgress, Refused>
     ensures { JudgedHead result (heads (Named groups) header) }
 {
     match header {
         Header::Program(program) => judge_program(alloc, groups, program),
         Header::Go(start) => judge_go(alloc, groups, start),
-        _ => Judged::BadLine,
+        _ => Err(Refused::BadLine),
     }
 }
 
-fn judge_program(alloc: Global, groups: Groups, program: Program) -> Judged
+fn judge_program(
+    alloc: Global,
+    groups: Groups,
+    program: Program,
+) -> Result<JournalProgress, Refused>
     ensures { JudgedHead result (adds (with_group (group_of program) groups)) }
 {
     match with_program(alloc, groups, program) {
-        Ok(Some(groups)) => Judged::Stands(JournalProgress::Named(groups), Vec::new(alloc)),
-        Ok(None) => Judged::BadLine,
-        Err(AllocError) => Judged::NoMemory,
+        Ok(Some(groups)) => Ok(JournalProgress::Named(groups)),
+        Ok(None) => Err(Refused::BadLine),
+        Err(AllocError) => Err(Refused::NoMemory),
     }
 }
 
@@ -158,11 +180,11 @@ fn with_program(
     Ok(Groups::new(groups))
 }
 
-fn judge_go(alloc: Global, groups: Groups, start: Moment) -> Judged
+fn judge_go(alloc: Global, groups: Groups, start: Moment) -> Result<JournalProgress, Refused>
     ensures { JudgedHead result (heads (Named groups) (Go start)) }
 {
     if groups.as_slice().is_empty() {
-        return Judged::BadLine;
+        return Err(Refused::BadLine);
     }
     match Machine::new(
         alloc,
@@ -171,27 +193,36 @@ fn judge_go(alloc: Global, groups: Groups, start: Moment) -> Judged
         &host_at(alloc, start),
     ) {
         Ok(machine) => running(alloc, machine),
-        Err(AllocError) => Judged::NoMemory,
+        Err(AllocError) => Err(Refused::NoMemory),
     }
 }
 
 /// The place of a machine that begins.
-pub(crate) fn running(alloc: Global, machine: Machine) -> Judged
+pub(crate) fn running(alloc: Global, machine: Machine) -> Result<JournalProgress, Refused>
     ensures { (m : Model) → StandsFor machine m → JudgedHead result (Stands (Running m) []) }
 {
     match Box::new(alloc, machine) {
-        Ok(machine) => Judged::Stands(JournalProgress::Running(machine), Vec::new(alloc)),
-        Err(_) => Judged::NoMemory,
+        Ok(machine) => Ok(JournalProgress::Running(machine)),
+        Err(_) => Err(Refused::NoMemory),
     }
 }
 
 /// After `go` stand inputs, and orders after a mark, which are passed over.
-fn judge_input(alloc: Global, machine: Box<Machine>, line: &[u8]) -> Judged
-    ensures { (m : Model) → StandsFor machine.value m → JudgedAs result (Running m) line.now }
+fn judge_input(
+    alloc: Global,
+    machine: &mut Machine,
+    line: &[u8],
+    orders: &mut Vec<Order>,
+) -> Result<(), Refused>
+    ensures { (m : Model) → StandsFor machine.old m
+        → JudgedAs result orders.new.items (IsMachine machine.new) (Running m) line.now }
 {
     match behind_mark(line) {
-        Some(order) => judge_noted(alloc, machine, order),
-        None => judge_said(alloc, machine, line),
+        Some(order) => {
+            orders.clear();
+            judge_noted(alloc, order)
+        }
+        None => judge_said(alloc, machine, line, orders),
     }
 }
 
@@ -206,38 +237,46 @@ fn behind_mark(line: &[u8]) -> Option<&[u8]>
     }
 }
 
-/// The order that stands after the mark was given by a daemon; this machine gives its own.
-fn judge_noted(alloc: Global, machine: Box<Machine>, order: &[u8]) -> Judged
-    ensures { (m : Model) → StandsFor machine.value m
-        → JudgedAs result (Running m) (codes "> " ++ order.now) }
+/// The order that stands after the mark was given by a daemon; the machine gives its own, and stays as it is.
+fn judge_noted(alloc: Global, order: &[u8]) -> Result<(), Refused>
+    ensures { (m : Model) → JudgedNoted result m (codes "> " ++ order.now) }
 {
     if order.len() > LINE_LIMIT - MARK_LENGTH {
-        return Judged::BadLine;
+        return Err(Refused::BadLine);
     }
     match read_order(alloc, order) {
-        Ok(_) => Judged::Stands(JournalProgress::Running(machine), Vec::new(alloc)),
-        Err(LineFault::BadLine(_)) => Judged::BadLine,
-        Err(LineFault::OutOfMemory) => Judged::NoMemory,
+        Ok(_) => {}
+        Err(LineFault::BadLine(_)) => return Err(Refused::BadLine),
+        Err(LineFault::OutOfMemory) => return Err(Refused::NoMemory),
     }
+    Ok(())
 }
 
 #[tactic(auto, using(crate::proofs::FoundLines::misplaced_said))]
-fn judge_said(alloc: Global, machine: Box<Machine>, line: &[u8]) -> Judged
+fn judge_said(
+    alloc: Global,
+    machine: &mut Machine,
+    line: &[u8],
+    orders: &mut Vec<Order>,
+) -> Result<(), Refused>
     requires { (rest : List ℕ) → line.now ≢ codes "> " ++ rest }
-    ensures { (m : Model) → StandsFor machine.value m → JudgedAs result (Running m) line.now }
+    ensures { (m : Model) → StandsFor machine.old m
+        → JudgedAs result orders.new.items (IsMachine machine.new) (Running m) line.now }
 {
-    let mut machine = machine;
     match read_input(alloc, line) {
         Ok(input) => {
             if !machine.accepts(&input) {
-                return Judged::NotAccepted;
+                return Err(Refused::NotAccepted);
             }
             match machine.step(alloc, input) {
-                Ok(orders) => Judged::Stands(JournalProgress::Running(machine), orders),
-                Err(AllocError) => Judged::NoMemory,
+                Ok(given) => {
+                    *orders = given;
+                    Ok(())
+                }
+                Err(AllocError) => Err(Refused::NoMemory),
             }
         }
-        Err(LineFault::BadLine(_)) => Judged::BadLine,
-        Err(LineFault::OutOfMemory) => Judged::NoMemory,
+        Err(LineFault::BadLine(_)) => Err(Refused::BadLine),
+        Err(LineFault::OutOfMemory) => Err(Refused::NoMemory),
     }
 }

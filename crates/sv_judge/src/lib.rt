@@ -7,7 +7,7 @@ mod long;
 mod short;
 mod sizes;
 
-pub use judging::{JournalProgress, Judged, judge};
+pub use judging::{JournalProgress, Refused};
 pub use long::LongPlace;
 pub use short::{config_of, group_of, host_at};
 pub use sizes::Sizes;

@@ -1,6 +1,6 @@
 //! The long header: its lines in their order, and the configuration that it holds.
 ghost use Rattle.std.specs.Prelude.{◌≡◌, ◌↔◌, ◌++◌, ◌∷◌, [], IsTrue, IsSome, IfOk, IfSome, OnErr};
-ghost use Rattle.std.specs.Prelude.{◌≢◌, length};
+ghost use Rattle.std.specs.Prelude.{◌≢◌, Err, length};
 ghost use Rattle.sv_conf.specs.Configuration.{configuration_of};
 ghost use Rattle.sv_files.specs.Sizes.{rise};
 ghost use Rattle.sv_journal.specs.declared.header.Header.{Header};
@@ -8,7 +8,7 @@ ghost use Rattle.sv_judge.specs.JournalPlaces.{begins, goes_on, long_heads, move
 ghost use Rattle.sv_judge.specs.Judging.{JudgedHead};
 ghost use Rattle.sv_judge.specs.LongHeader.{host_of, starting_at};
 
-use crate::judging::{JournalProgress, Judged};
+use crate::judging::{JournalProgress, Refused};
 use crate::sizes::{Sizes, is_behind};
 use std::alloc::{AllocError, Global};
 use sv_base::bytes::Bytes;
@@ -37,16 +37,20 @@ pub enum LongPlace {
 }
 
 /// The next line of a long header.
-pub(crate) fn judge_long(alloc: Global, place: LongPlace, header: Header) -> Judged
+pub(crate) fn judge_long(
+    alloc: Global,
+    place: LongPlace,
+    header: Header,
+) -> Result<JournalProgress, Refused>
     ensures { JudgedHead result (long_heads place header) }
 {
     match place {
-        LongPlace::Titled => moved(alloc, behind_title(header)),
-        LongPlace::Hosted(name) => moved(alloc, behind_host(name, header)),
-        LongPlace::Located(name, here) => moved(alloc, behind_here(alloc, name, here, header)),
+        LongPlace::Titled => moved(behind_title(header)),
+        LongPlace::Hosted(name) => moved(behind_host(name, header)),
+        LongPlace::Located(name, here) => moved(behind_here(alloc, name, here, header)),
         LongPlace::Described(host, sizes) => match behind_pid(alloc, host, sizes, header) {
-            Ok(next) => moved(alloc, next),
-            Err(AllocError) => Judged::NoMemory,
+            Ok(next) => moved(next),
+            Err(AllocError) => Err(Refused::NoMemory),
         },
         LongPlace::Configured(host, sizes, text, included) => {
             judge_configured(alloc, host, sizes, text, included, header)
@@ -55,13 +59,13 @@ pub(crate) fn judge_long(alloc: Global, place: LongPlace, header: Header) -> Jud
 }
 
 /// The header goes on at this place, or the line is out of place.
-fn moved(alloc: Global, next: Option<LongPlace>) -> Judged
+fn moved(next: Option<LongPlace>) -> Result<JournalProgress, Refused>
     ensures judged { JudgedHead result (moved next) }
-    ensures memory { result ≢ Judged.NoMemory }
+    ensures memory { result ≢ Err Refused.NoMemory }
 {
     match next {
-        Some(place) => Judged::Stands(JournalProgress::Long(place), Vec::new(alloc)),
-        None => Judged::BadLine,
+        Some(place) => Ok(JournalProgress::Long(place)),
+        None => Err(Refused::BadLine),
     }
 }
 
@@ -169,7 +173,7 @@ fn judge_configured(
     text: Bytes,
     included: Items<(Text, Bytes)>,
     header: Header,
-) -> Judged
+) -> Result<JournalProgress, Refused>
     ensures { JudgedHead result
         (long_heads (LongPlace.Configured host sizes text included) header) }
 {
@@ -177,11 +181,8 @@ fn judge_configured(
         Header::Include(name, more) => {
             let mut included = included;
             match included.push((name, more)) {
-                Ok(()) => moved(
-                    alloc,
-                    Some(LongPlace::Configured(host, sizes, text, included)),
-                ),
-                Err(AllocError) => Judged::NoMemory,
+                Ok(()) => moved(Some(LongPlace::Configured(host, sizes, text, included))),
+                Err(AllocError) => Err(Refused::NoMemory),
             }
         }
         Header::Go(start) => judge_start(
@@ -191,7 +192,7 @@ fn judge_configured(
             text.as_slice(),
             included.as_slice(),
         ),
-        _ => Judged::BadLine,
+        _ => Err(Refused::BadLine),
     }
 }
 
@@ -210,21 +211,26 @@ fn judge_start(
     sizes: Sizes,
     text: &[u8],
     included: &[(Text, Bytes)],
-) -> Judged
+) -> Result<JournalProgress, Refused>
     ensures { JudgedHead result (begins host sizes (configuration_of text.now included.now host)) }
 {
     match config(alloc, text, included, &host) {
         Ok(config) => begin(alloc, &host, sizes, config),
-        Err(ConfFault::OutOfMemory) => Judged::NoMemory,
-        Err(fault) => Judged::NotConfigured(fault),
+        Err(ConfFault::OutOfMemory) => Err(Refused::NoMemory),
+        Err(fault) => Err(Refused::NotConfigured(fault)),
     }
 }
 
-fn begin(alloc: Global, host: &Host, sizes: Sizes, config: Config) -> Judged
+fn begin(
+    alloc: Global,
+    host: &Host,
+    sizes: Sizes,
+    config: Config,
+) -> Result<JournalProgress, Refused>
     ensures { JudgedHead result (begins host.now sizes (Ok config)) }
 {
     match Machine::new(alloc, config, sizes.into_vec(), host) {
         Ok(machine) => crate::judging::running(alloc, machine),
-        Err(AllocError) => Judged::NoMemory,
+        Err(AllocError) => Err(Refused::NoMemory),
     }
 }

@@ -1,5 +1,5 @@
 -- The links of a map in rising number.
-use Rattle.std.proofs.Common.{arith, ◌≡◌, ◌≤◌, ◌<◌, ◌+◌, ◌-◌, ◌==◌, ℕ, zero, suc, List, [], ◌∷◌, ◌++◌, append-nil, append_assoc, Option, Some, None, is_some, Bool, true, false, if◌then◌else◌, refl, sym, ap, ◌∙◌, subst, slice_get}
+use Rattle.std.proofs.Common.{arith, ◌≡◌, ◌≤◌, ◌<◌, ◌+◌, ◌-◌, ◌==◌, ℕ, zero, suc, List, [], ◌∷◌, ◌++◌, append-nil, append_assoc, length, Option, Some, None, is_some, Bool, true, false, if◌then◌else◌, refl, sym, ap, ◌∙◌, subst, slice_get}
 use Rattle.std.proofs.lemmas.Bool.{false≢true, eqb-true, eqb-false}
 use Rattle.std.proofs.lemmas.Cmp.{ranked}
 use Rattle.std.specs.BTreeMap.{BTreeMap, IsOrdered, get, is_at}
@@ -198,6 +198,18 @@ pub all_numbered : (x : Links) (book : List LinkRecord) (links : List LinkId) �
     → StandsFor x book → links ≡ busy_links book
 all_numbered x book links all ordered s =
     sym (append-nil links) ∙ all ∙ picked_are any is_busy busy_told x.kept book ordered s.kept
+
+-- nothing is kept
+empty_of : (es : List (ℕ × KeptLink)) → length es ≡ 0 → es ≡ []
+empty_of [] e = refl
+empty_of (x ∷ xs) e = cc
+
+pub none_numbered : (x : Links) (book : List LinkRecord) → length x.kept.entries ≡ 0 → StandsFor x book → busy_links book ≡ []
+unfolding IsStrictlySortedBy
+none_numbered x book none s =
+    let empty = empty_of x.kept.entries none in
+    let ordered : IsOrdered nat_cmp x.kept = subst (λ (es : List (ℕ × KeptLink)). IsStrictlySortedBy nat_cmp (keys_of es)) (sym empty) tt in
+    sym (all_numbered x book [] (sym (ap numbers empty)) ordered s)
 
 pub numbers_more : (links : List LinkId) (e : ℕ × KeptLink) (es : List (ℕ × KeptLink))
     → (links ++ record { 0 = e.0 } ∷ []) ++ numbers es ≡ links ++ numbers (e ∷ es)

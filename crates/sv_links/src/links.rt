@@ -204,6 +204,14 @@ impl Links {
         }
     }
 
+    /// Whether no link is open or has a request in hand.
+    pub fn are_idle(&self) -> bool
+        ensures { (book : List LinkRecord) → StandsFor self.now book → IsTrue result
+            → busy_links book ≡ [] }
+    {
+        self.kept.is_empty()
+    }
+
     /// The links that are open or have a request in hand, in rising number.
     #[tactic(auto, using(crate::proofs::Listed::all_numbered, crate::proofs::Listed::numbers_more))]
     pub fn busy_links(&self, alloc: Global) -> Result<Vec<LinkId>, AllocError>

@@ -1,5 +1,5 @@
 -- The reader of a journal takes a part of a line, or a line, or stops at it.
-use Rattle.std.proofs.Common.{◌≡◌, ℕ, ◌+◌, List, [], ◌∷◌, ◌++◌, false, ◌==◌, ◌≤◌, ◌<◌, inl, inr, length, length-append, Option, refl, sym, ap, subst, ◌∙◌, append_assoc, append-nil, arith}
+use Rattle.std.proofs.Common.{◌≡◌, ℕ, ◌+◌, List, [], ◌∷◌, ◌++◌, false, ◌==◌, ◌≤◌, ◌<◌, inl, inr, Err, length, length-append, Option, refl, sym, ap, subst, ◌∙◌, append_assoc, append-nil, arith}
 use Rattle.std.proofs.KnownBytes.{Appends-nil, Appends-trans}
 use Rattle.std.specs.Io.KnownBytes.{Appends}
 use Rattle.sv_journal.specs.Limits.{line_limit}
@@ -7,9 +7,11 @@ use Rattle.sv_loop.proofs.Walks.{journal_text_more, order_text_append, all_fit_m
 use Rattle.sv_judge.specs.JournalPlaces.{Line, line_text, Stage, Verdict, journal_text, order_text, IsBadLine, IsNotAccepted, IsNotConfigured}
 use Rattle.sv_judge.specs.JournalPlaces.Stage.{Fresh}
 use Rattle.sv_judge.specs.JournalPlaces.Verdict.{NotConfigured as As_not_configured}
-use Rattle.sv_judge.specs.Judging.{LeadsTo}
+use Rattle.sv_judge.specs.Judging.{IsPlace, JudgedAs, LeadsTo}
+use Rattle.sv_judge.specs.declared.judging.Refused.{Refused}
+use Rattle.sv_judge.specs.declared.judging.Refused.TheVariants as refused_is
 use Rattle.std.proofs.lemmas.List.Folds.{list_any-append}
-use Rattle.sv_loop.specs.Reading.{Holds, has_feed, IsCut, IsRead, IsAt, GoesOn, AtFault, IsWhole, OutsideGrammar, UnacceptedLine, UnconfiguredLine, Anything, HalfWritten, StopsAt, Unwrote}
+use Rattle.sv_loop.specs.Reading.{Holds, has_feed, IsCut, IsRead, IsAt, GoesOn, AtFault, IsWhole, end_of, OutsideGrammar, UnacceptedLine, UnconfiguredLine, Anything, HalfWritten, StopsAt, Unwrote}
 use Rattle.sv_judge.specs.declared.judging.JournalProgress.{JournalProgress}
 use Rattle.sv_loop.specs.declared.run.End.{End}
 use Rattle.sv_loop.specs.declared.run.End.TheVariants.{BadLine, NotAccepted, NotConfigured, NoMemory, SinkFailed}
@@ -54,7 +56,7 @@ holds_line run lines at given bytes text is empty unbroken short = record {
 }
 
 pub stood : (count : ℕ) (later : Run) (lines : List Line) (at : Stage) (given : List Order) (bytes text : List ℕ) (place : JournalProgress) (orders : List Order)
-    (old new : Option (List ℕ)) → Holds count lines at given bytes text → LeadsTo at text place orders
+    (old new : Option (List ℕ)) → Holds count lines at given bytes text → LeadsTo at text (IsPlace place) orders
     → later.place ≡ place → later.lines ≡ count + 1 → later.line.items ≡ [] → Appends old new (order_text orders)
     → GoesOn later (bytes ++ 10 ∷ []) given old new
 stood count later lines at given bytes text place orders old new is leads placed counted empty wrote =
@@ -100,7 +102,7 @@ at_fault count later Cause lines at given bytes text rest old new is counted cau
 }
 
 unwritten : (count : ℕ) (lines : List Line) (at : Stage) (given : List Order) (bytes text : List ℕ) (place : JournalProgress) (orders : List Order)
-    (old new : Option (List ℕ)) → Holds count lines at given bytes text → LeadsTo at text place orders → AppendsFront old new (order_text orders)
+    (old new : Option (List ℕ)) → Holds count lines at given bytes text → LeadsTo at text (IsPlace place) orders → AppendsFront old new (order_text orders)
     → HalfWritten (bytes ++ 10 ∷ []) given old new
 unwritten count lines at given bytes text place orders old new is leads wrote =
     let line = leads.leads.line in
@@ -119,7 +121,7 @@ unwritten count lines at given bytes text place orders old new is leads wrote =
     }
 
 pub stopped_at_write : (end : End) (count : ℕ) (later : Run) (lines : List Line) (at : Stage) (given : List Order) (bytes text : List ℕ)
-    (place : JournalProgress) (orders : List Order) (old new : Option (List ℕ)) → Holds count lines at given bytes text → LeadsTo at text place orders
+    (place : JournalProgress) (orders : List Order) (old new : Option (List ℕ)) → Holds count lines at given bytes text → LeadsTo at text (IsPlace place) orders
     → later.lines ≡ count → Unwrote end (order_text orders) old new → StopsAt end later (bytes ++ 10 ∷ []) given old new
 stopped_at_write BadLine count later lines at given bytes text place orders old new is leads counted wrote = absurd wrote
 stopped_at_write NotAccepted count later lines at given bytes text place orders old new is leads counted wrote = absurd wrote
@@ -154,6 +156,27 @@ pub no_memory : (count : ℕ) (later : Run) (lines : List Line) (at : Stage) (gi
     → Holds count lines at given bytes text → later.lines ≡ count → AtFault later Anything (bytes ++ more) given same same
 no_memory count later lines at given bytes text more same is counted =
     at_fault count later Anything lines at given bytes text more same same is counted tt (Appends-nil same)
+
+-- a line that is refused
+pub stopped_refused : (why : Refused) (count : ℕ) (later : Run) (orders : List Order) (Is : Stage → Type 0) (lines : List Line) (at : Stage) (given : List Order)
+    (bytes text : List ℕ) (same : Option (List ℕ)) → Holds count lines at given bytes text → later.lines ≡ count → JudgedAs (Err why) orders Is at text
+    → StopsAt (end_of why) later (bytes ++ 10 ∷ []) given same same
+stopped_refused refused_is.BadLine count later orders Is lines at given bytes text same is counted judged =
+    misplaced count later lines at given bytes text same is counted judged
+stopped_refused refused_is.NotAccepted count later orders Is lines at given bytes text same is counted judged =
+    refused count later lines at given bytes text same is counted judged
+stopped_refused (refused_is.NotConfigured fault) count later orders Is lines at given bytes text same is counted judged =
+    unconfigured count later (As_not_configured fault) lines at given bytes text same is counted judged
+stopped_refused refused_is.NoMemory count later orders Is lines at given bytes text same is counted judged =
+    no_memory count later lines at given bytes text (10 ∷ []) same is counted
+
+-- the same of one that lies whole in the piece
+pub refused_in_piece : (why : Refused) (run later : Run) (orders : List Order) (Is : Stage → Type 0) (lines : List Line) (at : Stage) (given : List Order)
+    (bytes text : List ℕ) (same : Option (List ℕ)) → IsAt run lines at given bytes → run.line.items ≡ [] → has_feed text ≡ false → length text ≤ line_limit
+    → later.lines ≡ run.lines → JudgedAs (Err why) orders Is at text → StopsAt (end_of why) later (bytes ++ (text ++ 10 ∷ [])) given same same
+refused_in_piece why run later orders Is lines at given bytes text same is empty unbroken short counted judged =
+    subst (λ (b : List ℕ). StopsAt (end_of why) later b given same same) (append_assoc bytes text (10 ∷ []))
+    (stopped_refused why run.lines later orders Is lines at given (bytes ++ text) text same (holds_line run lines at given bytes text is empty unbroken short) counted judged)
 
 no_feed : (text more : List ℕ) → has_feed text ≡ false → has_feed more ≡ false → has_feed (text ++ more) ≡ false
 no_feed text more none others = list_any-append (λ (b : ℕ). b == 10) text more ∙ rw (none, others) refl

@@ -12,6 +12,8 @@ use Rattle.sv_judge.specs.JournalPlaces.Stage.{Fresh}
 use Rattle.sv_judge.specs.JournalPlaces.Verdict.{NotConfigured as As_not_configured}
 use Rattle.sv_judge.specs.JournalPlaces.Walked.{Reaches}
 use Rattle.sv_judge.specs.Judging.{IsPlace}
+use Rattle.sv_judge.specs.declared.judging.Refused.{Refused}
+use Rattle.sv_judge.specs.declared.judging.Refused.TheVariants as refused_is
 use Rattle.sv_loop.specs.declared.run.End.{End}
 use Rattle.sv_loop.specs.declared.run.End.TheVariants.{BadLine, NotAccepted, NotConfigured}
 use Rattle.sv_loop.specs.declared.run.End.TheVariants.{NoMemory, SinkFailed}
@@ -105,6 +107,13 @@ pub record HalfWritten (bytes : List ℕ) (earlier : List Order) (old new : Opti
     pub rest : List ℕ
     pub read : IsRead bytes (earlier ++ more) lines at [] rest
     pub wrote : AppendsFront old new (order_text more)
+
+-- a line that is refused stops the reading
+abbrev pub end_of : Refused → End
+end_of refused_is.BadLine = BadLine
+end_of refused_is.NotAccepted = NotAccepted
+end_of (refused_is.NotConfigured fault) = NotConfigured fault
+end_of refused_is.NoMemory = NoMemory
 
 -- why the reading stopped at a line
 abbrev pub StopsAt : End → Run → List ℕ → List Order → Option (List ℕ) → Option (List ℕ) → Type 0

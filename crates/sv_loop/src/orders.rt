@@ -24,6 +24,9 @@ pub(crate) fn write_orders<K: Sink>(
     ensures later { K.faults sink.old ≤ K.faults sink.new }
     ensures failed { result ≡ Err End.SinkFailed → Rose (K.faults sink.old) (K.faults sink.new) }
 {
+    if orders.is_empty() {
+        return Ok(());
+    }
     let Ok(text) = text_of(alloc, orders) else {
         return Err(End::NoMemory);
     };

@@ -3,8 +3,8 @@ ghost use Rattle.std.specs.Prelude.{◌≡◌, ◌↔◌, IsTrue, ◌≤◌, ◌
 ghost use Rattle.std.specs.Prelude.{OnOk, IfErr, Err, Option, false, ◌≢◌, length};
 ghost use Rattle.sv_judge.specs.JournalPlaces.{Line, Stage};
 ghost use Rattle.sv_judge.specs.JournalPlaces.Stage.{Fresh};
-ghost use Rattle.sv_judge.specs.Judging.{JudgedAs};
-ghost use Rattle.sv_loop.specs.Reading.{Holds, has_feed};
+ghost use Rattle.sv_judge.specs.Judging.{IsPlace, LeadsTo};
+ghost use Rattle.sv_loop.specs.Reading.{Holds, end_of, has_feed};
 ghost use Rattle.sv_judge.specs.Judging.{IsRunning};
 ghost use Rattle.sv_out.specs.Faults.{Rose};
 ghost use Rattle.sv_out.specs.declared.order.Order.{Order};
@@ -12,9 +12,9 @@ ghost use Rattle.sv_out.specs.declared.order.Order.{Order};
 use crate::cutting::cut;
 use crate::orders::write_orders;
 use std::alloc::Global;
-use std::mem;
 use sv_journal::read::LINE_LIMIT;
-use sv_judge::{JournalProgress, Judged, judge};
+use sv_judge::{JournalProgress, Refused};
+use sv_out::order::Order;
 use sv_out::sink::Sink;
 use sv_sections::fault::ConfFault;
 
@@ -33,12 +33,14 @@ pub enum End {
     SinkFailed,
 }
 
-/// A journal that is read: the place of the line in hand, how many lines stand before it, and what has come of it.
+/// A journal that is read: the place of the line in hand, how many lines stand before it, and what has come of it; and the
+/// orders of the line before it, which were written.
 #[derive(Drop)]
 pub struct Run {
     pub(crate) place: JournalProgress,
     pub(crate) lines: u64,
     pub(crate) line: Vec<u8>,
+    pub(crate) orders: Vec<Order>,
 }
 
 impl Run {
@@ -53,6 +55,7 @@ impl Run {
             place: JournalProgress::Fresh,
             lines: 0,
             line: Vec::new(alloc),
+            orders: Vec::new(alloc),
         }
     }
 
@@ -166,9 +169,10 @@ impl Run {
         if line.len() > LINE_LIMIT {
             return Err(End::BadLine);
         }
-        let place = mem::replace(&mut self.place, JournalProgress::Fresh);
-        let judged = judge(alloc, place, line);
-        self.go_on(alloc, judged, sink)
+        match self.place.judge(alloc, line, &mut self.orders) {
+            Ok(()) => self.go_on(alloc, sink),
+            Err(refused) => Err(end_of(refused)),
+        }
     }
 
     /// The line that is held is whole, and is judged.
@@ -188,13 +192,17 @@ impl Run {
             StopsAt end self.new (bytes ++ 10 ∷ []) given (K.written sink.old)
             (K.written sink.new)) }
     {
-        let place = mem::replace(&mut self.place, JournalProgress::Fresh);
-        let judged = judge(alloc, place, self.line.as_slice());
-        self.go_on(alloc, judged, sink)
+        match self
+            .place
+            .judge(alloc, self.line.as_slice(), &mut self.orders)
+        {
+            Ok(()) => self.go_on(alloc, sink),
+            Err(refused) => Err(end_of(refused)),
+        }
     }
 
-    /// What was said of the line in hand: its orders are written, and the next line begins.
-    fn go_on<K: Sink>(&mut self, alloc: Global, judged: Judged, sink: &mut K) -> Result<(), End>
+    /// The line in hand has led to this place: its orders are written, and the next line begins.
+    fn go_on<K: Sink>(&mut self, alloc: Global, sink: &mut K) -> Result<(), End>
         requires { self.old.lines < 2 ^ 32 }
         ensures few { self.new.lines ≤ self.old.lines + 1 }
         ensures later { K.faults sink.old ≤ K.faults sink.new }
@@ -202,30 +210,32 @@ impl Run {
             → Rose (K.faults sink.old) (K.faults sink.new) }
         ensures goes_on { OnOk result ((lines : List Line) (at : Stage) (given : List Order)
             (bytes text : List ℕ) →
-            Holds self.old.lines lines at given bytes text → JudgedAs judged at text →
+            Holds self.old.lines lines at given bytes text →
+            LeadsTo at text (IsPlace self.old.place) self.old.orders.items →
             GoesOn self.new (bytes ++ 10 ∷ []) given (K.written sink.old) (K.written sink.new)) }
         ensures stops { IfErr result (λ end. (lines : List Line) (at : Stage) (given : List Order)
             (bytes text : List ℕ) →
-            Holds self.old.lines lines at given bytes text → JudgedAs judged at text →
+            Holds self.old.lines lines at given bytes text →
+            LeadsTo at text (IsPlace self.old.place) self.old.orders.items →
             StopsAt end self.new (bytes ++ 10 ∷ []) given (K.written sink.old)
             (K.written sink.new)) }
     {
-        match judged {
-            Judged::Stands(place, orders) => {
-                match write_orders(alloc, orders.as_slice(), sink) {
-                    Ok(()) => {
-                        self.place = place;
-                        self.lines += 1;
-                        self.line.clear();
-                        Ok(())
-                    }
-                    Err(end) => Err(end),
-                }
-            }
-            Judged::BadLine => Err(End::BadLine),
-            Judged::NotAccepted => Err(End::NotAccepted),
-            Judged::NotConfigured(fault) => Err(End::NotConfigured(fault)),
-            Judged::NoMemory => Err(End::NoMemory),
-        }
+        write_orders(alloc, self.orders.as_slice(), sink)?;
+        self.lines += 1;
+        self.line.clear();
+        Ok(())
+    }
+}
+
+/// Why the reading stops at a line that is refused.
+fn end_of(refused: Refused) -> End
+    ensures end { result ≡ end_of refused }
+    ensures written { result ≢ End.SinkFailed }
+{
+    match refused {
+        Refused::BadLine => End::BadLine,
+        Refused::NotAccepted => End::NotAccepted,
+        Refused::NotConfigured(fault) => End::NotConfigured(fault),
+        Refused::NoMemory => End::NoMemory,
     }
 }

@@ -5,7 +5,8 @@ use Rattle.std.proofs.lemmas.Bool.{and_parts, eqb-true, le-leb, lt-leb, leb-true
 use Rattle.std.proofs.lemmas.List.{length-set}
 use Rattle.std.proofs.lemmas.Option.{same_Some}
 use Rattle.sv_base.specs.declared.ids.ChildId.{ChildId}
-use Rattle.sv_timers.specs.Deadlines.{due_from, is_due}
+use Rattle.sv_timers.proofs.DueLaws.{none_due_by}
+use Rattle.sv_timers.specs.Deadlines.{due_from, earliest_of, is_due}
 use Rattle.sv_timers.specs.Looks.{LooksAt, looked_of, looks_of, room_of}
 use Rattle.sv_timers.specs.NextDue.{IsFirst, IsList, IsRest, next_due, next_in, rest_past, tells}
 use Rattle.sv_timers.specs.declared.list.DueList.{DueList}
@@ -177,3 +178,8 @@ told_list list from now place child e first at deadlines is =
           first.left later (omega (arith, order, number))
           ∙ told_by list.rest from now (drop list.told (looked_of list.looked)) deadlines e is.rest later (omega (arith, order, number, first.past));
     }
+
+-- where the earliest isn't due, nobody is next
+pub none_next : (from now : ℕ) (deadlines : List (Option ℕ)) (earliest : Option ℕ) (due : Bool) → earliest ≡ earliest_of deadlines → due ≡ is_due earliest now
+    → due ≡ false → next_due from now deadlines ≡ None
+none_next from now deadlines earliest due is told none = ap (next_in from) (none_due_by 0 now deadlines earliest due is told none)

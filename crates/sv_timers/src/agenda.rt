@@ -1,10 +1,11 @@
 //! The due in start order, one at a time, while their deadlines change.
-ghost use Rattle.std.specs.Prelude.{◌≡◌, ◌<◌, ◌≤◌, None, IfOk, length, replicate, slice_set};
+ghost use Rattle.std.specs.Prelude.{◌≡◌, ◌<◌, ◌≤◌, None, IfOk, IsTrue, length, replicate, slice_set};
 ghost use Rattle.sv_timers.specs.Deadlines.{due_from};
 ghost use Rattle.sv_timers.specs.NextDue.{next_due};
 
 use crate::due::Due;
 use crate::list::DueList;
+use crate::tree::is_due;
 use std::alloc::{AllocError, Global};
 use std::marker::Model;
 use sv_base::{ChildId, Deadline, Moment};
@@ -55,6 +56,13 @@ impl Agenda {
     {
         self.list.change(place);
         self.due.put(place, deadline);
+    }
+
+    /// Whether nobody is due, which the earliest deadline tells. It looks at no child.
+    pub fn none_due(&self, now: Moment) -> bool
+        ensures { IsTrue result → next_due 0 now self.now ≡ None }
+    {
+        !is_due(self.due.earliest(), now)
     }
 
     /// The first child from this place on that is due. It takes no memory.

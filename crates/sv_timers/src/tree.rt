@@ -118,7 +118,7 @@ fn earlier(one: Option<Deadline>, other: Option<Deadline>) -> Option<Deadline>
 }
 
 /// Whether this deadline is there and has come.
-fn is_due(deadline: Option<Deadline>, now: Moment) -> bool
+pub(crate) fn is_due(deadline: Option<Deadline>, now: Moment) -> bool
     ensures { result ≡ is_due deadline now }
 {
     match deadline {

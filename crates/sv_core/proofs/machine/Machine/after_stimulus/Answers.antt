@@ -1,9 +1,15 @@
 use Rattle.sv_children.specs.declared.news.News.TheVariants.{Time}
+use Rattle.sv_core.proofs.Resting.{rested}
 use Rattle.sv_core.proofs.Shown.{at_same}
 use Rattle.sv_core.proofs.Standing.{gone_on, left_in_pass}
 use Rattle.sv_core.proofs.Sweeps.{all_swept}
 use Rattle.sv_core.specs.Turn.{after_pass}
 use Rattle.sv_core.proofs.machine.Machine.after_stimulus.Goals as goal
+
+pub returns-then-rests-clause-rest : goal.returns-then-rests-clause-rest
+returns-then-rests-clause-rest c = λ older w s.
+    let now = c.in_ok-tick.ensures.ticked older w s in
+    rested c.tick.new.self older _ (c.rests.ensures.place c.if-rests.true) (c.rests.ensures.rests c.if-rests.true older _ now) now
 
 pub returns-in-Some-clause-rest : goal.returns-in-Some-clause-rest
 returns-in-Some-clause-rest c = λ older w s.

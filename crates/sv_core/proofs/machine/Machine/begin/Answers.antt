@@ -1,19 +1,20 @@
-use Rattle.sv_core.proofs.Standing.{gone_on, left_in_stimulus, turn_begun}
+use Rattle.std.proofs.Common.{ap, ◌∙◌}
 use Rattle.sv_core.proofs.Shown.{at_same}
-use Rattle.sv_core.specs.Turn.{after_stimulus}
+use Rattle.sv_core.proofs.Standing.{turn_begun}
+use Rattle.sv_core.specs.Events.{announces}
+use Rattle.sv_core.specs.Turn.{after_stimulus, applies, rewinds}
+use Rattle.sv_core.specs.declared.part.Cause.{Cause}
 use Rattle.sv_core.proofs.machine.Machine.begin.Goals as goal
 
-pub returns-in-Some-clause-turn : goal.returns-in-Some-clause-turn
-returns-in-Some-clause-turn c = λ older w s.
+pub returns-in_ok-after_stimulus-in-Tick-clause-turn : goal.returns-in_ok-after_stimulus-in-Tick-clause-turn
+returns-in_ok-after_stimulus-in-Tick-clause-turn c = λ older w s.
     let now = c.rewind.ensures.rewound older _ (c.in_ok-announce.ensures.announced older w s) in
-    at_same _ older _ _ _ (turn_begun c.args.cause c.args.at c.args.self.now.hand.place w)
-    (left_in_stimulus c.apply.new.self older _ c.in_ok-paused.field-0 c.in-Some.paused c.in-Some.is
-    (c.in_ok-paused.ensures.applies older _ after_stimulus now))
+    at_same _ older _ _ _ (turn_begun c.args.cause c.args.at c.args.self.now.hand.place w
+    ∙ ap (λ (cause : Cause). applies cause (rewinds c.args.at (announces w)) after_stimulus) c.in-Tick.is)
+    (c.in_ok-after_stimulus-in-Tick.ensures.rest older _ now)
 
-pub returns-in_ok-after_stimulus-in-None-clause-turn : goal.returns-in_ok-after_stimulus-in-None-clause-turn
-returns-in_ok-after_stimulus-in-None-clause-turn c = λ older w s.
+pub returns-in_ok-stimulate-in_default-clause-turn : goal.returns-in_ok-stimulate-in_default-clause-turn
+returns-in_ok-stimulate-in_default-clause-turn c = λ older w s.
     let now = c.rewind.ensures.rewound older _ (c.in_ok-announce.ensures.announced older w s) in
-    let at = c.in_ok-paused.ensures.applies older _ after_stimulus now in
     at_same _ older _ _ _ (turn_begun c.args.cause c.args.at c.args.self.now.hand.place w)
-    (gone_on c.apply.new.self c.after_stimulus.new.self older _ c.in_ok-paused.field-0 after_stimulus _ c.in-None.is at
-    (c.in_ok-after_stimulus-in-None.ensures.rest older at.world at.shows))
+    (c.in_ok-stimulate-in_default.ensures.turn older _ now)

@@ -1,4 +1,4 @@
-use Rattle.std.proofs.Common.{arith, rules}
+use Rattle.std.proofs.Common.{rules}
 use Rattle.sv_core.proofs.Sweeps.{sweep_met, sweep_over_rest, sweep_stopped, sweep_went_on}
 use Rattle.sv_core.proofs.machine.Machine.sweep.Goals as goal
 
