@@ -17,6 +17,7 @@ use sv_lines::line_at;
 
 impl Machine {
     /// Offers an event of this type to each pool; what they drop for it is reported.
+    #[inline(never)]
     pub(crate) fn offer(&mut self, kind: Kind, fact: &Fact) -> Result<(), AllocError>
         ensures kept { GivesOrders self.old self.new }
         ensures offers { OnOk result (Makes (offers kind fact.now) self.old self.new) }
@@ -42,6 +43,7 @@ impl Machine {
     }
 
     /// The daemon says that it runs, or is about to stop.
+    #[inline(never)]
     pub(crate) fn offer_change(&mut self, kind: Kind) -> Result<(), AllocError>
         ensures kept { GivesOrders self.old self.new }
         ensures offers { OnOk result (Makes (offers_change kind) self.old self.new) }
@@ -51,6 +53,7 @@ impl Machine {
     }
 
     /// A period's clock ticks, if it comes to another slice.
+    #[inline(never)]
     fn offer_tick(&mut self, kind: Kind, when: Option<u64>) -> Result<(), AllocError>
         ensures kept { GivesOrders self.old self.new }
         ensures offers { OnOk result (Makes (offers_tick kind when) self.old self.new) }

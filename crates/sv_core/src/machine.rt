@@ -1,17 +1,19 @@
 //! The machine: what it keeps, which inputs it accepts, and the one call that takes an input.
-ghost use Rattle.std.specs.Prelude.{◌≡◌, [], IsTrue, false, ◌&&◌, is_some, IfOk, OnOk, OnErr};
+ghost use Rattle.std.specs.Prelude.{◌≡◌, ℕ, [], IsTrue, false, ◌&&◌, is_some, IfOk, OnOk, OnErr};
 ghost use Rattle.sv_links.specs.StandsFor.{follows, has_opened, may_bring};
+ghost use Rattle.sv_out.specs.declared.input.Input.{Input};
 
 use crate::course::Course;
 use crate::hand::Hand;
 use crate::numbers::Numbers;
 use crate::openings::server_of;
-use crate::part::{Followed, Part, Question, fits, part_of};
+use crate::part::{Cause, Followed, Part, Question, fits, part_of};
 use crate::place::question_of;
 use std::alloc::{AllocError, Global};
 use std::mem;
 use sv_base::config::{Config, Host};
 use sv_base::ids::{LinkId, Run};
+use sv_base::moment::Moment;
 use sv_base::state::{Mood, Side};
 use sv_base::text::Text;
 use sv_calls::Calls;
@@ -151,6 +153,35 @@ impl Machine {
         }
     }
 
+    /// Whether a clock moment may come, at whatever time.
+    pub fn accepts_tick(&self) -> bool
+        ensures accepts { (m : Model) (at : ℕ) → StandsFor self.now m
+            → result ≡ accepts m (Input.Tick at) }
+        ensures fits { (at : ℕ) → result ≡ is_fitting self.now (Input.Tick at) }
+    {
+        self.fits_tick()
+    }
+
+    /// Takes a clock moment, which the machine accepts, as `step` does. Its orders stand then in the place of those that are
+    /// given. Out of memory, the machine is broken from then on.
+    pub fn tick_at(&mut self, at: Moment, given: &mut Vec<Order>) -> Result<(), AllocError>
+        requires { IsTrue (is_fitting self.old (Input.Tick at)) }
+        ensures next { OnOk result ((m : Model) → StandsFor self.old m
+            → StandsFor self.new (next m (Input.Tick at))) }
+        ensures orders { OnOk result ((m : Model) → StandsFor self.old m
+            → given.new.items ≡ orders m (Input.Tick at)) }
+        ensures broken { OnErr result (IsTrue (is_broken self.new)) }
+    {
+        given.clear();
+        match self.take_tick(at, given) {
+            Ok(()) => Ok(()),
+            Err(error) => {
+                self.broken = true;
+                Err(error)
+            }
+        }
+    }
+
     /// Whether a question stands. For a broken machine none does.
     pub fn awaits(&self) -> bool
         ensures awaits { (m : Model) → StandsFor self.now m → result ≡ is_asking (hand m) }
@@ -217,6 +248,12 @@ impl Machine {
             }
     }
 
+    fn fits_tick(&self) -> bool
+        ensures { (at : ℕ) → result ≡ is_fitting self.now (Input.Tick at) }
+    {
+        !self.broken && !self.course.halted && question_of(&self.hand.place).is_none()
+    }
+
     /// Whether a link is opened by this number at this side.
     fn may_open(&self, link: LinkId, side: Side) -> bool
         ensures { result ≡ (follows self.now.links link
@@ -247,7 +284,18 @@ impl Machine {
         Ok(mem::replace(&mut self.hand.given, Vec::new(alloc)))
     }
 
+    fn take_tick(&mut self, at: Moment, given: &mut Vec<Order>) -> Result<(), AllocError>
+        requires { given.old.items ≡ [] }
+        ensures { OnOk result (Takes self.old (Input.Tick at) given.new.items self.new) }
+    {
+        self.hear(Part::Begins(at, Cause::Tick))?;
+        self.numbers.note(self.hand.given.as_slice())?;
+        mem::swap(given, &mut self.hand.given);
+        Ok(())
+    }
+
     /// The turn in hand begins, or goes on.
+    #[inline(always)]
     fn hear(&mut self, part: Part) -> Result<(), AllocError>
         requires { IsTrue (is_sound_part self.old.links part) }
         ensures whole { self.new.broken ≡ self.old.broken }

@@ -299,6 +299,7 @@ impl Machine {
     }
 
     /// News go over these places; where a question stops them, what is left of their way.
+    #[inline(never)]
     pub(crate) fn sweep_over(
         &mut self,
         news: News,

@@ -44,6 +44,7 @@ impl Machine {
     }
 
     /// Step 2, up to a question, and then the others.
+    #[inline(never)]
     fn stimulate(&mut self, cause: Cause) -> Result<(), AllocError>
         requires { IsTrue (is_sound self.old.links cause) }
         ensures kept { GoesOn self.old self.new }
@@ -102,6 +103,7 @@ impl Machine {
     }
 
     /// Step 5, the links, up to a question, and then the others.
+    #[inline(never)]
     pub(crate) fn after_pass(&mut self) -> Result<(), AllocError>
         ensures kept { GoesOn self.old self.new }
         ensures rest { OnOk result ((older : List Order) (w : World) → Shows self.old older w

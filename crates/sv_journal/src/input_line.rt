@@ -27,9 +27,6 @@ use sv_out::input::Input;
 pub fn input(alloc: Global, bytes: &[u8]) -> Result<Input, Stop>
     ensures { Gives (λ x. x) result (input_at bytes.now) }
 {
-    if let Some(at) = tick(bytes) {
-        return Ok(Input::Tick { at });
-    }
     match bytes {
         [first, ..] if first.is_ascii_digit() => event(alloc, bytes),
         _ => answer(alloc, bytes),
@@ -37,7 +34,7 @@ pub fn input(alloc: Global, bytes: &[u8]) -> Result<Input, Stop>
 }
 
 /// Reads the line of a clock moment, of which a journal has the most; none where it is another line.
-fn tick(bytes: &[u8]) -> Option<Moment>
+pub fn tick(bytes: &[u8]) -> Option<Moment>
     ensures { IfSome result (λ at. input_at bytes.now ≡ Ok (Input.Tick at)) }
 {
     match number(0, MOMENT_LIMIT, bytes) {

@@ -33,7 +33,7 @@ pub use crate::code_list::ExitCodes;
 pub use crate::fault::LineFault;
 pub use crate::header::{Header, Program, Version};
 pub use crate::program_name::ProgramName;
-pub use crate::read::{LINE_LIMIT, read_header, read_input};
+pub use crate::read::{LINE_LIMIT, read_header, read_input, read_tick};
 pub use crate::reading_orders::read_order;
 pub use crate::write::{put_input, put_order, write_input, write_order};
 pub use crate::writing_headers::write_header;

@@ -1,5 +1,5 @@
 //! Reading a whole line.
-ghost use Rattle.std.specs.Prelude.{◌≡◌, ◌≤◌, ◌-◌, length, min, IfOk, IfErr};
+ghost use Rattle.std.specs.Prelude.{◌≡◌, ◌≤◌, ◌-◌, length, min, IfOk, IfErr, IfSome};
 ghost use Rattle.sv_out.specs.declared.input.Input.{Input};
 ghost use Rattle.sv_journal.specs.declared.header.Header.{Header};
 ghost use Rattle.sv_journal.specs.Limits.{line_limit};
@@ -10,9 +10,10 @@ ghost use Rattle.sv_journal.specs.ReadingLines.{input_at, header_at};
 use crate::fault::LineFault;
 use crate::header::Header;
 use crate::header_line::header;
-use crate::input_line::input;
+use crate::input_line::{input, tick};
 use crate::stop::Stop;
 use std::alloc::Global;
+use sv_base::moment::Moment;
 use sv_out::input::Input;
 
 /// The most bytes of one line, its line feed left out.
@@ -34,6 +35,20 @@ pub fn read_input(alloc: Global, line: &[u8]) -> Result<Input, LineFault>
         Ok(_) => Err(LineFault::BadLine(LINE_LIMIT)),
         Err(Stop::At(left)) => Err(LineFault::BadLine(column(line, left))),
         Err(Stop::OutOfMemory) => Err(LineFault::OutOfMemory),
+    }
+}
+
+/// Reads the line of a clock moment, of which a journal has the most, without its line feed: the moment of the one input that
+/// has this line. None where it is another line.
+#[tactic(auto, using(crate::proofs::InputLaws::input_takes, crate::proofs::InputLaws::input_fits))]
+pub fn read_tick(line: &[u8]) -> Option<Moment>
+    ensures found { IfSome result (λ at. line.now ≡ input_line (Input.Tick at)) }
+    ensures fits { IfSome result (λ at. FitsInput (Input.Tick at)) }
+    ensures short { IfSome result (λ at. length line.now ≤ line_limit) }
+{
+    match tick(line) {
+        Some(at) if line.len() <= LINE_LIMIT => Some(at),
+        _ => None,
     }
 }
 

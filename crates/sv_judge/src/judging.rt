@@ -1,10 +1,12 @@
 //! What is to be said of one line at its place.
-ghost use Rattle.std.specs.Prelude.{◌≡◌, ◌≢◌, ◌↔◌, ◌++◌, List, ℕ, [], IsTrue, IsSome, IfOk, IfSome};
+ghost use Rattle.std.specs.Prelude.{◌≡◌, ◌≢◌, ◌↔◌, ◌++◌, ◌≤◌, length, List, ℕ, [], IsTrue, IsSome, IfOk, IfSome};
 ghost use Rattle.std.specs.Prelude.{MatchOption, Err, Ok, codes};
 ghost use Rattle.sv_base.specs.Roster.{is_roster};
 ghost use Rattle.sv_core.specs.MachineState.{Model};
 ghost use Rattle.sv_core.specs.StandsFor.{StandsFor};
 ghost use Rattle.sv_groups.specs.Changes.{with_group};
+ghost use Rattle.sv_journal.specs.JournalLine.{FitsInput, input_line};
+ghost use Rattle.sv_journal.specs.Limits.{line_limit};
 ghost use Rattle.sv_journal.specs.declared.header.Header.TheVariants.{Go};
 ghost use Rattle.sv_judge.specs.JournalPlaces.{Stage, adds, heads, titles};
 ghost use Rattle.sv_judge.specs.ShortHeader.{group_of};
@@ -12,6 +14,7 @@ ghost use Rattle.sv_judge.specs.JournalPlaces.Stage.{Fresh, Named, Running};
 ghost use Rattle.sv_judge.specs.JournalPlaces.Verdict.{Stands};
 ghost use Rattle.sv_judge.specs.Judging.{IsMachine, IsPlace, IsRunning, JudgedAs, JudgedHead};
 ghost use Rattle.sv_judge.specs.Judging.{JudgedNoted};
+ghost use Rattle.sv_out.specs.declared.input.Input.{Input};
 
 use crate::long::{LongPlace, judge_long};
 use crate::short::{config_of, group_of, host_at};
@@ -22,7 +25,7 @@ use sv_base::moment::Moment;
 use sv_core::machine::Machine;
 use sv_journal::fault::LineFault;
 use sv_journal::header::{Header, Program, Version};
-use sv_journal::read::{LINE_LIMIT, read_header, read_input};
+use sv_journal::read::{LINE_LIMIT, read_header, read_input, read_tick};
 use sv_journal::reading_orders::read_order;
 use sv_out::order::Order;
 use sv_ranks::place;
@@ -83,6 +86,7 @@ impl JournalProgress {
     }
 
     /// Before `go` stand lines of the header alone, which give no orders.
+    #[inline(never)]
     fn judge_header(&mut self, alloc: Global, line: &[u8]) -> Result<(), Refused>
         requires { IsRunning self.old → ⊥ }
         ensures { (at : Stage) → IsPlace self.old at
@@ -222,7 +226,27 @@ fn judge_input(
             orders.clear();
             judge_noted(alloc, order)
         }
-        None => judge_said(alloc, machine, line, orders),
+        None => match read_tick(line) {
+            Some(at) => judge_tick(machine, at, orders),
+            None => judge_said(alloc, machine, line, orders),
+        },
+    }
+}
+
+/// The line of a clock moment, of which a journal has the most.
+fn judge_tick(machine: &mut Machine, at: Moment, orders: &mut Vec<Order>) -> Result<(), Refused>
+    requires fits { FitsInput (Input.Tick at) }
+    requires short { length (input_line (Input.Tick at)) ≤ line_limit }
+    ensures { (m : Model) → StandsFor machine.old m
+        → JudgedAs result orders.new.items (IsMachine machine.new) (Running m)
+        (input_line (Input.Tick at)) }
+{
+    if !machine.accepts_tick() {
+        return Err(Refused::NotAccepted);
+    }
+    match machine.tick_at(at, orders) {
+        Ok(()) => Ok(()),
+        Err(AllocError) => Err(Refused::NoMemory),
     }
 }
 
@@ -238,6 +262,7 @@ fn behind_mark(line: &[u8]) -> Option<&[u8]>
 }
 
 /// The order that stands after the mark was given by a daemon; the machine gives its own, and stays as it is.
+#[inline(never)]
 fn judge_noted(alloc: Global, order: &[u8]) -> Result<(), Refused>
     ensures { (m : Model) → JudgedNoted result m (codes "> " ++ order.now) }
 {
@@ -253,6 +278,7 @@ fn judge_noted(alloc: Global, order: &[u8]) -> Result<(), Refused>
 }
 
 #[tactic(auto, using(crate::proofs::FoundLines::misplaced_said))]
+#[inline(never)]
 fn judge_said(
     alloc: Global,
     machine: &mut Machine,

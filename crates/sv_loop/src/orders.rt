@@ -37,6 +37,7 @@ pub(crate) fn write_orders<K: Sink>(
 }
 
 /// The lines of the orders, each with its line feed.
+#[inline(never)]
 fn text_of(alloc: Global, orders: &[Order]) -> Result<Vec<u8>, AllocError>
     ensures { IfOk result (λ text. text.items ≡ order_text orders.now) }
 {
