@@ -9,7 +9,7 @@ use Rattle.sv_groups.specs.Changes.{with_group}
 use Rattle.sv_journal.specs.declared.header.Header.TheVariants as header_is
 use Rattle.sv_journal.specs.declared.header.Program.{Program as Programs_line}
 use Rattle.sv_loop.proofs.Quiet.{quiet_until}
-use Rattle.sv_loop.proofs.SaysInputs.{says_inputs, quiet}
+use Rattle.sv_loop.proofs.SaysInputs.{says_inputs, quiet, no_way, before_go}
 use Rattle.sv_loop.proofs.SaysLong.{says_long}
 use Rattle.sv_judge.specs.JournalPlaces.{Line, Stage, titles, walks_on, walked, journal_text, order_text, AllFit}
 use Rattle.sv_judge.specs.JournalPlaces.Line.{Head, Said, Noted}
@@ -21,7 +21,6 @@ use Rattle.sv_judge.specs.ShortHeader.{config_of, group_of, host_at}
 use Rattle.sv_loop.specs.WholeJournal.Beginning.{Short as Of_programs, Long as Of_configuration}
 use Rattle.sv_judge.specs.declared.long.LongPlace.TheVariants.{Titled}
 use Rattle.sv_loop.specs.WholeJournal.{Entry, program_lines, entry_lines, inputs_in, groups_of, AllAccepted, SaysJournal, TellsDeeds, WritesDeeds}
-use Rattle.sv_out.specs.declared.input.Input.{Input}
 use Rattle.sv_out.specs.declared.order.Order.{Order}
 
 record SaysPrograms (groups : List GroupSpec) (lines : List Line) (m : Model) (given : List Order) : Type 0 where
@@ -35,7 +34,7 @@ record SaysPrograms (groups : List GroupSpec) (lines : List Line) (m : Model) (g
 
 says_go : (groups : List GroupSpec) (start : ℕ) (lines : List Line) (m : Model) (given : List Order)
     → walked (Named groups) (Head (header_is.Go start) ∷ lines) ≡ Reaches (Running m) given → SaysPrograms groups (Head (header_is.Go start) ∷ lines) m given
-says_go [] start lines m given e = cc
+says_go [] start lines m given e = no_way m given e
 says_go (group ∷ groups) start lines m given e =
     let first = opening (config_of (group ∷ groups)) [] (host_at start) in
     let said = says_inputs first lines (Running m) given (quiet (walked (Running first) lines) (Running m) given e) in
@@ -65,21 +64,21 @@ by_roster groups program lines m given true later e =
       state = rest.state;
       orders_are = rest.orders_are;
     }
-by_roster groups program lines m given false later e = cc
+by_roster groups program lines m given false later e = no_way m given e
 
 says_programs : (groups : List GroupSpec) (lines : List Line) (m : Model) (given : List Order)
     → walked (Named groups) lines ≡ Reaches (Running m) given → SaysPrograms groups lines m given
-says_programs groups [] m given e = cc
-says_programs groups (Said input ∷ lines) m given e = cc
-says_programs groups (Noted order ∷ lines) m given e = cc
-says_programs groups (Head (header_is.Journal version) ∷ lines) m given e = cc
-says_programs groups (Head (header_is.Host other) ∷ lines) m given e = cc
-says_programs groups (Head (header_is.Here other) ∷ lines) m given e = cc
-says_programs groups (Head (header_is.Pid other) ∷ lines) m given e = cc
-says_programs groups (Head (header_is.Env name value) ∷ lines) m given e = cc
-says_programs groups (Head (header_is.Size file size) ∷ lines) m given e = cc
-says_programs groups (Head (header_is.Conf text) ∷ lines) m given e = cc
-says_programs groups (Head (header_is.Include name more) ∷ lines) m given e = cc
+says_programs groups [] m given e = before_go (Named groups) tt m given e
+says_programs groups (Said input ∷ lines) m given e = no_way m given e
+says_programs groups (Noted order ∷ lines) m given e = no_way m given e
+says_programs groups (Head (header_is.Journal version) ∷ lines) m given e = no_way m given e
+says_programs groups (Head (header_is.Host other) ∷ lines) m given e = no_way m given e
+says_programs groups (Head (header_is.Here other) ∷ lines) m given e = no_way m given e
+says_programs groups (Head (header_is.Pid other) ∷ lines) m given e = no_way m given e
+says_programs groups (Head (header_is.Env name value) ∷ lines) m given e = no_way m given e
+says_programs groups (Head (header_is.Size file size) ∷ lines) m given e = no_way m given e
+says_programs groups (Head (header_is.Conf text) ∷ lines) m given e = no_way m given e
+says_programs groups (Head (header_is.Include name more) ∷ lines) m given e = no_way m given e
 says_programs groups (Head (header_is.Go start) ∷ lines) m given e = says_go groups start lines m given e
 says_programs groups (Head (header_is.Program program) ∷ lines) m given e =
     by_roster groups program lines m given (is_roster (with_group (group_of program) groups))
@@ -119,22 +118,22 @@ says_title : (version : ℕ) (lines : List Line) (m : Model) (given : List Order
     → walks_on (titles version) (λ next. walked next lines) ≡ Reaches (Running m) given → SaysJournal (Head (header_is.Journal version) ∷ lines) m given
 says_title zero lines m given e = says_short lines m given (quiet (walked (Named []) lines) (Running m) given e)
 says_title (suc zero) lines m given e = says_configured lines m given (quiet (walked (Long Titled) lines) (Running m) given e)
-says_title (suc (suc version)) lines m given e = cc
+says_title (suc (suc version)) lines m given e = no_way m given e
 
 pub says_journal : (lines : List Line) (m : Model) (given : List Order) → walked Fresh lines ≡ Reaches (Running m) given → SaysJournal lines m given
-says_journal [] m given e = cc
-says_journal (Said input ∷ lines) m given e = cc
-says_journal (Noted order ∷ lines) m given e = cc
+says_journal [] m given e = before_go Fresh tt m given e
+says_journal (Said input ∷ lines) m given e = no_way m given e
+says_journal (Noted order ∷ lines) m given e = no_way m given e
 says_journal (Head (header_is.Journal version) ∷ lines) m given e = says_title version lines m given e
-says_journal (Head (header_is.Program program) ∷ lines) m given e = cc
-says_journal (Head (header_is.Host other) ∷ lines) m given e = cc
-says_journal (Head (header_is.Here other) ∷ lines) m given e = cc
-says_journal (Head (header_is.Pid other) ∷ lines) m given e = cc
-says_journal (Head (header_is.Env name value) ∷ lines) m given e = cc
-says_journal (Head (header_is.Size file size) ∷ lines) m given e = cc
-says_journal (Head (header_is.Conf text) ∷ lines) m given e = cc
-says_journal (Head (header_is.Include name more) ∷ lines) m given e = cc
-says_journal (Head (header_is.Go start) ∷ lines) m given e = cc
+says_journal (Head (header_is.Program program) ∷ lines) m given e = no_way m given e
+says_journal (Head (header_is.Host other) ∷ lines) m given e = no_way m given e
+says_journal (Head (header_is.Here other) ∷ lines) m given e = no_way m given e
+says_journal (Head (header_is.Pid other) ∷ lines) m given e = no_way m given e
+says_journal (Head (header_is.Env name value) ∷ lines) m given e = no_way m given e
+says_journal (Head (header_is.Size file size) ∷ lines) m given e = no_way m given e
+says_journal (Head (header_is.Conf text) ∷ lines) m given e = no_way m given e
+says_journal (Head (header_is.Include name more) ∷ lines) m given e = no_way m given e
+says_journal (Head (header_is.Go start) ∷ lines) m given e = no_way m given e
 
 pub tells_deeds : (lines : List Line) (at : Stage) (given : List Order) → walked Fresh lines ≡ Reaches at given → TellsDeeds lines at given
 tells_deeds lines Fresh given e = (quiet_until lines Fresh Fresh given e tt).1

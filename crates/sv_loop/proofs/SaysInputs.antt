@@ -3,9 +3,9 @@ use Rattle.std.proofs.Common.{◌≡◌, List, [], ◌∷◌, ◌++◌, Bool, tr
 use Rattle.sv_core.specs.Deeds.{after, deeds}
 use Rattle.sv_core.specs.MachineState.{Model, accepts, next, orders}
 use Rattle.sv_journal.specs.declared.header.Header.TheVariants as header_is
-use Rattle.sv_judge.specs.JournalPlaces.{Line, Stage, Walked, behind, walks_on, walked}
+use Rattle.sv_judge.specs.JournalPlaces.{IsBeforeGo, Line, Stage, Walked, behind, walks_on, walked}
 use Rattle.sv_judge.specs.JournalPlaces.Line.{Head, Said, Noted}
-use Rattle.sv_judge.specs.JournalPlaces.Stage.{Running}
+use Rattle.sv_judge.specs.JournalPlaces.Stage.{Fresh, Named, Long, Running}
 use Rattle.sv_judge.specs.JournalPlaces.Verdict.{Stands, NotAccepted}
 use Rattle.sv_judge.specs.JournalPlaces.Walked.{Reaches, Stops}
 use Rattle.sv_loop.specs.WholeJournal.{Entry, entry_lines, inputs_in, AllAccepted}
@@ -48,6 +48,17 @@ by_test m input lines at given false later taken e = cc
 pub quiet : (onward : Walked) (at : Stage) (given : List Order) → behind [] onward ≡ Reaches at given → onward ≡ Reaches at given
 quiet (Reaches t g) at given e = e
 quiet Stops at given e = e
+
+-- a walk that stops leads nowhere
+pub no_way : {A : Type 0} → (m : Model) (given : List Order) → Stops ≡ Reaches (Running m) given → A
+no_way m given e = cc
+
+-- before `go` the daemon doesn't run
+pub before_go : {A : Type 0} → (at : Stage) → IsBeforeGo at → (m : Model) (given : List Order) → Reaches at [] ≡ Reaches (Running m) given → A
+before_go Fresh h m given e = cc
+before_go (Named groups) h m given e = cc
+before_go (Long place) h m given e = cc
+before_go (Running r) h m given e = elim h [ ]
 
 passed_over : (m : Model) (order : Order) (lines : List Line) (at : Stage) (given : List Order) → SaysInputs m lines at given
     → SaysInputs m (Noted order ∷ lines) at given

@@ -7,7 +7,7 @@ use Rattle.sv_sections.specs.declared.fault.ConfFault.{ConfFault}
 use Rattle.sv_core.specs.Deeds.{after, deeds}
 use Rattle.sv_core.specs.MachineState.{Model, opening}
 use Rattle.sv_journal.specs.declared.header.Header.TheVariants as header_is
-use Rattle.sv_loop.proofs.SaysInputs.{says_inputs, quiet}
+use Rattle.sv_loop.proofs.SaysInputs.{says_inputs, quiet, no_way, before_go}
 use Rattle.sv_judge.specs.JournalPlaces.{Line, begins, described, moved, walked, walks_on}
 use Rattle.sv_judge.specs.JournalPlaces.Line.{Head, Said, Noted}
 use Rattle.sv_judge.specs.JournalPlaces.Stage.{Long, Running}
@@ -50,21 +50,21 @@ begin_by host sizes conf included (Ok config) lines m given accepted e =
       said.spelled,
       record { accepted = said.accepted; state = state; orders_are = said.orders_are },
     )
-begin_by host sizes conf included (Err fault) lines m given accepted e = cc
+begin_by host sizes conf included (Err fault) lines m given accepted e = no_way m given e
 
 says_includes : (host : Host) (sizes : List (List ℕ × ℕ)) (conf : List ℕ) (included : List (List ℕ × List ℕ)) (lines : List Line) (m : Model) (given : List Order)
     → walked (Long (Configured host sizes conf included)) lines ≡ Reaches (Running m) given → SaysIncludes host sizes conf included lines m given
-says_includes host sizes conf included [] m given e = cc
-says_includes host sizes conf included (Said input ∷ lines) m given e = cc
-says_includes host sizes conf included (Noted order ∷ lines) m given e = cc
-says_includes host sizes conf included (Head (header_is.Journal version) ∷ lines) m given e = cc
-says_includes host sizes conf included (Head (header_is.Program program) ∷ lines) m given e = cc
-says_includes host sizes conf included (Head (header_is.Host other) ∷ lines) m given e = cc
-says_includes host sizes conf included (Head (header_is.Here other) ∷ lines) m given e = cc
-says_includes host sizes conf included (Head (header_is.Pid other) ∷ lines) m given e = cc
-says_includes host sizes conf included (Head (header_is.Env name value) ∷ lines) m given e = cc
-says_includes host sizes conf included (Head (header_is.Size file size) ∷ lines) m given e = cc
-says_includes host sizes conf included (Head (header_is.Conf text) ∷ lines) m given e = cc
+says_includes host sizes conf included [] m given e = before_go (Long (Configured host sizes conf included)) tt m given e
+says_includes host sizes conf included (Said input ∷ lines) m given e = no_way m given e
+says_includes host sizes conf included (Noted order ∷ lines) m given e = no_way m given e
+says_includes host sizes conf included (Head (header_is.Journal version) ∷ lines) m given e = no_way m given e
+says_includes host sizes conf included (Head (header_is.Program program) ∷ lines) m given e = no_way m given e
+says_includes host sizes conf included (Head (header_is.Host other) ∷ lines) m given e = no_way m given e
+says_includes host sizes conf included (Head (header_is.Here other) ∷ lines) m given e = no_way m given e
+says_includes host sizes conf included (Head (header_is.Pid other) ∷ lines) m given e = no_way m given e
+says_includes host sizes conf included (Head (header_is.Env name value) ∷ lines) m given e = no_way m given e
+says_includes host sizes conf included (Head (header_is.Size file size) ∷ lines) m given e = no_way m given e
+says_includes host sizes conf included (Head (header_is.Conf text) ∷ lines) m given e = no_way m given e
 says_includes host sizes conf included (Head (header_is.Include name more) ∷ lines) m given e =
     let onto = Long (Configured host sizes conf (included ++ (name, more) ∷ [])) in
     let rest = says_includes host sizes conf (included ++ (name, more) ∷ []) lines m given (quiet (walked onto lines) (Running m) given e) in
@@ -141,27 +141,27 @@ says_size host sizes file size lines m given true later e =
       spelled = ap (λ (ls : List Line). Head (header_is.Size file size) ∷ ls) rest.spelled;
       says = rest.says;
     }
-says_size host sizes file size lines m given false later e = cc
+says_size host sizes file size lines m given false later e = no_way m given e
 
 says_sizes : (host : Host) (one : List ℕ × ℕ) (sizes : List (List ℕ × ℕ)) (lines : List Line) (m : Model) (given : List Order)
     → walked (Long (Described host (one ∷ sizes))) lines ≡ Reaches (Running m) given → SaysSizes host (one ∷ sizes) lines m given
-says_sizes host one sizes [] m given e = cc
-says_sizes host one sizes (Said input ∷ lines) m given e = cc
-says_sizes host one sizes (Noted order ∷ lines) m given e = cc
-says_sizes host one sizes (Head (header_is.Journal version) ∷ lines) m given e = cc
-says_sizes host one sizes (Head (header_is.Program program) ∷ lines) m given e = cc
-says_sizes host one sizes (Head (header_is.Host other) ∷ lines) m given e = cc
-says_sizes host one sizes (Head (header_is.Here other) ∷ lines) m given e = cc
-says_sizes host one sizes (Head (header_is.Pid other) ∷ lines) m given e = cc
-says_sizes host one sizes (Head (header_is.Env name value) ∷ lines) m given e = cc
+says_sizes host one sizes [] m given e = before_go (Long (Described host (one ∷ sizes))) tt m given e
+says_sizes host one sizes (Said input ∷ lines) m given e = no_way m given e
+says_sizes host one sizes (Noted order ∷ lines) m given e = no_way m given e
+says_sizes host one sizes (Head (header_is.Journal version) ∷ lines) m given e = no_way m given e
+says_sizes host one sizes (Head (header_is.Program program) ∷ lines) m given e = no_way m given e
+says_sizes host one sizes (Head (header_is.Host other) ∷ lines) m given e = no_way m given e
+says_sizes host one sizes (Head (header_is.Here other) ∷ lines) m given e = no_way m given e
+says_sizes host one sizes (Head (header_is.Pid other) ∷ lines) m given e = no_way m given e
+says_sizes host one sizes (Head (header_is.Env name value) ∷ lines) m given e = no_way m given e
 says_sizes host one sizes (Head (header_is.Size file size) ∷ lines) m given e =
     says_size host (one ∷ sizes) file size lines m given (is_behind file (one ∷ sizes))
     (λ reaches. says_sizes host one (sizes ++ (file, size) ∷ []) lines m given reaches) e
 says_sizes host one sizes (Head (header_is.Conf text) ∷ lines) m given e =
     says_conf host (one ∷ sizes) text lines m given
     (quiet (walked (Long (Configured host (one ∷ sizes) text [])) lines) (Running m) given e)
-says_sizes host one sizes (Head (header_is.Include name more) ∷ lines) m given e = cc
-says_sizes host one sizes (Head (header_is.Go start) ∷ lines) m given e = cc
+says_sizes host one sizes (Head (header_is.Include name more) ∷ lines) m given e = no_way m given e
+says_sizes host one sizes (Head (header_is.Go start) ∷ lines) m given e = no_way m given e
 
 record SaysVariables (host : Host) (lines : List Line) (m : Model) (given : List Order) : Type 0 where
   variables : List (List ℕ × List ℕ)
@@ -215,7 +215,7 @@ says_variable host name value lines m given true later e =
       spelled = ap (λ (ls : List Line). Head (header_is.Env name value) ∷ ls) rest.spelled;
       says = rest.says;
     }
-says_variable host name value lines m given false later e = cc
+says_variable host name value lines m given false later e = no_way m given e
 
 says_first_size : (host : Host) (file : List ℕ) (size : ℕ) (lines : List Line) (m : Model) (given : List Order)
     → walked (Long (Described host [])) (Head (header_is.Size file size) ∷ lines) ≡ Reaches (Running m) given
@@ -226,14 +226,14 @@ says_first_size host file size lines m given e =
 
 says_variables : (host : Host) (lines : List Line) (m : Model) (given : List Order)
     → walked (Long (Described host [])) lines ≡ Reaches (Running m) given → SaysVariables host lines m given
-says_variables host [] m given e = cc
-says_variables host (Said input ∷ lines) m given e = cc
-says_variables host (Noted order ∷ lines) m given e = cc
-says_variables host (Head (header_is.Journal version) ∷ lines) m given e = cc
-says_variables host (Head (header_is.Program program) ∷ lines) m given e = cc
-says_variables host (Head (header_is.Host other) ∷ lines) m given e = cc
-says_variables host (Head (header_is.Here other) ∷ lines) m given e = cc
-says_variables host (Head (header_is.Pid other) ∷ lines) m given e = cc
+says_variables host [] m given e = before_go (Long (Described host [])) tt m given e
+says_variables host (Said input ∷ lines) m given e = no_way m given e
+says_variables host (Noted order ∷ lines) m given e = no_way m given e
+says_variables host (Head (header_is.Journal version) ∷ lines) m given e = no_way m given e
+says_variables host (Head (header_is.Program program) ∷ lines) m given e = no_way m given e
+says_variables host (Head (header_is.Host other) ∷ lines) m given e = no_way m given e
+says_variables host (Head (header_is.Here other) ∷ lines) m given e = no_way m given e
+says_variables host (Head (header_is.Pid other) ∷ lines) m given e = no_way m given e
 says_variables host (Head (header_is.Env name value) ∷ lines) m given e =
     says_variable host name value lines m given (is_behind name host.environment)
     (λ reaches. says_variables (with_variable host name value) lines m given reaches) e
@@ -241,8 +241,8 @@ says_variables host (Head (header_is.Size file size) ∷ lines) m given e = says
 says_variables host (Head (header_is.Conf text) ∷ lines) m given e =
     says_rest host (Head (header_is.Conf text) ∷ lines) m given
     (says_conf host [] text lines m given (quiet (walked (Long (Configured host [] text [])) lines) (Running m) given e))
-says_variables host (Head (header_is.Include name more) ∷ lines) m given e = cc
-says_variables host (Head (header_is.Go start) ∷ lines) m given e = cc
+says_variables host (Head (header_is.Include name more) ∷ lines) m given e = no_way m given e
+says_variables host (Head (header_is.Go start) ∷ lines) m given e = no_way m given e
 
 pub record SaysLong (lines : List Line) (m : Model) (given : List Order) : Type 0 where
   pub host : Host
@@ -280,51 +280,51 @@ says_pid name here pid lines m given e =
 
 says_located : (name here : List ℕ) (lines : List Line) (m : Model) (given : List Order) → walked (Long (Located name here)) lines ≡ Reaches (Running m) given
     → SaysLong (Head (header_is.Host name) ∷ Head (header_is.Here here) ∷ lines) m given
-says_located name here [] m given e = cc
-says_located name here (Said input ∷ lines) m given e = cc
-says_located name here (Noted order ∷ lines) m given e = cc
-says_located name here (Head (header_is.Journal version) ∷ lines) m given e = cc
-says_located name here (Head (header_is.Program program) ∷ lines) m given e = cc
-says_located name here (Head (header_is.Host other) ∷ lines) m given e = cc
-says_located name here (Head (header_is.Here other) ∷ lines) m given e = cc
+says_located name here [] m given e = before_go (Long (Located name here)) tt m given e
+says_located name here (Said input ∷ lines) m given e = no_way m given e
+says_located name here (Noted order ∷ lines) m given e = no_way m given e
+says_located name here (Head (header_is.Journal version) ∷ lines) m given e = no_way m given e
+says_located name here (Head (header_is.Program program) ∷ lines) m given e = no_way m given e
+says_located name here (Head (header_is.Host other) ∷ lines) m given e = no_way m given e
+says_located name here (Head (header_is.Here other) ∷ lines) m given e = no_way m given e
 says_located name here (Head (header_is.Pid pid) ∷ lines) m given e =
     says_pid name here pid lines m given (quiet (walked (Long (Described (host_of name here pid) [])) lines) (Running m) given e)
-says_located name here (Head (header_is.Env called value) ∷ lines) m given e = cc
-says_located name here (Head (header_is.Size file size) ∷ lines) m given e = cc
-says_located name here (Head (header_is.Conf text) ∷ lines) m given e = cc
-says_located name here (Head (header_is.Include called more) ∷ lines) m given e = cc
-says_located name here (Head (header_is.Go start) ∷ lines) m given e = cc
+says_located name here (Head (header_is.Env called value) ∷ lines) m given e = no_way m given e
+says_located name here (Head (header_is.Size file size) ∷ lines) m given e = no_way m given e
+says_located name here (Head (header_is.Conf text) ∷ lines) m given e = no_way m given e
+says_located name here (Head (header_is.Include called more) ∷ lines) m given e = no_way m given e
+says_located name here (Head (header_is.Go start) ∷ lines) m given e = no_way m given e
 
 says_hosted : (name : List ℕ) (lines : List Line) (m : Model) (given : List Order) → walked (Long (Hosted name)) lines ≡ Reaches (Running m) given
     → SaysLong (Head (header_is.Host name) ∷ lines) m given
-says_hosted name [] m given e = cc
-says_hosted name (Said input ∷ lines) m given e = cc
-says_hosted name (Noted order ∷ lines) m given e = cc
-says_hosted name (Head (header_is.Journal version) ∷ lines) m given e = cc
-says_hosted name (Head (header_is.Program program) ∷ lines) m given e = cc
-says_hosted name (Head (header_is.Host other) ∷ lines) m given e = cc
+says_hosted name [] m given e = before_go (Long (Hosted name)) tt m given e
+says_hosted name (Said input ∷ lines) m given e = no_way m given e
+says_hosted name (Noted order ∷ lines) m given e = no_way m given e
+says_hosted name (Head (header_is.Journal version) ∷ lines) m given e = no_way m given e
+says_hosted name (Head (header_is.Program program) ∷ lines) m given e = no_way m given e
+says_hosted name (Head (header_is.Host other) ∷ lines) m given e = no_way m given e
 says_hosted name (Head (header_is.Here here) ∷ lines) m given e =
     says_located name here lines m given (quiet (walked (Long (Located name here)) lines) (Running m) given e)
-says_hosted name (Head (header_is.Pid other) ∷ lines) m given e = cc
-says_hosted name (Head (header_is.Env called value) ∷ lines) m given e = cc
-says_hosted name (Head (header_is.Size file size) ∷ lines) m given e = cc
-says_hosted name (Head (header_is.Conf text) ∷ lines) m given e = cc
-says_hosted name (Head (header_is.Include called more) ∷ lines) m given e = cc
-says_hosted name (Head (header_is.Go start) ∷ lines) m given e = cc
+says_hosted name (Head (header_is.Pid other) ∷ lines) m given e = no_way m given e
+says_hosted name (Head (header_is.Env called value) ∷ lines) m given e = no_way m given e
+says_hosted name (Head (header_is.Size file size) ∷ lines) m given e = no_way m given e
+says_hosted name (Head (header_is.Conf text) ∷ lines) m given e = no_way m given e
+says_hosted name (Head (header_is.Include called more) ∷ lines) m given e = no_way m given e
+says_hosted name (Head (header_is.Go start) ∷ lines) m given e = no_way m given e
 
 pub says_long : (lines : List Line) (m : Model) (given : List Order) → walked (Long Titled) lines ≡ Reaches (Running m) given
     → SaysLong (lines) m given
-says_long [] m given e = cc
-says_long (Said input ∷ lines) m given e = cc
-says_long (Noted order ∷ lines) m given e = cc
-says_long (Head (header_is.Journal version) ∷ lines) m given e = cc
-says_long (Head (header_is.Program program) ∷ lines) m given e = cc
+says_long [] m given e = before_go (Long Titled) tt m given e
+says_long (Said input ∷ lines) m given e = no_way m given e
+says_long (Noted order ∷ lines) m given e = no_way m given e
+says_long (Head (header_is.Journal version) ∷ lines) m given e = no_way m given e
+says_long (Head (header_is.Program program) ∷ lines) m given e = no_way m given e
 says_long (Head (header_is.Host name) ∷ lines) m given e =
     says_hosted name lines m given (quiet (walked (Long (Hosted name)) lines) (Running m) given e)
-says_long (Head (header_is.Here other) ∷ lines) m given e = cc
-says_long (Head (header_is.Pid other) ∷ lines) m given e = cc
-says_long (Head (header_is.Env called value) ∷ lines) m given e = cc
-says_long (Head (header_is.Size file size) ∷ lines) m given e = cc
-says_long (Head (header_is.Conf text) ∷ lines) m given e = cc
-says_long (Head (header_is.Include called more) ∷ lines) m given e = cc
-says_long (Head (header_is.Go start) ∷ lines) m given e = cc
+says_long (Head (header_is.Here other) ∷ lines) m given e = no_way m given e
+says_long (Head (header_is.Pid other) ∷ lines) m given e = no_way m given e
+says_long (Head (header_is.Env called value) ∷ lines) m given e = no_way m given e
+says_long (Head (header_is.Size file size) ∷ lines) m given e = no_way m given e
+says_long (Head (header_is.Conf text) ∷ lines) m given e = no_way m given e
+says_long (Head (header_is.Include called more) ∷ lines) m given e = no_way m given e
+says_long (Head (header_is.Go start) ∷ lines) m given e = no_way m given e

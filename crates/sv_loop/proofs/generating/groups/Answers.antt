@@ -1,5 +1,4 @@
-use Rattle.std.proofs.Common.{arith, ◌≡◌, ◌∙◌, sym, ap}
-use Rattle.sv_base.specs.declared.spec.GroupSpec.{GroupSpec}
+use Rattle.std.proofs.Common.{arith, ◌∙◌}
 use Rattle.sv_loop.proofs.Programs.{next_group, all_groups}
 use Rattle.sv_loop.proofs.generating.groups.Goals as goal
 
