@@ -15,7 +15,7 @@ use sv_base::text::Text;
 use sv_child::step::{ChildDeed, Step};
 use sv_children::{Children, News, Told};
 use sv_groups::Span;
-use sv_out::order::Order;
+use sv_out::order::{Order, SpawnOrder};
 
 fn no_log() -> LogSpec {
     LogSpec {
@@ -67,7 +67,7 @@ fn group(rt: &impl Abort, alloc: Global, name: &'static str, names: &[&'static s
 }
 
 /// The program d, alone in its group, and behind it the group g of three.
-fn one_and_three(rt: &impl Abort, alloc: Global) -> Children {
+fn groups(rt: &impl Abort, alloc: Global) -> Vec<GroupSpec> {
     let mut groups = Vec::new(alloc);
     groups
         .push(group(rt, alloc, "d", &["d"]))
@@ -75,11 +75,16 @@ fn one_and_three(rt: &impl Abort, alloc: Global) -> Children {
     groups
         .push(group(rt, alloc, "g", &["a", "b", "c"]))
         .expect(rt, "memory");
-    let config = Config {
+    groups
+}
+
+/// A configuration of these groups, and of nothing else.
+fn config(alloc: Global, groups: Groups) -> Config {
+    Config {
         identifier: Text::fixed("supervisor"),
         main: no_log(),
         level: Level::Info,
-        groups: Groups::new(groups).expect(rt, "a roster"),
+        groups,
         servers: Items::new(alloc),
         client: ClientSpec {
             url: Text::fixed(""),
@@ -87,8 +92,23 @@ fn one_and_three(rt: &impl Abort, alloc: Global) -> Children {
             password: Text::fixed(""),
         },
         rpc: false,
-    };
-    Children::new(alloc, &config).expect(rt, "memory")
+    }
+}
+
+/// The groups where they are a roster.
+fn roster(rt: &impl Abort, groups: Option<Groups>) -> Groups {
+    groups.expect(rt, "a roster")
+}
+
+/// The children of a configuration.
+fn children_of(rt: &impl Abort, alloc: Global, config: &Config) -> Children {
+    Children::new(alloc, config).expect(rt, "memory")
+}
+
+/// The children d and, in the group g, a, b and c.
+fn one_and_three(rt: &impl Abort, alloc: Global) -> Children {
+    let roster = roster(rt, Groups::new(groups(rt, alloc)));
+    children_of(rt, alloc, &config(alloc, roster))
 }
 
 /// What names mean, by the places of the children.
@@ -112,29 +132,40 @@ fn names_are_the_rosters(rt: HostRuntime) {
     }
 }
 
-/// The news have the child b take a step with this deed.
-fn steps(rt: &impl Abort, children: &mut Children, news: &News, deed: ChildDeed) -> Step {
-    let step = children
+/// The step that the news have the child b take.
+fn step(rt: &impl Abort, children: &mut Children, news: &News) -> Step {
+    children
         .bring(2, news, Mood::Running, Moment::zero())
-        .expect(rt, "a step");
+        .expect(rt, "a step")
+}
+
+/// The step asks for this deed.
+fn asks(rt: &impl Abort, step: &Step, deed: ChildDeed) {
     assert!(rt; step.deed == Some(deed));
-    step
+}
+
+/// The order that spawns the child b.
+fn spawn(rt: &impl Abort, children: &Children) -> SpawnOrder {
+    children
+        .spawn_order(2, Run(7))
+        .expect(rt, "memory")
+        .expect(rt, "a process")
 }
 
 /// The order that spawns the child b names the group g.
-fn has_its_spawn(rt: &impl Abort, children: &Children) {
-    let spawn = children
-        .spawn_order(2, Run(7))
-        .expect(rt, "memory")
-        .expect(rt, "a process");
+fn is_spawn_of_b(rt: &impl Abort, spawn: &SpawnOrder) {
     assert!(rt; spawn.group.as_str() == "g");
     assert!(rt; spawn.name.as_str() == "b");
     assert!(rt; spawn.directory.as_str() == "/var");
 }
 
-/// The child of this place has a process of run 7.
-fn has_its_pid(rt: &impl Abort, children: &mut Children, place: usize) {
-    let pid = Pid::new(12).expect(rt, "a pid");
+/// The pid of each process.
+fn pid(rt: &impl Abort) -> Pid {
+    Pid::new(12).expect(rt, "a pid")
+}
+
+/// The child of this place has a process of run 7 with this pid.
+fn has_its_pid(children: &mut Children, place: usize, pid: Pid) {
     let _told = children.answer(place, Run(7), Told::Started(pid), Moment::zero());
 }
 
@@ -151,21 +182,23 @@ fn one_child_is_started_and_stopped(rt: HostRuntime) {
     let alloc = rt.alloc();
     let mut children = one_and_three(&rt, alloc);
     let given = given_by_the_child(&rt, alloc, &mut children);
+    drop(children);
     assert!(rt; is_reported(given.as_slice()));
 }
 
 /// What that child gives.
 fn given_by_the_child(rt: &impl Abort, alloc: Global, children: &mut Children) -> Vec<Order> {
     let mut given = Vec::new(alloc);
-    let start = steps(rt, children, &News::Start, ChildDeed::Spawn);
+    let start = step(rt, children, &News::Start);
+    asks(rt, &start, ChildDeed::Spawn);
     children
         .report(2, &start.edges, &mut given)
         .expect(rt, "memory");
-    has_its_spawn(rt, children);
-    has_its_pid(rt, children, 2);
+    is_spawn_of_b(rt, &spawn(rt, children));
+    has_its_pid(children, 2, pid(rt));
     leaves_another_run(rt, children);
-    let term = ChildDeed::Kill(Signal::Term, false);
-    let stop = steps(rt, children, &News::Stop, term);
+    let stop = step(rt, children, &News::Stop);
+    asks(rt, &stop, ChildDeed::Kill(Signal::Term, false));
     assert!(rt; !children.are_at_rest(Span { from: 0, to: 4 }));
     children
         .report(2, &stop.edges, &mut given)
@@ -208,11 +241,16 @@ fn is_signal(order: &Order) -> bool {
 /// All four are to be started: one settle tells them, also while they start, and another where it begins again.
 #[test]
 fn the_awake_are_told_in_start_order(rt: HostRuntime) {
-    let alloc = rt.alloc();
-    let mut children = one_and_three(&rt, alloc);
+    let mut children = one_and_three(&rt, rt.alloc());
+    are_told_in_start_order(&rt, &mut children);
+    drop(children);
+}
+
+/// All four are told, and how many were looked at for that.
+fn are_told_in_start_order(rt: &impl Abort, children: &mut Children) {
     let now = Moment::zero();
     for place in 0..4usize {
-        is_awake(&rt, &mut children, place);
+        is_awake(rt, children, place);
     }
     assert!(rt; children.next_awake(4, now).is_none());
     assert!(rt; children.looks() == 4);
@@ -228,5 +266,5 @@ fn is_awake(rt: &impl Abort, children: &mut Children, place: usize) {
         .bring(place, &News::Time, Mood::Running, now)
         .expect(rt, "a step");
     assert!(rt; step.deed == Some(ChildDeed::Spawn));
-    has_its_pid(rt, children, place);
+    has_its_pid(children, place, pid(rt));
 }

@@ -1,7 +1,8 @@
 //! The commands, worked by hand: the calls that each makes, and what each answer prints.
-use std::alloc::{AllocError, Global};
+use std::alloc::Global;
+use std::process::Abort;
 use sv_base::Text;
-use sv_commands::{Step, reply_shown, steps_of};
+use sv_commands::{Line, Shown, Step, reply_shown, steps_of};
 use sv_xmlcall::{Answered, Value};
 
 /// Each line has the words of a command, `=>`, and its calls, without the `supervisor.` before each method.
@@ -104,55 +105,96 @@ status|true|bad
 status|!6|1 ERROR (shutting down)~
 ";
 
-fn words_of(alloc: Global, line: &str) -> Result<Vec<Text>, AllocError> {
+fn put(rt: &impl Abort, out: &mut String, text: &str) {
+    out.push_str(text).expect(rt, "ample memory");
+}
+
+fn put_letter(rt: &impl Abort, out: &mut String, letter: char) {
+    out.push(letter).expect(rt, "ample memory");
+}
+
+fn copy_of(rt: &impl Abort, alloc: Global, text: &str) -> String {
+    String::from_str(alloc, text).expect(rt, "ample memory")
+}
+
+fn words_of(rt: &impl Abort, alloc: Global, line: &str) -> Vec<Text> {
     let mut words = Vec::new(alloc);
     for word in line.split(' ') {
-        words.push(Text::from_str(alloc, word)?)?;
+        put_word(rt, alloc, &mut words, word);
     }
-    Ok(words)
+    words
 }
 
-fn put_call(alloc: Global, out: &mut String, step: &Step) -> Result<(), AllocError> {
+fn put_word(rt: &impl Abort, alloc: Global, words: &mut Vec<Text>, word: &str) {
+    let word = Text::from_str(alloc, word).expect(rt, "ample memory");
+    words.push(word).expect(rt, "ample memory");
+}
+
+fn put_number(rt: &impl Abort, out: &mut String, number: i64) {
+    write!(out, "{number}").expect(rt, "ample memory");
+}
+
+fn put_param(rt: &impl Abort, out: &mut String, param: &Value) {
+    match param {
+        Value::Text(text) => put(rt, out, text.as_str()),
+        Value::Int(number) => put_number(rt, out, *number),
+        _ => put(rt, out, "?"),
+    }
+}
+
+/// Adds a call, after a space where others stand before it.
+fn put_call(rt: &impl Abort, out: &mut String, step: &Step) {
+    if !out.as_str().is_empty() {
+        put(rt, out, " ");
+    }
     let method = step.call.method.as_str();
-    out.push_str(method.strip_prefix("supervisor.").unwrap_or(method))?;
-    out.push('(')?;
-    let mut first = true;
+    put(
+        rt,
+        out,
+        method.strip_prefix("supervisor.").unwrap_or(method),
+    );
+    put(rt, out, "(");
+    let mut between = "";
     for param in &step.call.params {
-        if !first {
-            out.push(',')?;
-        }
-        first = false;
-        match param {
-            Value::Text(text) => out.push_str(text.as_str())?,
-            Value::Int(number) => out.push_str(format!(in alloc; "{number}")?.as_str())?,
-            _ => out.push('?')?,
-        }
+        put(rt, out, between);
+        put_param(rt, out, param);
+        between = ",";
     }
-    out.push(')')?;
-    Ok(())
+    put(rt, out, ")");
 }
 
-fn calls_of(alloc: Global, line: &str) -> Result<String, AllocError> {
-    let words = words_of(alloc, line)?;
-    let Some(steps) = steps_of(alloc, words.as_slice())? else {
-        return String::from_str(alloc, "none");
-    };
+fn calls_told(rt: &impl Abort, alloc: Global, steps: &[Step]) -> String {
     let mut out = String::new(alloc);
-    for step in steps.as_slice() {
-        if !out.as_str().is_empty() {
-            out.push(' ')?;
-        }
-        put_call(alloc, &mut out, step)?;
+    for step in steps {
+        put_call(rt, &mut out, step);
     }
-    Ok(out)
+    out
+}
+
+/// The calls of a command of these words.
+fn calls_of(rt: &impl Abort, alloc: Global, words: &[Text]) -> String {
+    match steps_of(alloc, words).expect(rt, "ample memory") {
+        Some(steps) => calls_told(rt, alloc, steps.as_slice()),
+        None => copy_of(rt, alloc, "none"),
+    }
+}
+
+/// The calls of a command of the words of this line.
+fn calls_in(rt: &impl Abort, alloc: Global, line: &str) -> String {
+    let words = words_of(rt, alloc, line);
+    calls_of(rt, alloc, words.as_slice())
+}
+
+fn calls_are(rt: &impl Abort, alloc: Global, words: &str, expected: &str) {
+    let calls = calls_in(rt, alloc, words);
+    assert_eq!(rt; calls.as_str(), expected, "{words}");
 }
 
 #[test]
 fn commands_make_their_calls(rt: HostRuntime) {
     for line in CALLS.lines() {
         let (words, expected) = line.split_once("=>").expect(&rt, "two cells");
-        let calls = calls_of(rt.alloc(), words).expect(&rt, "ample memory");
-        assert_eq!(&rt; calls.as_str(), expected, "{words}");
+        calls_are(&rt, rt.alloc(), words, expected);
     }
 }
 
@@ -160,86 +202,167 @@ fn number_of(text: &str) -> i64 {
     text.parse::<i64>().unwrap_or(-1)
 }
 
-fn text_value(alloc: Global, text: &str) -> Result<Value, AllocError> {
+/// A text with line feeds for `~`.
+fn content_of(rt: &impl Abort, alloc: Global, text: &str) -> String {
     let mut content = String::new(alloc);
-    for c in text.chars() {
-        content.push(if c == '~' { '\n' } else { c })?;
+    for letter in text.chars() {
+        put_letter(rt, &mut content, if letter == '~' { '\n' } else { letter });
     }
-    Ok(Value::Text(Text::from_string(content)))
+    content
+}
+
+fn text_value(rt: &impl Abort, alloc: Global, text: &str) -> Value {
+    Value::Text(Text::from_string(content_of(rt, alloc, text)))
+}
+
+fn put_member(rt: &impl Abort, members: &mut Vec<(Text, Value)>, name: &'static str, value: Value) {
+    members
+        .push((Text::fixed(name), value))
+        .expect(rt, "ample memory");
+}
+
+/// The name of a part of a row, by its place.
+fn name_of(place: u8) -> &'static str {
+    match place {
+        0 => "group",
+        1 => "name",
+        2 => "statename",
+        _ => "description",
+    }
+}
+
+/// Adds a part of a row, of which there are so many.
+fn put_part(
+    rt: &impl Abort,
+    alloc: Global,
+    members: &mut Vec<(Text, Value)>,
+    place: u8,
+    parts: usize,
+    part: &str,
+) {
+    if place == 2 && parts == 3 && part != "RUNNING" {
+        put_member(rt, members, "status", Value::Int(number_of(part)));
+    } else {
+        put_member(rt, members, name_of(place), text_value(rt, alloc, part));
+    }
 }
 
 /// The struct of a row: a group, a name, and a status, or a state with what is said of it.
-fn row_of(alloc: Global, row: &str) -> Result<Value, AllocError> {
+fn row_of(rt: &impl Abort, alloc: Global, row: &str) -> Value {
     let mut members = Vec::new(alloc);
     let mut place = 0u8;
     let parts = row.split('/').count();
     for part in row.split('/') {
-        match place {
-            0 => members.push((Text::fixed("group"), text_value(alloc, part)?))?,
-            1 => members.push((Text::fixed("name"), text_value(alloc, part)?))?,
-            2 if parts == 3 && part != "RUNNING" => {
-                members.push((Text::fixed("status"), Value::Int(number_of(part))))?
-            }
-            2 => members.push((Text::fixed("statename"), text_value(alloc, part)?))?,
-            _ => members.push((Text::fixed("description"), text_value(alloc, part)?))?,
-        }
+        put_part(rt, alloc, &mut members, place, parts, part);
         place = place.saturating_add(1);
     }
-    Ok(Value::Struct(members))
+    Value::Struct(members)
 }
 
-fn rows_of(alloc: Global, rows: &str) -> Result<Value, AllocError> {
+/// Adds a row, if it isn't empty.
+fn put_row(rt: &impl Abort, alloc: Global, values: &mut Vec<Value>, row: &str) {
+    if !row.is_empty() {
+        let row = row_of(rt, alloc, row);
+        values.push(row).expect(rt, "ample memory");
+    }
+}
+
+fn rows_of(rt: &impl Abort, alloc: Global, rows: &str) -> Value {
     let mut values = Vec::new(alloc);
     for row in rows.split(';') {
-        if !row.is_empty() {
-            values.push(row_of(alloc, row)?)?;
-        }
+        put_row(rt, alloc, &mut values, row);
     }
-    Ok(Value::Array(values))
+    Value::Array(values)
 }
 
-fn answer_of(alloc: Global, text: &str) -> Result<Answered, AllocError> {
-    if let Some(number) = text.strip_prefix('!') {
-        return Ok(Answered::Fault(number_of(number), Text::fixed("TEXT")));
-    }
-    if let Some(content) = text.strip_prefix('\'') {
-        return Ok(Answered::Value(text_value(alloc, content)?));
-    }
-    if let Some(rows) = text.strip_prefix('[') {
-        return Ok(Answered::Value(rows_of(alloc, rows)?));
-    }
-    if let Some(pid) = text.strip_prefix('{') {
-        let mut members = Vec::new(alloc);
-        members.push((Text::fixed("pid"), Value::Int(number_of(pid))))?;
-        return Ok(Answered::Value(Value::Struct(members)));
-    }
-    Ok(Answered::Value(match text {
+fn process_of(rt: &impl Abort, alloc: Global, pid: &str) -> Value {
+    let mut members = Vec::new(alloc);
+    put_member(rt, &mut members, "pid", Value::Int(number_of(pid)));
+    Value::Struct(members)
+}
+
+/// A truth or a number.
+fn plain_value(text: &str) -> Value {
+    match text {
         "true" => Value::Truth(true),
         "false" => Value::Truth(false),
         number => Value::Int(number_of(number)),
-    }))
+    }
 }
 
-fn printed(alloc: Global, words: &str, answer: &str) -> Result<String, AllocError> {
-    let words = words_of(alloc, words)?;
-    let Some(steps) = steps_of(alloc, words.as_slice())? else {
-        return String::from_str(alloc, "none");
-    };
-    let [step] = steps.as_slice() else {
-        return String::from_str(alloc, "not one call");
-    };
-    match reply_shown(alloc, &step.line, &answer_of(alloc, answer)?)? {
-        Some(shown) => {
-            let status = shown.status.number();
-            let text = String::from_utf8_lossy(alloc, shown.text.as_slice())?;
-            let mut out = format!(in alloc; "{status} ")?;
-            for c in text.as_str().chars() {
-                out.push(if c == '\n' { '~' } else { c })?;
-            }
-            Ok(out)
-        }
-        None => String::from_str(alloc, "bad"),
+fn value_of(rt: &impl Abort, alloc: Global, text: &str) -> Value {
+    if let Some(content) = text.strip_prefix('\'') {
+        return text_value(rt, alloc, content);
     }
+    if let Some(rows) = text.strip_prefix('[') {
+        return rows_of(rt, alloc, rows);
+    }
+    match text.strip_prefix('{') {
+        Some(pid) => process_of(rt, alloc, pid),
+        None => plain_value(text),
+    }
+}
+
+fn answer_of(rt: &impl Abort, alloc: Global, text: &str) -> Answered {
+    match text.strip_prefix('!') {
+        Some(number) => Answered::Fault(number_of(number), Text::fixed("TEXT")),
+        None => Answered::Value(value_of(rt, alloc, text)),
+    }
+}
+
+/// A status and a text, in which `~` stands for a line feed.
+fn line_told(rt: &impl Abort, alloc: Global, status: u8, text: &str) -> String {
+    let mut out = String::new(alloc);
+    put_number(rt, &mut out, i64::from(status));
+    put(rt, &mut out, " ");
+    for letter in text.chars() {
+        put_letter(rt, &mut out, if letter == '\n' { '~' } else { letter });
+    }
+    out
+}
+
+fn shown_told(rt: &impl Abort, alloc: Global, shown: &Shown) -> String {
+    let text = String::from_utf8_lossy(alloc, shown.text.as_slice()).expect(rt, "ample memory");
+    line_told(rt, alloc, shown.status.number(), text.as_str())
+}
+
+fn reply_told(rt: &impl Abort, alloc: Global, line: &Line, answered: &Answered) -> String {
+    match reply_shown(alloc, line, answered).expect(rt, "ample memory") {
+        Some(shown) => shown_told(rt, alloc, &shown),
+        None => copy_of(rt, alloc, "bad"),
+    }
+}
+
+fn answer_told(rt: &impl Abort, alloc: Global, line: &Line, answer: &str) -> String {
+    let answered = answer_of(rt, alloc, answer);
+    reply_told(rt, alloc, line, &answered)
+}
+
+/// What the answer of the one call prints.
+fn one_told(rt: &impl Abort, alloc: Global, steps: &[Step], answer: &str) -> String {
+    match steps {
+        [step] => answer_told(rt, alloc, &step.line, answer),
+        _ => copy_of(rt, alloc, "not one call"),
+    }
+}
+
+/// What the answer of a command of these words prints.
+fn printed(rt: &impl Abort, alloc: Global, words: &[Text], answer: &str) -> String {
+    match steps_of(alloc, words).expect(rt, "ample memory") {
+        Some(steps) => one_told(rt, alloc, steps.as_slice(), answer),
+        None => copy_of(rt, alloc, "none"),
+    }
+}
+
+/// What the answer of a command of the words of this line prints.
+fn printed_of(rt: &impl Abort, alloc: Global, line: &str, answer: &str) -> String {
+    let words = words_of(rt, alloc, line);
+    printed(rt, alloc, words.as_slice(), answer)
+}
+
+fn prints(rt: &impl Abort, alloc: Global, words: &str, answer: &str, expected: &str) {
+    let text = printed_of(rt, alloc, words, answer);
+    assert_eq!(rt; text.as_str(), expected, "{words}: {answer}");
 }
 
 #[test]
@@ -247,7 +370,6 @@ fn answers_print_their_lines(rt: HostRuntime) {
     for line in ANSWERS.lines() {
         let (words, rest) = line.split_once('|').expect(&rt, "the words");
         let (answer, expected) = rest.split_once('|').expect(&rt, "an answer");
-        let text = printed(rt.alloc(), words, answer).expect(&rt, "ample memory");
-        assert_eq!(&rt; text.as_str(), expected, "{words}: {answer}");
+        prints(&rt, rt.alloc(), words, answer, expected);
     }
 }

@@ -1,6 +1,6 @@
 //! The watch, what accepts links, and the ticker.
 
-use crate::telling::{bytes_of, calls_of, lane_of, letter, notes_of};
+use crate::telling::{Lane, bytes_of, calls_of, holds, lane_of, letter, notes_of};
 use std::alloc::Global;
 use std::collections::VecDeque;
 use std::process::Abort;
@@ -9,61 +9,77 @@ use sv_base::{ExitSignal, How, Moment, Place, Run, Side, Text};
 use sv_jobs::{Note, accept_links, ticker, watch};
 use sv_lane::{Poster, Taker};
 use sv_out::{Link, Script, ScriptLink};
-use sv_outside::{FixedClock, ScriptListen, ScriptWaiter};
+use sv_outside::{FixedClock, PumpEnd, ScriptListen, ScriptWaiter};
+
+/// How a watch ended, and the notes that it posted.
+fn watched<R: Abort + Wait>(rt: &R, alloc: Global, waiter: &mut ScriptWaiter) -> (PumpEnd, String) {
+    let mut notes = lane_of(rt, alloc);
+    let came = watch(rt, waiter, Run(7), &mut notes.poster);
+    (came, notes_of(rt, alloc, &mut notes))
+}
+
+/// A watch ends so, with these notes.
+fn is_watched<R: Abort + Wait>(
+    rt: &R,
+    alloc: Global,
+    waiter: &mut ScriptWaiter,
+    expected: &str,
+    end: &str,
+) {
+    let (came, notes) = watched(rt, alloc, waiter);
+    let notes = notes.as_str();
+    let is_told = letter(came) == end && notes == expected;
+    holds(rt, is_told, expected, notes);
+}
 
 fn watch_one<R: Abort + Wait>(
     rt: &R,
     alloc: Global,
     how: How,
-    failing: &str,
+    failing: &[u64],
     expected: &str,
     end: &str,
 ) {
     let mut waiter = ScriptWaiter::new(how, calls_of(rt, alloc, failing));
-    let mut notes = lane_of(rt, alloc);
-    let came = watch(rt, &mut waiter, Run(7), &mut notes.poster);
-    let notes = notes_of(rt, alloc, &mut notes);
-    assert!(rt;
-        letter(came) == end && notes.as_str() == expected,
-        "{expected}: {notes}"
-    );
+    is_watched(rt, alloc, &mut waiter, expected, end);
 }
 
 #[test]
 fn a_watch_posts_one_exit(rt: HostRuntime) {
     let killed = ExitSignal::new(9).expect(&rt, "a signal");
-    for (how, failing, expected, end) in [
-        (How::Code(0), "", "0", "E"),
-        (How::Code(3), "2", "3", "E"),
-        (How::Code(3), "1", "255", "F"),
-        (How::Signal(killed), "", "signal-9", "E"),
-    ] {
-        watch_one(&rt, rt.alloc(), how, failing, expected, end);
-    }
+    watch_one(&rt, rt.alloc(), How::Code(0), &[], "0", "E");
+    watch_one(&rt, rt.alloc(), How::Code(3), &[2], "3", "E");
+    watch_one(&rt, rt.alloc(), How::Code(3), &[1], "255", "F");
+    watch_one(&rt, rt.alloc(), How::Signal(killed), &[], "signal-9", "E");
+}
+
+/// A link that gives this text.
+fn link_of(rt: &impl Abort, alloc: Global, text: &str) -> ScriptLink {
+    let script = Script::new(bytes_of(rt, alloc, text), 9, Vec::new(alloc));
+    ScriptLink::new(alloc, Place::Unix(Text::fixed("/s")), script)
 }
 
 /// The links of these texts.
-fn links_of(rt: &impl Abort, alloc: Global, texts: &str) -> VecDeque<ScriptLink> {
+fn links_of(rt: &impl Abort, alloc: Global, texts: &[&str]) -> VecDeque<ScriptLink> {
     let mut links = VecDeque::new(alloc);
-    for text in texts.split(' ') {
-        let script = Script::new(bytes_of(rt, alloc, text), 9, Vec::new(alloc));
+    for text in texts {
         links
-            .push_back(ScriptLink::new(alloc, Place::Unix(Text::fixed("/s")), script))
+            .push_back(link_of(rt, alloc, text))
             .expect(rt, "ample memory");
     }
     links
 }
 
-// Each line: the accept that is to fail; the notes of four accepts of the links a, b and c.
-const ACCEPTS: &str = "\
-|o o o
-1|o o o
-2|o o o
-3|o o o
-4|o o o
-12|o o
-123|o
-";
+/// The accepts that are to fail; the notes of four accepts of the links a, b and c.
+const ACCEPTS: [(&[u64], &str); 7] = [
+    (&[], "o o o"),
+    (&[1], "o o o"),
+    (&[2], "o o o"),
+    (&[3], "o o o"),
+    (&[4], "o o o"),
+    (&[1, 2], "o o"),
+    (&[1, 2, 3], "o"),
+];
 
 /// The notes of four accepts, whose links are posted here.
 fn heard<R: Abort + Wait>(
@@ -77,53 +93,83 @@ fn heard<R: Abort + Wait>(
     notes_of(rt, alloc, &mut notes)
 }
 
-/// The next link gives this byte.
-fn link_gives<R: Abort + Wait>(rt: &R, links: &mut Taker<ScriptLink>, byte: u8, line: &str) {
-    let mut link = links.take(rt);
+/// Whether a link gives this byte at first.
+fn gives(link: &mut ScriptLink, byte: u8) -> bool {
     let mut buffer = [0u8; 2];
-    assert!(rt;
-        link.read(&mut buffer).is_ok() && buffer[0] == byte,
-        "{line}"
-    );
+    link.read(&mut buffer).is_ok() && buffer[0] == byte
 }
 
-fn accept_line<R: Abort + Wait>(rt: &R, alloc: Global, line: &str) {
-    let (failing, expected) = line.split_once('|').expect(rt, "the calls");
-    let mut listen = ScriptListen::new(links_of(rt, alloc, "a b c"), calls_of(rt, alloc, failing));
-    let mut links = lane_of(rt, alloc);
-    let notes = heard(rt, alloc, &mut listen, &mut links.poster);
-    assert!(rt;
-        notes.as_str() == expected && listen.given().wrapping_add(listen.faults()) == 4,
-        "{line}: {notes}"
-    );
+/// The next links, so many of them, give `a`, `b` and `c`.
+fn links_give<R: Abort + Wait>(rt: &R, links: &mut Taker<ScriptLink>, given: u64) {
     for (count, byte) in [b'a', b'b', b'c'].iter().enumerate() {
-        if count as u64 >= listen.given() {
+        if count as u64 >= given {
             break;
         }
-        link_gives(rt, &mut links.taker, *byte, line);
+        assert!(rt; gives(&mut links.take(rt), *byte), "{count}");
     }
+}
+
+/// Four accepts post these notes.
+fn is_accepted<R: Abort + Wait>(
+    rt: &R,
+    alloc: Global,
+    listen: &mut ScriptListen,
+    links: &mut Poster<ScriptLink>,
+    expected: &str,
+) {
+    let notes = heard(rt, alloc, listen, links);
+    let notes = notes.as_str();
+    let is_told = notes == expected && listen.given().wrapping_add(listen.faults()) == 4;
+    holds(rt, is_told, expected, notes);
+}
+
+/// Four accepts of the links post these notes, and the links are posted too.
+fn are_accepted<R: Abort + Wait>(rt: &R, alloc: Global, listen: &mut ScriptListen, expected: &str) {
+    let mut links = lane_of(rt, alloc);
+    is_accepted(rt, alloc, listen, &mut links.poster, expected);
+    links_give(rt, &mut links.taker, listen.given());
+}
+
+/// What accepts the links a, b and c, and fails at these accepts.
+fn listen_of(rt: &impl Abort, alloc: Global, failing: &[u64]) -> ScriptListen {
+    ScriptListen::new(
+        links_of(rt, alloc, &["a", "b", "c"]),
+        calls_of(rt, alloc, failing),
+    )
 }
 
 #[test]
 fn each_accepted_link_is_posted_with_its_open(rt: HostRuntime) {
-    for line in ACCEPTS.lines() {
-        accept_line(&rt, rt.alloc(), line);
+    for (failing, expected) in &ACCEPTS {
+        let mut listen = listen_of(&rt, rt.alloc(), failing);
+        are_accepted(&rt, rt.alloc(), &mut listen, expected);
     }
+}
+
+/// A clock with room for three pauses.
+fn clock_of(rt: &impl Abort, alloc: Global) -> FixedClock {
+    FixedClock::new(alloc, Moment::zero(), VecDeque::new(alloc), 3).expect(rt, "ample memory")
+}
+
+/// Three ticks were posted, and no other note before this one.
+fn are_ticks<R: Abort + Wait>(rt: &R, notes: &mut Lane<Note>) {
+    notes.poster.post(rt, Note::NoMemory);
+    for _ in 0..3 {
+        assert!(rt; matches!(&notes.taker.take(rt), Note::Tick));
+    }
+    assert!(rt; matches!(&notes.taker.take(rt), Note::NoMemory));
+}
+
+/// A ticker posts three ticks by this clock.
+fn ticks<R: Abort + Wait>(rt: &R, alloc: Global, clock: &mut FixedClock) {
+    let mut notes = lane_of(rt, alloc);
+    ticker(rt, clock, 3, &mut notes.poster);
+    are_ticks(rt, &mut notes);
 }
 
 #[test]
 fn a_ticker_pauses_before_each_tick(rt: HostRuntime) {
-    let alloc = rt.alloc();
-    let mut clock = FixedClock::new(alloc, Moment::zero(), VecDeque::new(alloc), 3).expect(
-        &rt,
-        "ample memory",
-    );
-    let mut notes = lane_of(&rt, alloc);
-    ticker(&rt, &mut clock, 3, &mut notes.poster);
-    notes.poster.post(&rt, Note::NoMemory);
-    for _ in 0..3 {
-        assert!(rt; matches!(notes.taker.take(&rt), Note::Tick));
-    }
-    assert!(rt; matches!(notes.taker.take(&rt), Note::NoMemory));
+    let mut clock = clock_of(&rt, rt.alloc());
+    ticks(&rt, rt.alloc(), &mut clock);
     assert!(rt; clock.pauses().expect(&rt, "all told") == [1_000, 1_000, 1_000].as_slice());
 }

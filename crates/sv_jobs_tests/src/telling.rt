@@ -1,13 +1,12 @@
 //! Lanes for the tests, and notes as texts.
 
-ghost use Rattle.std.specs.Prelude.{◌≤◌};
-
 use std::alloc::Global;
 use std::process::Abort;
 use std::sync::Wait;
 use sv_base::{How, Side, Signal};
 use sv_jobs::Note;
 use sv_lane::{Poster, Taker, lane};
+use sv_out::source::ListSource;
 use sv_outside::PumpEnd;
 
 /// The taker of a lane and its one poster.
@@ -29,28 +28,25 @@ pub(crate) fn bytes_of(rt: &impl Abort, alloc: Global, text: &str) -> Vec<u8> {
     Vec::from_slice(alloc, text.as_bytes()).expect(rt, "ample memory")
 }
 
-/// The numbers of calls, each of one digit.
-pub(crate) fn calls_of(rt: &impl Abort, alloc: Global, text: &str) -> Vec<u64> {
-    let mut calls = Vec::new(alloc);
-    for byte in text.as_bytes() {
-        calls
-            .push(u64::from(byte.saturating_sub(b'0')))
-            .expect(rt, "ample memory");
-    }
-    calls
+/// The numbers of these calls.
+pub(crate) fn calls_of(rt: &impl Abort, alloc: Global, failing: &[u64]) -> Vec<u64> {
+    Vec::from_slice(alloc, failing).expect(rt, "ample memory")
 }
 
-/// The most bytes of a call.
-pub(crate) fn most_of(text: &str) -> usize
-    ensures { 1 ≤ result }
-{
-    match text {
-        "1" => 1,
-        "2" => 2,
-        "3" => 3,
-        "65536" => 65_536,
-        _ => 9,
-    }
+/// A source of this text that gives so many bytes in a read, and fails at these reads.
+pub(crate) fn source_of(
+    rt: &impl Abort,
+    alloc: Global,
+    text: &str,
+    most: usize,
+    failing: &[u64],
+) -> ListSource {
+    assert!(rt; 1 <= most);
+    ListSource::new(
+        bytes_of(rt, alloc, text),
+        most,
+        calls_of(rt, alloc, failing),
+    )
 }
 
 /// A letter for the end of a job.
@@ -67,36 +63,102 @@ pub(crate) fn letter(end: PumpEnd) -> &'static str {
 pub(crate) fn notes_of<R: Abort + Wait>(rt: &R, alloc: Global, notes: &mut Lane<Note>) -> String {
     notes.poster.post(rt, Note::Tick);
     let mut text = String::new(alloc);
-    for _ in 0..64 {
-        let note = notes.taker.take(rt);
-        if let Note::Tick = note {
-            break;
-        }
-        if !text.as_str().is_empty() {
-            text.push(' ').expect(rt, "ample memory");
-        }
-        add_note(rt, alloc, &mut text, &note);
-    }
+    add_notes(rt, alloc, &mut text, &mut notes.taker);
     text
 }
 
-fn add_note(rt: &impl Abort, alloc: Global, text: &mut String, note: &Note) {
-    let word = match note {
-        Note::Tick => format!(in alloc; "tick"),
-        Note::Exit(_, How::Code(code)) => format!(in alloc; "{code}"),
-        Note::Exit(_, How::Signal(signal)) => format!(in alloc; "signal-{}", signal.get()),
-        Note::Out(_, _, piece) | Note::Piece(_, piece) => {
-            String::from_utf8_lossy(alloc, piece.as_slice())
+/// Adds the notes up to a tick.
+fn add_notes<R: Abort + Wait>(rt: &R, alloc: Global, text: &mut String, taker: &mut Taker<Note>) {
+    for _ in 0..64 {
+        if !is_added(rt, alloc, text, &taker.take(rt)) {
+            return;
         }
-        Note::OutEnd(_, _) | Note::LinkEnd(_) | Note::StdinEnd(_) => format!(in alloc; "."),
-        Note::Open(Side::Inet) => format!(in alloc; "o"),
-        Note::Open(Side::Unix) => format!(in alloc; "u"),
-        Note::Signal(signal) => format!(in alloc; "!{}", signal.get().name()),
-        Note::Start(name) => format!(in alloc; "+{}", name.as_str()),
-        Note::Stop(name) => format!(in alloc; "-{}", name.as_str()),
-        Note::Wrote(_) | Note::Sent(_) => format!(in alloc; "s"),
-        Note::NoMemory => format!(in alloc; "?"),
-    };
-    text.push_str(word.expect(rt, "ample memory").as_str())
-        .expect(rt, "ample memory");
+    }
+}
+
+/// Adds a note, unless it is a tick: whether it did.
+fn is_added(rt: &impl Abort, alloc: Global, text: &mut String, note: &Note) -> bool {
+    if let Note::Tick = note {
+        return false;
+    }
+    if !text.as_str().is_empty() {
+        push(rt, text, " ");
+    }
+    add_note(rt, alloc, text, note);
+    true
+}
+
+fn push(rt: &impl Abort, text: &mut String, word: &str) {
+    text.push_str(word).expect(rt, "ample memory");
+}
+
+/// Adds a number behind a word.
+fn push_number(rt: &impl Abort, alloc: Global, text: &mut String, word: &str, number: u32) {
+    let number = format!(in alloc; "{word}{number}").expect(rt, "ample memory");
+    push(rt, text, number.as_str());
+}
+
+/// Adds the text of a piece.
+fn push_piece(rt: &impl Abort, alloc: Global, text: &mut String, piece: &[u8]) {
+    let piece = String::from_utf8_lossy(alloc, piece).expect(rt, "ample memory");
+    push(rt, text, piece.as_str());
+}
+
+/// Adds a name behind a word.
+fn push_name(rt: &impl Abort, text: &mut String, word: &str, name: &str) {
+    push(rt, text, word);
+    push(rt, text, name);
+}
+
+fn add_note(rt: &impl Abort, alloc: Global, text: &mut String, note: &Note) {
+    match note {
+        Note::Tick => push(rt, text, "tick"),
+        Note::Exit(_, How::Code(code)) => push_number(rt, alloc, text, "", u32::from(*code)),
+        Note::Exit(_, How::Signal(signal)) => push_number(rt, alloc, text, "signal-", signal.get()),
+        Note::Out(_, _, piece) | Note::Piece(_, piece) => {
+            push_piece(rt, alloc, text, piece.as_slice())
+        }
+        Note::OutEnd(_, _) | Note::LinkEnd(_) | Note::StdinEnd(_) => push(rt, text, "."),
+        Note::Open(Side::Inet) => push(rt, text, "o"),
+        Note::Open(Side::Unix) => push(rt, text, "u"),
+        Note::Signal(signal) => push_name(rt, text, "!", signal.get().name()),
+        Note::Start(name) => push_name(rt, text, "+", name.as_str()),
+        Note::Stop(name) => push_name(rt, text, "-", name.as_str()),
+        Note::Wrote(_) | Note::Sent(_) => push(rt, text, "s"),
+        Note::NoMemory => push(rt, text, "?"),
+    }
+}
+
+/// What a line says of a job: the notes that it posts, and how it ends.
+#[derive(Drop)]
+pub(crate) struct Course<'a> {
+    pub(crate) notes: &'a str,
+    pub(crate) end: &'a str,
+}
+
+/// Whether a job that ended so, at so many faults, with these notes, is as its line says; where memory was refused, whether its notes
+/// end so.
+pub(crate) fn is_told(
+    course: &Course<'_>,
+    came: PumpEnd,
+    faults: u64,
+    notes: &str,
+    refused: &str,
+) -> bool {
+    match came {
+        PumpEnd::OutOfMemory => notes.ends_with(refused),
+        _ => is_course(course, came, faults, notes),
+    }
+}
+
+/// Whether a job that ended so, at so many faults, with these notes, is as its line says.
+pub(crate) fn is_course(course: &Course<'_>, came: PumpEnd, faults: u64, notes: &str) -> bool {
+    letter(came) == course.end
+        && notes == course.notes
+        && (faults == 1) == (came == PumpEnd::Failed)
+}
+
+/// A line is as it was told; else the test ends, and says which notes there were.
+pub(crate) fn holds(rt: &impl Abort, is_told: bool, line: &str, notes: &str) {
+    assert!(rt; is_told, "{line}: {notes}");
 }

@@ -60,17 +60,35 @@ struct Jobs {
     words: Poster<StdinWord>,
 }
 
+/// A pump of a thousand bytes, one at a time, in a thread of its own.
+fn start_out<R: Abort + Threads + Wait + Copy + Send + 'static>(
+    rt: R,
+    alloc: Global,
+    seats: &mut Seats<Note>,
+) -> JoinHandle<PumpEnd> {
+    let source = source_of(&rt, alloc, b'o', 1_000, true);
+    start_pump(rt, alloc, source, Stream::Out, seats)
+}
+
+/// A pump of a hundred thousand bytes in a thread of its own.
+fn start_err<R: Abort + Threads + Wait + Copy + Send + 'static>(
+    rt: R,
+    alloc: Global,
+    seats: &mut Seats<Note>,
+) -> JoinHandle<PumpEnd> {
+    let source = source_of(&rt, alloc, b'e', 100_000, false);
+    start_pump(rt, alloc, source, Stream::Err, seats)
+}
+
 fn start_jobs<R: Abort + Threads + Wait + Copy + Send + 'static>(
     rt: R,
     alloc: Global,
     seats: &mut Seats<Note>,
 ) -> Jobs {
     let Lane { taker, poster } = lane_of(&rt, alloc);
-    let out = source_of(&rt, alloc, b'o', 1_000, true);
-    let err = source_of(&rt, alloc, b'e', 100_000, false);
     Jobs {
-        out: start_pump(rt, alloc, out, Stream::Out, seats),
-        err: start_pump(rt, alloc, err, Stream::Err, seats),
+        out: start_out(rt, alloc, seats),
+        err: start_err(rt, alloc, seats),
         stdin: start_writer(rt, alloc, taker, seats),
         words: poster,
     }
@@ -85,33 +103,58 @@ fn post_words<R: Abort + Wait>(rt: &R, alloc: Global, words: &mut Poster<StdinWo
     words.post(rt, StdinWord::Close);
 }
 
+/// What was heard of the jobs.
+#[derive(Drop)]
+struct Heard {
+    out_bytes: usize,
+    err_bytes: usize,
+    wrote: u8,
+    ends: u8,
+}
+
+/// Counts a note.
+fn count(rt: &impl Abort, heard: &mut Heard, note: &Note) {
+    match note {
+        Note::Out(_, Stream::Out, piece) => {
+            heard.out_bytes = heard.out_bytes.wrapping_add(piece.as_slice().len())
+        }
+        Note::Out(_, Stream::Err, piece) => {
+            heard.err_bytes = heard.err_bytes.wrapping_add(piece.as_slice().len())
+        }
+        Note::Wrote(_) => heard.wrote = heard.wrote.wrapping_add(1),
+        Note::OutEnd(_, _) | Note::StdinEnd(_) => heard.ends = heard.ends.wrapping_add(1),
+        note => assert!(rt; false, "{note:?}"),
+    }
+}
+
 /// Hears all bytes of both streams, a whole write and three ends.
 fn hear_jobs<R: Abort + Wait>(rt: &R, notes: &mut Taker<Note>) {
-    let (mut out_bytes, mut err_bytes, mut wrote, mut ends) = (0usize, 0usize, 0u8, 0u8);
+    let mut heard = Heard {
+        out_bytes: 0,
+        err_bytes: 0,
+        wrote: 0,
+        ends: 0,
+    };
     for _ in 0..2_000 {
-        if ends == 3 {
+        if heard.ends == 3 {
             break;
         }
-        match notes.take(rt) {
-            Note::Out(_, Stream::Out, piece) => {
-                out_bytes = out_bytes.wrapping_add(piece.as_slice().len())
-            }
-            Note::Out(_, Stream::Err, piece) => {
-                err_bytes = err_bytes.wrapping_add(piece.as_slice().len())
-            }
-            Note::Wrote(_) => wrote = wrote.wrapping_add(1),
-            Note::OutEnd(_, _) | Note::StdinEnd(_) => ends = ends.wrapping_add(1),
-            note => assert!(rt; false, "{note:?}"),
-        }
+        count(rt, &mut heard, &notes.take(rt));
     }
-    assert!(rt; out_bytes == 1_000 && err_bytes == 100_000 && wrote == 1 && ends == 3);
+    assert!(rt; heard.out_bytes == 1_000 && heard.err_bytes == 100_000);
+    assert!(rt; heard.wrote == 1 && heard.ends == 3);
+}
+
+/// A job ends.
+fn ends<R: Abort + Threads>(rt: &R, job: JoinHandle<PumpEnd>) {
+    assert!(rt; job.join(rt) == PumpEnd::Ended);
 }
 
 /// All three jobs end.
 fn join_jobs<R: Abort + Threads>(rt: &R, jobs: Jobs) {
-    assert!(rt; jobs.out.join(rt) == PumpEnd::Ended);
-    assert!(rt; jobs.err.join(rt) == PumpEnd::Ended);
-    assert!(rt; jobs.stdin.join(rt) == PumpEnd::Ended);
+    ends(rt, jobs.out);
+    ends(rt, jobs.err);
+    ends(rt, jobs.stdin);
 }
 
 #[test]

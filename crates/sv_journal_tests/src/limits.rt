@@ -7,16 +7,19 @@ use std::process::Abort;
 /// The most bytes of a line.
 const MOST: usize = 4_194_304;
 
+/// Adds a part so many times.
+pub(crate) fn put_times(rt: &impl Abort, line: &mut String, part: &str, count: usize) {
+    for _ in 0..count {
+        line.push_str(part).expect(rt, "memory");
+    }
+}
+
 /// A line with this prefix and so many bytes.
 fn line_of(rt: &impl Abort, alloc: Global, prefix: &str, length: usize) -> String {
     let mut line = String::from_str(alloc, prefix).expect(rt, "memory");
     let left = length.saturating_sub(prefix.len());
-    for _ in 0..left / 16 {
-        line.push_str("abcdefghijklmnop").expect(rt, "memory");
-    }
-    for _ in 0..left % 16 {
-        line.push('q').expect(rt, "memory");
-    }
+    put_times(rt, &mut line, "abcdefghijklmnop", left / 16);
+    put_times(rt, &mut line, "q", left % 16);
     line
 }
 

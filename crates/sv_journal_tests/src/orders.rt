@@ -68,24 +68,41 @@ const KILLS: [(u32, Signal, bool, &str); 8] = [
     ),
 ];
 
+/// The order that reports this edge.
+fn report(from: State, to: State) -> Order {
+    Order::State {
+        group: Text::fixed("g"),
+        name: Text::fixed("a b"),
+        from,
+        to,
+    }
+}
+
+fn is_report(rt: &impl Abort, alloc: Global, from: State, to: State, line: &str) {
+    let report = report(from, to);
+    is_order(rt, alloc, &report, line);
+}
+
+fn kill(run: u32, signal: Signal, group: bool) -> Order {
+    Order::Kill {
+        run: Run(run),
+        signal,
+        group,
+    }
+}
+
+fn is_kill(rt: &impl Abort, alloc: Global, run: u32, signal: Signal, group: bool, line: &str) {
+    let kill = kill(run, signal, group);
+    is_order(rt, alloc, &kill, line);
+}
+
 #[test]
 fn reports_and_kills_are_written(rt: HostRuntime) {
     for (from, to, line) in &STATES {
-        let state = Order::State {
-            group: Text::fixed("g"),
-            name: Text::fixed("a b"),
-            from: *from,
-            to: *to,
-        };
-        is_order(&rt, rt.alloc(), &state, line);
+        is_report(&rt, rt.alloc(), *from, *to, line);
     }
     for (run, signal, group, line) in &KILLS {
-        let kill = Order::Kill {
-            run: Run(*run),
-            signal: *signal,
-            group: *group,
-        };
-        is_order(&rt, rt.alloc(), &kill, line);
+        is_kill(&rt, rt.alloc(), *run, *signal, *group, line);
     }
 }
 
@@ -204,17 +221,30 @@ fn bytes(rt: &impl Abort, alloc: Global, bytes: &[u8]) -> Bytes {
     Bytes::from_slice(alloc, bytes).expect(rt, "memory")
 }
 
+fn is_of_name(rt: &impl Abort, alloc: Global, ordered: OfName, name: &'static str, line: &str) {
+    let order = of_name(rt, alloc, ordered, Text::fixed(name));
+    is_order(rt, alloc, &order, line);
+}
+
+fn is_of_number(rt: &impl Abort, alloc: Global, ordered: OfNumber, number: u32, line: &str) {
+    let order = of_number(rt, alloc, ordered, number);
+    is_order(rt, alloc, &order, line);
+}
+
+fn is_halt(rt: &impl Abort, alloc: Global, line: &str) {
+    let order = Order::Halt;
+    is_order(rt, alloc, &order, line);
+}
+
 #[test]
 fn other_orders_are_written(rt: HostRuntime) {
-    for (ordered, name, line) in OF_NAMES {
-        let order = of_name(&rt, rt.alloc(), ordered, Text::fixed(name));
-        is_order(&rt, rt.alloc(), &order, line);
+    for (ordered, name, line) in &OF_NAMES {
+        is_of_name(&rt, rt.alloc(), *ordered, *name, line);
     }
-    for (ordered, number, line) in OF_NUMBERS {
-        let order = of_number(&rt, rt.alloc(), ordered, number);
-        is_order(&rt, rt.alloc(), &order, line);
+    for (ordered, number, line) in &OF_NUMBERS {
+        is_of_number(&rt, rt.alloc(), *ordered, *number, line);
     }
-    is_order(&rt, rt.alloc(), &Order::Halt, "halt");
+    is_halt(&rt, rt.alloc(), "halt");
 }
 
 fn texts(rt: &impl Abort, alloc: Global, words: &[&'static str]) -> Items<Text> {
@@ -304,10 +334,14 @@ fn spawn(rt: &impl Abort, alloc: Global, spawned: &Spawned) -> SpawnOrder {
     }
 }
 
+fn is_spawn(rt: &impl Abort, alloc: Global, spawned: &Spawned) {
+    let order = Order::Spawn(spawn(rt, alloc, spawned));
+    is_order(rt, alloc, &order, spawned.line);
+}
+
 #[test]
 fn spawns_are_written(rt: HostRuntime) {
     for spawned in &SPAWNS {
-        let order = Order::Spawn(spawn(&rt, rt.alloc(), spawned));
-        is_order(&rt, rt.alloc(), &order, spawned.line);
+        is_spawn(&rt, rt.alloc(), spawned);
     }
 }

@@ -1,6 +1,7 @@
 //! Lines are read or break at their column, and are read as what they say.
 
 use crate::columns::{Kind, column};
+use crate::limits::put_times;
 use crate::lines::{
     ANSWERS, FILES, HEADERS, INPUTS, LINKS, LONG_HEADERS, LONG_PIECES, NAMES, PIECES, SIZES,
 };
@@ -93,19 +94,29 @@ fn long_line(
     end: &str,
 ) -> String {
     let mut line = String::from_str(alloc, begin).expect(rt, "memory");
-    for _ in 0..count {
-        line.push_str(unit).expect(rt, "memory");
-    }
+    put_times(rt, &mut line, unit, count);
     line.push_str(end).expect(rt, "memory");
     line
+}
+
+/// The column at which such a line breaks.
+fn column_of_long(
+    rt: &impl Abort,
+    alloc: Global,
+    begin: &str,
+    unit: &str,
+    count: usize,
+    end: &str,
+) -> Option<usize> {
+    let line = long_line(rt, alloc, begin, unit, count, end);
+    column(rt, alloc, Kind::Input, line.as_str())
 }
 
 #[test]
 fn a_piece_has_at_most_65536_bytes(rt: HostRuntime) {
     let alloc = rt.alloc();
     for (begin, unit, count, end, wanted) in &LONG_PIECES {
-        let line = long_line(&rt, alloc, begin, unit, *count, end);
-        let found = column(&rt, alloc, Kind::Input, line.as_str());
+        let found = column_of_long(&rt, alloc, begin, unit, *count, end);
         assert!(&rt; found == *wanted, "{begin}");
     }
 }
@@ -163,13 +174,17 @@ const READ_HEADERS: [(&str, Wanted); 13] = [
     ("include a.conf %80~", Wanted::Include("a.conf", b"\x80~")),
 ];
 
+/// Whether the line is read as it is to be.
+fn is_read_as(alloc: Global, line: &str, wanted: Wanted) -> bool {
+    match read_header(alloc, line.as_bytes()) {
+        Ok(header) => is_wanted(&header, wanted),
+        Err(_) => false,
+    }
+}
+
 #[test]
 fn headers_are_read(rt: HostRuntime) {
-    for (line, wanted) in READ_HEADERS {
-        let header = read_header(rt.alloc(), line.as_bytes());
-        match &header {
-            Ok(header) => assert!(&rt; is_wanted(header, wanted), "{line}"),
-            Err(_) => panic!(&rt; "{line}"),
-        }
+    for (line, wanted) in &READ_HEADERS {
+        assert!(&rt; is_read_as(rt.alloc(), line, *wanted), "{line}");
     }
 }

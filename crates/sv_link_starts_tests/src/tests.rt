@@ -83,6 +83,11 @@ fn open(rt: &impl Abort, links: &mut TestLinks) -> u32 {
     }
 }
 
+/// Takes in a link, which gets this number.
+fn is_opened(rt: &impl Abort, links: &mut TestLinks, number: u32) {
+    assert!(rt; open(rt, links) == number);
+}
+
 /// The first order of a link, where it isn't a Close.
 fn start(
     rt: &impl Abort,
@@ -95,13 +100,23 @@ fn start(
     start_link(alloc, links, &mut seats, gate, LinkId(link)).expect(rt, "ample memory")
 }
 
+/// Takes in a link with the number 1, and starts it.
+fn open_and_start(rt: &impl Abort, alloc: Global, links: &mut TestLinks, gate: &mut TestGate) {
+    is_opened(rt, links, 1);
+    assert!(rt; start(rt, alloc, links, gate, 1));
+}
+
+/// Starts a link with the number 1.
+fn start_one(rt: &impl Abort, alloc: Global, links: &mut TestLinks) {
+    let mut gate = gate_of(rt, alloc, 9);
+    open_and_start(rt, alloc, links, &mut gate);
+    let _held = gate.into_gate();
+}
+
 /// Links of which one, with the number 1, was started.
 fn one_link(rt: &impl Abort, alloc: Global) -> TestLinks {
     let mut links: TestLinks = LiveLinks::new(alloc);
-    let mut gate = gate_of(rt, alloc, 9);
-    assert!(rt; open(rt, &mut links) == 1);
-    assert!(rt; start(rt, alloc, &mut links, &mut gate, 1));
-    let _held = gate.into_gate();
+    start_one(rt, alloc, &mut links);
     links
 }
 
@@ -112,157 +127,203 @@ fn send<R: Abort + Wait>(rt: &R, alloc: Global, links: &mut TestLinks, link: u32
         .expect(rt, "ample memory")
 }
 
-/// The links whose jobs a gate kept, each as a digit.
-fn words_of(rt: &impl Abort, alloc: Global, gate: TestGate) -> String {
-    let mut text = String::new(alloc);
-    let held = gate.into_gate();
-    for job in held.jobs() {
-        text.push(word_letter(job.word()))
-            .expect(rt, "ample memory");
+/// These jobs are those of the links of these digits.
+fn are_words(rt: &impl Abort, jobs: &[TestJob], digits: &str) {
+    assert!(rt; jobs.len() == digits.len());
+    for (job, digit) in jobs.iter().zip(digits.as_bytes()) {
+        assert!(rt; word_digit(job.word()) == *digit);
     }
-    text
 }
 
-fn word_letter(word: JobWord) -> char {
+/// A gate kept the jobs of the links of these digits.
+fn kept(rt: &impl Abort, gate: TestGate, digits: &str) {
+    let held = gate.into_gate();
+    are_words(rt, held.jobs(), digits);
+}
+
+fn word_digit(word: JobWord) -> u8 {
     match word {
-        JobWord::Link(LinkId(1)) => '1',
-        JobWord::Link(LinkId(2)) => '2',
-        JobWord::Link(LinkId(3)) => '3',
-        _ => '?',
+        JobWord::Link(LinkId(1)) => b'1',
+        JobWord::Link(LinkId(2)) => b'2',
+        JobWord::Link(LinkId(3)) => b'3',
+        _ => b'?',
     }
+}
+
+/// Two links are started in the other order than they came, each once.
+fn are_started_once(rt: &impl Abort, alloc: Global, links: &mut TestLinks, gate: &mut TestGate) {
+    is_opened(rt, links, 1);
+    is_opened(rt, links, 2);
+    assert!(rt; links.waiting.len() == 2);
+    assert!(rt; start(rt, alloc, links, gate, 2));
+    assert!(rt; start(rt, alloc, links, gate, 1));
+    assert!(rt; start(rt, alloc, links, gate, 2));
+    assert!(rt; start(rt, alloc, links, gate, 9));
+    assert!(rt; links.waiting.is_empty());
+    assert!(rt; links.lives.len() == 2);
+    is_opened(rt, links, 3);
 }
 
 #[test]
 fn links_are_numbered_and_started_once(rt: HostRuntime) {
-    let alloc = rt.alloc();
-    let mut links: TestLinks = LiveLinks::new(alloc);
-    let mut gate = gate_of(&rt, alloc, 9);
-    assert!(rt; open(&rt, &mut links) == 1);
-    assert!(rt; open(&rt, &mut links) == 2);
-    assert!(rt; links.waiting.len() == 2);
-    assert!(rt; start(&rt, alloc, &mut links, &mut gate, 2));
-    assert!(rt; start(&rt, alloc, &mut links, &mut gate, 1));
-    assert!(rt; start(&rt, alloc, &mut links, &mut gate, 2));
-    assert!(rt; start(&rt, alloc, &mut links, &mut gate, 9));
-    assert!(rt; links.waiting.is_empty());
-    assert!(rt; links.lives.len() == 2);
-    assert!(rt; open(&rt, &mut links) == 3);
-    assert_eq!(rt; words_of(&rt, alloc, gate).as_str(), "21");
+    let mut links: TestLinks = LiveLinks::new(rt.alloc());
+    let mut gate = gate_of(&rt, rt.alloc(), 9);
+    are_started_once(&rt, rt.alloc(), &mut links, &mut gate);
+    kept(&rt, gate, "21");
+}
+
+/// Sends sixteen times, which all are taken.
+fn send_16<R: Abort + Wait>(rt: &R, alloc: Global, links: &mut TestLinks) {
+    for _ in 0..16 {
+        assert!(rt; send(rt, alloc, links, 1) == Handed::Done);
+    }
+}
+
+/// The 17th send that isn't written yet fails.
+fn fails_at_17<R: Abort + Wait>(rt: &R, alloc: Global, links: &mut TestLinks) {
+    send_16(rt, alloc, links);
+    links.sent(LinkId(2));
+    links.sent(LinkId(1));
+    assert!(rt; send(rt, alloc, links, 1) == Handed::Done);
+    assert!(rt; send(rt, alloc, links, 1) == Handed::Failed);
 }
 
 #[test]
 fn the_17th_unwritten_send_fails(rt: HostRuntime) {
-    let alloc = rt.alloc();
-    let mut links = one_link(&rt, alloc);
-    for _ in 0..16 {
-        assert!(rt; send(&rt, alloc, &mut links, 1) == Handed::Done);
-    }
-    links.sent(LinkId(2));
-    links.sent(LinkId(1));
-    assert!(rt; send(&rt, alloc, &mut links, 1) == Handed::Done);
-    assert!(rt; send(&rt, alloc, &mut links, 1) == Handed::Failed);
+    let mut links = one_link(&rt, rt.alloc());
+    fails_at_17(&rt, rt.alloc(), &mut links);
 }
 
-/// The words to the job of the one link that a gate kept, up to its Close: `m` for a More, `s` for a Send, `.` for the
-/// Close.
-fn link_words<R: Abort + Wait>(rt: &R, alloc: Global, gate: TestGate) -> String {
-    let mut text = String::new(alloc);
-    let mut jobs = gate.into_gate().into_jobs();
-    let Some(AnyJob::Link(mut job)) = jobs.pop() else {
-        return text;
-    };
-    for _ in 0..40 {
-        let letter = match job.words.take(rt) {
-            LinkWord::More => 'm',
-            LinkWord::Send(_) => 's',
-            LinkWord::Close => '.',
-        };
-        text.push(letter).expect(rt, "ample memory");
-        if letter == '.' {
-            break;
-        }
+/// A letter for a word to the job of a link: `m` for a More, `s` for a Send, `.` for the Close.
+fn letter(word: &LinkWord) -> u8 {
+    match word {
+        LinkWord::More => b'm',
+        LinkWord::Send(_) => b's',
+        LinkWord::Close => b'.',
     }
-    text
+}
+
+/// The words to this job, that of a link, are those of these letters.
+fn is_told<R: Abort + Wait>(rt: &R, job: &mut TestJob, letters: &str) {
+    match job {
+        AnyJob::Link(job) => {
+            for expected in letters.as_bytes() {
+                assert!(rt; letter(&job.words.take(rt)) == *expected);
+            }
+        }
+        _ => assert!(rt; false),
+    }
+}
+
+/// The words to the job of the one link that a gate kept, up to its Close, are those of these letters.
+fn are_link_words<R: Abort + Wait>(rt: &R, gate: TestGate, letters: &str) {
+    let mut jobs = gate.into_gate().into_jobs();
+    is_told(rt, jobs.last_mut().expect(rt, "a job"), letters);
+}
+
+/// A link whose order fails is closed.
+fn is_closed_once<R: Abort + Wait>(
+    rt: &R,
+    alloc: Global,
+    links: &mut TestLinks,
+    gate: &mut TestGate,
+) {
+    open_and_start(rt, alloc, links, gate);
+    assert!(rt; links.more(rt, LinkId(1)) == Handed::Done);
+    send_16(rt, alloc, links);
+    assert!(rt; send(rt, alloc, links, 1) == Handed::Failed);
+    assert!(rt; links.more(rt, LinkId(1)) == Handed::Failed);
 }
 
 #[test]
 fn a_link_with_a_failed_order_is_closed_once(rt: HostRuntime) {
-    let alloc = rt.alloc();
-    let mut links: TestLinks = LiveLinks::new(alloc);
-    let mut gate = gate_of(&rt, alloc, 9);
-    assert!(rt; open(&rt, &mut links) == 1);
-    assert!(rt; start(&rt, alloc, &mut links, &mut gate, 1));
-    assert!(rt; links.more(&rt, LinkId(1)) == Handed::Done);
-    for _ in 0..16 {
-        assert!(rt; send(&rt, alloc, &mut links, 1) == Handed::Done);
+    let mut links: TestLinks = LiveLinks::new(rt.alloc());
+    let mut gate = gate_of(&rt, rt.alloc(), 9);
+    is_closed_once(&rt, rt.alloc(), &mut links, &mut gate);
+    are_link_words(&rt, gate, "mssssssssssssssss.");
+}
+
+/// Each order fails.
+fn all_fail<R: Abort + Wait>(rt: &R, alloc: Global, links: &mut TestLinks) {
+    assert!(rt; links.more(rt, LinkId(1)) == Handed::Failed);
+    assert!(rt; links.close(rt, LinkId(1)) == Handed::Failed);
+    assert!(rt; send(rt, alloc, links, 1) == Handed::Failed);
+}
+
+/// After an order that failed each one fails, until the link has ended.
+fn fails_on<R: Abort + Wait>(rt: &R, alloc: Global, links: &mut TestLinks) {
+    send_16(rt, alloc, links);
+    assert!(rt; send(rt, alloc, links, 1) == Handed::Failed);
+    for _ in 0..20 {
+        all_fail(rt, alloc, links);
     }
-    assert!(rt; send(&rt, alloc, &mut links, 1) == Handed::Failed);
-    assert!(rt; links.more(&rt, LinkId(1)) == Handed::Failed);
-    assert_eq!(rt; link_words(&rt, alloc, gate).as_str(), "mssssssssssssssss.");
+    links.sent(LinkId(1));
+    assert!(rt; send(rt, alloc, links, 1) == Handed::Failed);
+    links.ended(LinkId(1));
+    assert!(rt; links.lives.is_empty());
+    assert!(rt; send(rt, alloc, links, 1) == Handed::Done);
 }
 
 #[test]
 fn after_a_failed_order_each_one_fails(rt: HostRuntime) {
-    let alloc = rt.alloc();
-    let mut links = one_link(&rt, alloc);
-    for _ in 0..16 {
-        assert!(rt; send(&rt, alloc, &mut links, 1) == Handed::Done);
-    }
-    assert!(rt; send(&rt, alloc, &mut links, 1) == Handed::Failed);
-    for _ in 0..20 {
-        assert!(rt; links.more(&rt, LinkId(1)) == Handed::Failed);
-        assert!(rt; links.close(&rt, LinkId(1)) == Handed::Failed);
-        assert!(rt; send(&rt, alloc, &mut links, 1) == Handed::Failed);
-    }
-    links.sent(LinkId(1));
-    assert!(rt; send(&rt, alloc, &mut links, 1) == Handed::Failed);
-    links.ended(LinkId(1));
+    let mut links = one_link(&rt, rt.alloc());
+    fails_on(&rt, rt.alloc(), &mut links);
+}
+
+/// A link that is closed before it was started is let go.
+fn is_let_go<R: Abort + Wait>(rt: &R, alloc: Global, links: &mut TestLinks, gate: &mut TestGate) {
+    is_opened(rt, links, 1);
+    is_opened(rt, links, 2);
+    assert!(rt; links.close(rt, LinkId(1)) == Handed::Done);
+    assert!(rt; links.waiting.len() == 1);
+    assert!(rt; start(rt, alloc, links, gate, 1));
+    assert!(rt; links.more(rt, LinkId(1)) == Handed::Done);
     assert!(rt; links.lives.is_empty());
-    assert!(rt; send(&rt, alloc, &mut links, 1) == Handed::Done);
 }
 
 #[test]
 fn a_link_whose_first_order_is_close_is_let_go(rt: HostRuntime) {
-    let alloc = rt.alloc();
-    let mut links: TestLinks = LiveLinks::new(alloc);
-    let mut gate = gate_of(&rt, alloc, 9);
-    assert!(rt; open(&rt, &mut links) == 1);
-    assert!(rt; open(&rt, &mut links) == 2);
-    assert!(rt; links.close(&rt, LinkId(1)) == Handed::Done);
-    assert!(rt; links.waiting.len() == 1);
-    assert!(rt; start(&rt, alloc, &mut links, &mut gate, 1));
-    assert!(rt; links.more(&rt, LinkId(1)) == Handed::Done);
-    assert!(rt; links.lives.is_empty());
-    assert_eq!(rt; words_of(&rt, alloc, gate).as_str(), "");
+    let mut links: TestLinks = LiveLinks::new(rt.alloc());
+    let mut gate = gate_of(&rt, rt.alloc(), 9);
+    is_let_go(&rt, rt.alloc(), &mut links, &mut gate);
+    kept(&rt, gate, "");
+}
+
+/// The second of two links, whose job comes back, is lost.
+fn is_lost<R: Abort + Wait>(rt: &R, alloc: Global, links: &mut TestLinks, gate: &mut TestGate) {
+    is_opened(rt, links, 1);
+    is_opened(rt, links, 2);
+    assert!(rt; start(rt, alloc, links, gate, 1));
+    assert!(rt; !start(rt, alloc, links, gate, 2));
+    assert!(rt; links.more(rt, LinkId(1)) == Handed::Done);
+    assert!(rt; links.more(rt, LinkId(2)) == Handed::Failed);
+    assert!(rt; links.close(rt, LinkId(2)) == Handed::Failed);
+    assert!(rt; links.waiting.is_empty());
+    assert!(rt; links.lives.len() == 1);
 }
 
 #[test]
 fn a_link_whose_job_comes_back_is_lost(rt: HostRuntime) {
-    let alloc = rt.alloc();
-    let mut links: TestLinks = LiveLinks::new(alloc);
-    let mut gate = gate_of(&rt, alloc, 1);
-    assert!(rt; open(&rt, &mut links) == 1);
-    assert!(rt; open(&rt, &mut links) == 2);
-    assert!(rt; start(&rt, alloc, &mut links, &mut gate, 1));
-    assert!(rt; !start(&rt, alloc, &mut links, &mut gate, 2));
-    assert!(rt; links.more(&rt, LinkId(1)) == Handed::Done);
-    assert!(rt; links.more(&rt, LinkId(2)) == Handed::Failed);
-    assert!(rt; links.close(&rt, LinkId(2)) == Handed::Failed);
-    assert!(rt; links.waiting.is_empty());
-    assert!(rt; links.lives.len() == 1);
-    assert_eq!(rt; words_of(&rt, alloc, gate).as_str(), "1");
+    let mut links: TestLinks = LiveLinks::new(rt.alloc());
+    let mut gate = gate_of(&rt, rt.alloc(), 1);
+    is_lost(&rt, rt.alloc(), &mut links, &mut gate);
+    kept(&rt, gate, "1");
 }
 
-#[test]
-fn a_closed_link_is_kept_until_it_is_over(rt: HostRuntime) {
-    let alloc = rt.alloc();
-    let mut links = one_link(&rt, alloc);
-    assert!(rt; links.more(&rt, LinkId(1)) == Handed::Done);
-    assert!(rt; links.close(&rt, LinkId(1)) == Handed::Done);
+/// A link that is closed is kept until it has ended.
+fn is_kept<R: Abort + Wait>(rt: &R, links: &mut TestLinks) {
+    assert!(rt; links.more(rt, LinkId(1)) == Handed::Done);
+    assert!(rt; links.close(rt, LinkId(1)) == Handed::Done);
     assert!(rt; links.lives.len() == 1);
     links.ended(LinkId(2));
     assert!(rt; links.lives.len() == 1);
     links.ended(LinkId(1));
     assert!(rt; links.lives.is_empty());
-    assert!(rt; links.close(&rt, LinkId(1)) == Handed::Done);
+    assert!(rt; links.close(rt, LinkId(1)) == Handed::Done);
+}
+
+#[test]
+fn a_closed_link_is_kept_until_it_is_over(rt: HostRuntime) {
+    let mut links = one_link(&rt, rt.alloc());
+    is_kept(&rt, &mut links);
 }

@@ -1,5 +1,6 @@
 //! Starting, stopping and signalling, and texts for a process and for the listeners: what is asked for, or the fault.
 
+use crate::made::{is_text, made};
 use crate::said::say_planned;
 use crate::scenes::{BUSY, DOWN, ENDED, NOW, Scene, UP, running, stand};
 use crate::told::call;
@@ -153,44 +154,50 @@ signalProcess w HUP => fault 70 NOT_RUNNING: w";
 const EMPTY: &str =
     "startProcess ' => fault 10 BAD_NAME: \nstopProcessGroup ' => fault 10 BAD_NAME: \nsignalProcess cat ' => fault 11 BAD_SIGNAL: ";
 
+/// The moment of all calls.
+fn now(rt: &impl Abort) -> Moment {
+    Moment::new(NOW).expect(rt, "a moment")
+}
+
 /// What comes of a call.
 pub fn outcome_of(rt: &impl Abort, alloc: Global, scene: &Scene, call: &Call) -> Planned {
-    let now = Moment::new(NOW).expect(rt, "a moment");
-    plan(alloc, &stand(scene), call, now).expect(rt, "memory")
+    made(rt, plan(alloc, &stand(scene), call, now(rt)))
 }
 
 /// What comes of the call of a line.
 fn outcome(rt: &impl Abort, alloc: Global, scene: &Scene, line: &str) -> Planned {
-    let call = call(rt, alloc, line);
-    outcome_of(rt, alloc, scene, &call)
+    outcome_of(rt, alloc, scene, &call(rt, alloc, line))
 }
 
 /// What comes of the call of a line over these processes.
 pub fn outcome_over(rt: &impl Abort, alloc: Global, lives: &str, line: &str) -> Planned {
-    let scene = running(rt, alloc, lives);
-    outcome(rt, alloc, &scene, line)
+    outcome(rt, alloc, &running(rt, alloc, lives), line)
 }
 
-/// This is what came of a call.
-fn is_said(rt: &impl Abort, alloc: Global, planned: &Planned, wanted: &str) {
+/// What came of a call, in words.
+fn said(rt: &impl Abort, alloc: Global, planned: &Planned) -> String {
     let mut said = String::new(alloc);
     say_planned(rt, &mut said, planned);
-    assert_eq!(rt; said.as_str(), wanted);
+    said
+}
+
+/// The call of a line of a table gives what the line says.
+fn comes_out(rt: &impl Abort, alloc: Global, scene: &Scene, row: &str) {
+    let (line, wanted) = row.split_once(" => ").expect(rt, "two cells");
+    let said = said(rt, alloc, &outcome(rt, alloc, scene, line));
+    is_text(rt, said.as_str(), wanted);
 }
 
 /// Each call of a table gives what its line says.
 pub fn all_come_out(rt: &impl Abort, alloc: Global, scene: &Scene, rows: &str) {
     for row in rows.split('\n') {
-        let (line, wanted) = row.split_once(" => ").expect(rt, "two cells");
-        let planned = outcome(rt, alloc, scene, line);
-        is_said(rt, alloc, &planned, wanted);
+        comes_out(rt, alloc, scene, row);
     }
 }
 
 /// Each call of a table gives what its line says over these processes.
 pub fn come_out_over(rt: &impl Abort, alloc: Global, lives: &str, rows: &str) {
-    let scene = running(rt, alloc, lives);
-    all_come_out(rt, alloc, &scene, rows);
+    all_come_out(rt, alloc, &running(rt, alloc, lives), rows);
 }
 
 #[test]

@@ -1,8 +1,9 @@
 //! What is said of the daemon and of its processes: the short answers, the structs, and descriptions at their borders.
 
 use crate::act_tests::{come_out_over, outcome_over};
+use crate::made::{is_text, made};
 use crate::scenes::{BUSY, ENDED};
-use std::alloc::Global;
+use std::alloc::{AllocError, Global};
 use std::process::Abort;
 use sv_base::bytes::Bytes;
 use sv_methods::Planned;
@@ -118,7 +119,12 @@ fn text_of(value: &Value) -> &str {
 fn is_described(rt: &impl Abort, alloc: Global, row: &str) {
     let (life, wanted) = row.split_once(" => ").expect(rt, "two cells");
     let planned = outcome_over(rt, alloc, life, "getProcessInfo cat");
-    assert_eq!(rt; description(&planned), wanted, "{row}");
+    is_the_description(rt, description(&planned), wanted, row);
+}
+
+/// The description is the one that the row wants.
+fn is_the_description(rt: &impl Abort, description: &str, wanted: &str, row: &str) {
+    assert_eq!(rt; description, wanted, "{row}");
 }
 
 #[test]
@@ -129,26 +135,27 @@ fn describes(rt: HostRuntime) {
 }
 
 /// The reply to a call that is answered at once.
-fn reply(rt: &impl Abort, alloc: Global, planned: &Planned) -> Bytes {
-    let bytes = match planned {
+fn reply(alloc: Global, planned: &Planned) -> Result<Bytes, AllocError> {
+    match planned {
         Planned::Now(value) => write_reply(alloc, value),
         Planned::Fault(number, text) => write_fault(alloc, i64::from(*number), text.as_str()),
         _ => write_fault(alloc, 0, ""),
-    };
-    bytes.expect(rt, "memory")
+    }
 }
 
 /// The reply to the call of a line over the busy processes.
 fn reply_to(rt: &impl Abort, alloc: Global, line: &str) -> Bytes {
-    let planned = outcome_over(rt, alloc, BUSY, line);
-    reply(rt, alloc, &planned)
+    made(rt, reply(alloc, &outcome_over(rt, alloc, BUSY, line)))
 }
 
 /// The reply to the call of a line over the busy processes is this text.
 fn is_written(rt: &impl Abort, alloc: Global, line: &str, wanted: &str) {
     let bytes = reply_to(rt, alloc, line);
-    let text = std::str::from_utf8(bytes.as_slice()).unwrap_or("");
-    assert_eq!(rt; text, wanted);
+    is_text(
+        rt,
+        std::str::from_utf8(bytes.as_slice()).unwrap_or(""),
+        wanted,
+    );
 }
 
 /// The reply that tells the mood.

@@ -9,6 +9,8 @@ mod info_tests;
 #[cfg(test)]
 mod log_tests;
 #[cfg(test)]
+mod made;
+#[cfg(test)]
 mod multi_tests;
 #[cfg(test)]
 mod params_tests;

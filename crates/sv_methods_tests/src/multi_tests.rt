@@ -1,7 +1,8 @@
 //! Several calls in one, from the call that asks for them to the reply.
 
 use crate::act_tests::outcome_of;
-use crate::scenes::{BUSY, UP, running, stand};
+use crate::made::{found, is_text, made};
+use crate::scenes::{BUSY, Scene, UP, running, stand};
 use std::alloc::Global;
 use std::process::Abort;
 use sv_base::bytes::Bytes;
@@ -24,24 +25,37 @@ const REPLY: &str =
     "<?xml version='1.0'?><methodResponse><params><param><value><array><data><value><array><data><value><boolean>1</boolean></value></data></array></value><value><array><data><value><struct><member><name>statecode</name><value><int>1</int></value></member><member><name>statename</name><value><string>RUNNING</string></value></member></struct></value></data></array></value><value><struct><member><name>faultCode</name><value><int>2</int></value></member><member><name>faultString</name><value><string>INCORRECT_PARAMETERS</string></value></member></struct></value><value><struct><member><name>faultCode</name><value><int>1</int></value></member><member><name>faultString</name><value><string>UNKNOWN_METHOD</string></value></member></struct></value></data></array></value></param></params></methodResponse>";
 
 fn asked(rt: &impl Abort, alloc: Global) -> Vec<Part> {
-    let call = read_call(alloc, ASKED.as_bytes()).expect(rt, "a call");
+    let call = read_call(alloc, ASKED.as_bytes()).ok();
+    parts_of(rt, alloc, &found(rt, call, "a call"))
+}
+
+/// The parts of a call.
+fn parts_of(rt: &impl Abort, alloc: Global, call: &Call) -> Vec<Part> {
     match call.params.as_slice() {
-        [value] => parts(alloc, value).ok().expect(rt, "parts"),
+        [value] => found(rt, parts(alloc, value).ok(), "parts"),
         _ => Vec::new(alloc),
     }
 }
 
 /// The answer of a wait once the processes are up.
 fn answer_once_up(rt: &impl Abort, alloc: Global, waiting: &Waiting) -> Answered {
-    let up = running(rt, alloc, UP);
-    let answered = check(alloc, &stand(&up), waiting).expect(rt, "memory");
-    answered.expect(rt, "an answer")
+    let answered = answer_over(rt, alloc, &running(rt, alloc, UP), waiting);
+    found(rt, answered, "an answer")
+}
+
+/// The answer of a wait over these processes, where there is one.
+fn answer_over(
+    rt: &impl Abort,
+    alloc: Global,
+    scene: &Scene,
+    waiting: &Waiting,
+) -> Option<Answered> {
+    made(rt, check(alloc, &stand(scene), waiting))
 }
 
 /// What comes of a call that is made while the processes are busy.
 fn outcome(rt: &impl Abort, alloc: Global, call: &Call) -> Planned {
-    let busy = running(rt, alloc, BUSY);
-    outcome_of(rt, alloc, &busy, call)
+    outcome_of(rt, alloc, &running(rt, alloc, BUSY), call)
 }
 
 /// The answer of a call that is made while the processes are busy; where it waits, the answer once they are up.
@@ -57,32 +71,34 @@ fn answer_to(rt: &impl Abort, alloc: Global, call: &Call) -> Answered {
 fn answer_of(rt: &impl Abort, alloc: Global, part: &Part) -> Answered {
     match part {
         Part::Call(call) => answer_to(rt, alloc, call),
-        Part::Fault(number, text) => {
-            Answered::Fault(i64::from(*number), text.clone().expect(rt, "memory"))
-        }
+        Part::Fault(number, text) => { Answered::Fault(i64::from(*number), made(rt, text.clone())) }
     }
 }
 
-/// The answers to these parts as one value.
-fn gathered(rt: &impl Abort, alloc: Global, parts: &[Part]) -> Value {
+/// The answers to these parts.
+fn gathered(rt: &impl Abort, alloc: Global, parts: &[Part]) -> Gather {
     let mut gather = Gather::new(alloc);
     for part in parts {
-        let answer = answer_of(rt, alloc, part);
-        gather.add(alloc, answer).expect(rt, "memory");
+        gather
+            .add(alloc, answer_of(rt, alloc, part))
+            .expect(rt, "memory");
     }
-    gather.value().expect(rt, "memory")
+    gather
 }
 
 /// The reply to these parts.
 fn reply(rt: &impl Abort, alloc: Global, parts: &[Part]) -> Bytes {
-    let value = gathered(rt, alloc, parts);
-    write_reply(alloc, &value).expect(rt, "memory")
+    let value = made(rt, gathered(rt, alloc, parts).value());
+    made(rt, write_reply(alloc, &value))
 }
 
 fn is_reply(rt: &impl Abort, alloc: Global, parts: &[Part]) {
     let bytes = reply(rt, alloc, parts);
-    let text = std::str::from_utf8(bytes.as_slice()).unwrap_or("");
-    assert_eq!(rt; text, REPLY);
+    is_text(
+        rt,
+        std::str::from_utf8(bytes.as_slice()).unwrap_or(""),
+        REPLY,
+    );
 }
 
 #[test]

@@ -1,5 +1,6 @@
 //! The processes of the tests: six in four groups, with and without logs.
 
+use crate::made::found;
 use std::alloc::Global;
 use std::process::Abort;
 use sv_base::config::{ClientSpec, Config};
@@ -63,6 +64,14 @@ const Z: [Process; 1] = [Process {
     stdout: "",
     stderr: "",
 }];
+
+/// The name and the priority of each group, and its processes.
+const GROUPS: [(&str, i32, &[Process]); 4] = [
+    ("cat", 1, &CAT),
+    ("web", 2, &WEB),
+    ("w", 3, &W),
+    ("z", 4, &Z),
+];
 
 /// The sizes of log files that are known, in bytes. Of `/a.out` none is known.
 const SIZES: [(&str, u64); 6] = [
@@ -132,22 +141,20 @@ fn group(
     }
 }
 
+/// The groups as a list.
+fn all_groups(rt: &impl Abort, alloc: Global) -> Vec<GroupSpec> {
+    let mut groups = Vec::new(alloc);
+    for (name, priority, processes) in &GROUPS {
+        groups
+            .push(group(rt, alloc, *name, *priority, *processes))
+            .expect(rt, "memory");
+    }
+    groups
+}
+
 /// The groups.
 pub fn groups(rt: &impl Abort, alloc: Global) -> Groups {
-    let mut groups = Vec::new(alloc);
-    groups
-        .push(group(rt, alloc, "cat", 1, &CAT))
-        .expect(rt, "memory");
-    groups
-        .push(group(rt, alloc, "web", 2, &WEB))
-        .expect(rt, "memory");
-    groups
-        .push(group(rt, alloc, "w", 3, &W))
-        .expect(rt, "memory");
-    groups
-        .push(group(rt, alloc, "z", 4, &Z))
-        .expect(rt, "memory");
-    Groups::new(groups).expect(rt, "groups")
+    found(rt, Groups::new(all_groups(rt, alloc)), "groups")
 }
 
 /// A configuration with these groups, with the main log `/main.log` or without one, and with or without the methods of

@@ -1,5 +1,6 @@
 //! What the methods of the tests may look at: the six processes in one state or another.
 
+use crate::made::made;
 use crate::sample::{config, groups, sizes};
 use std::alloc::Global;
 use std::process::Abort;
@@ -123,16 +124,22 @@ fn lives_of(rt: &impl Abort, alloc: Global, lives: &str) -> Lives {
 }
 
 fn roster(rt: &impl Abort, alloc: Global, config: &Config) -> Roster {
-    Roster::new(alloc, config).expect(rt, "memory")
+    made(rt, Roster::new(alloc, config))
+}
+
+/// A daemon that was configured so.
+fn daemon_of(config: Config, roster: Roster, sizes: Vec<(Text, u64)>) -> Daemon {
+    Daemon {
+        config,
+        roster,
+        sizes,
+    }
 }
 
 fn configured(rt: &impl Abort, alloc: Global, has_main: bool, rpc: bool) -> Daemon {
     let config = config(alloc, groups(rt, alloc), has_main, rpc);
-    Daemon {
-        roster: roster(rt, alloc, &config),
-        config,
-        sizes: sizes(rt, alloc),
-    }
+    let roster = roster(rt, alloc, &config);
+    daemon_of(config, roster, sizes(rt, alloc))
 }
 
 /// The six processes with these children, in this mood, with a main log or without one, with the methods of

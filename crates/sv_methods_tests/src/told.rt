@@ -1,5 +1,6 @@
 //! Calls and waits from the words of a table.
 
+use crate::made::made;
 use std::alloc::Global;
 use std::process::Abort;
 use sv_base::ids::ChildId;
@@ -10,7 +11,7 @@ use sv_xmlcall::call::Call;
 use sv_xmlcall::value::Value;
 
 fn text(rt: &impl Abort, alloc: Global, text: &str) -> Text {
-    Text::from_str(alloc, text).expect(rt, "memory")
+    made(rt, Text::from_str(alloc, text))
 }
 
 /// The value of a word: a boolean, an empty array or struct, a double, an integer, else a text, before which `'` is
@@ -41,26 +42,26 @@ fn method(rt: &impl Abort, alloc: Global, word: &str) -> Text {
     if word.contains('.') {
         return text(rt, alloc, word);
     }
-    let mut method = String::from_str(alloc, "supervisor.").expect(rt, "memory");
-    method.push_str(word).expect(rt, "memory");
-    Text::from_string(method)
+    Text::from_string(made(rt, format!(in alloc; "supervisor.{word}")))
 }
 
-/// The call of a line: the method, and a word for each parameter.
-pub fn call(rt: &impl Abort, alloc: Global, line: &str) -> Call {
-    let (name, words) = match line.split_once(' ') {
-        Some(parts) => parts,
-        None => (line, ""),
-    };
+/// The parameters of these words.
+fn params(rt: &impl Abort, alloc: Global, words: &str) -> Vec<Value> {
     let mut params = Vec::new(alloc);
     for word in words.split(' ') {
         if !word.is_empty() {
             params.push(value(rt, alloc, word)).expect(rt, "memory");
         }
     }
+    params
+}
+
+/// The call of a line: the method, and a word for each parameter.
+pub fn call(rt: &impl Abort, alloc: Global, line: &str) -> Call {
+    let (name, words) = line.split_once(' ').unwrap_or((line, ""));
     Call {
         method: method(rt, alloc, name),
-        params,
+        params: params(rt, alloc, words),
     }
 }
 

@@ -1,5 +1,6 @@
 //! Waits with the states of the children, and what each then answers.
 
+use crate::made::{is_text, made};
 use crate::said::say_answered;
 use crate::scenes::{Scene, running, stand};
 use crate::told::waiting;
@@ -77,28 +78,30 @@ wait array z: | started 5 @ STARTING|STARTING|STARTING|STARTING|STARTING|EXITED 
 
 /// What the wait of a line is answered over these processes.
 fn answer(rt: &impl Abort, alloc: Global, lives: &str, line: &str) -> Option<Answered> {
-    let scene = running(rt, alloc, lives);
-    answer_in(rt, alloc, &scene, line)
+    answer_in(rt, alloc, &running(rt, alloc, lives), line)
 }
 
 fn answer_in(rt: &impl Abort, alloc: Global, scene: &Scene, line: &str) -> Option<Answered> {
-    let waiting = waiting(rt, alloc, line);
-    check(alloc, &stand(scene), &waiting).expect(rt, "memory")
+    made(rt, check(alloc, &stand(scene), &waiting(rt, alloc, line)))
 }
 
-/// This is the answer.
-fn is_said(rt: &impl Abort, alloc: Global, answered: &Option<Answered>, wanted: &str) {
+/// An answer in words.
+fn said(rt: &impl Abort, alloc: Global, answered: &Option<Answered>) -> String {
     let mut said = String::new(alloc);
     say_answered(rt, &mut said, answered);
-    assert_eq!(rt; said.as_str(), wanted);
+    said
+}
+
+fn is_answered(rt: &impl Abort, alloc: Global, row: &str) {
+    let (given, wanted) = row.split_once(" => ").expect(rt, "two cells");
+    let (line, lives) = given.split_once(" @ ").expect(rt, "two cells");
+    let said = said(rt, alloc, &answer(rt, alloc, lives, line));
+    is_text(rt, said.as_str(), wanted);
 }
 
 fn are_answered(rt: &impl Abort, alloc: Global, rows: &str) {
     for row in rows.split('\n') {
-        let (given, wanted) = row.split_once(" => ").expect(rt, "two cells");
-        let (line, lives) = given.split_once(" @ ").expect(rt, "two cells");
-        let answered = answer(rt, alloc, lives, line);
-        is_said(rt, alloc, &answered, wanted);
+        is_answered(rt, alloc, row);
     }
 }
 

@@ -3,6 +3,7 @@
 use crossbeam_channel::{Receiver, Sender, bounded};
 use std::alloc::Global;
 use std::process::Abort;
+use std::rt::Clock;
 use std::sync::Wait;
 use std::thread;
 use std::thread::Threads;
@@ -16,10 +17,14 @@ pub(crate) fn start_in_threads<
     R: Abort + Threads + Wait + Copy + Send + 'static,
     J: Job + Send + 'static,
 >(rt: R, alloc: Global, links: &LinksAtWork, jobs: Vec<J>) {
-    let others = links.another().expect(&rt, "ample memory");
-    let gate = OsGate::new(rt, alloc, others, move |from: Receiver<Errand<J>>| {
-        thread::spawn(&rt, move || receive_and_work(&rt, &from)).is_ok()
-    });
+    let gate = OsGate::new(
+        rt,
+        alloc,
+        another(&rt, links),
+        move |from: Receiver<Errand<J>>| {
+            thread::spawn(&rt, move || receive_and_work(&rt, &from)).is_ok()
+        },
+    );
     start_all(&rt, gate, jobs);
 }
 
@@ -61,79 +66,135 @@ impl Job for Waits {
     }
 }
 
-/// Both ends of what lets jobs go, and of what they tell.
+/// Both ends of a channel.
 #[derive(Drop)]
-struct Ends {
-    go: Sender<()>,
-    wait: Receiver<()>,
-    done: Sender<u32>,
-    told: Receiver<u32>,
+struct Ends<T: Drop> {
+    to: Sender<T>,
+    from: Receiver<T>,
 }
 
-fn ends_of(rt: &impl Abort, alloc: Global) -> Ends {
-    let (go, wait) = bounded(alloc, 2).expect(rt, "ample memory");
-    let (done, told) = bounded(alloc, 2).expect(rt, "ample memory");
-    Ends {
-        go,
-        wait,
-        done,
-        told,
+/// Both ends of a channel with room for two.
+fn ends_of<T: Drop>(rt: &impl Abort, alloc: Global) -> Ends<T> {
+    let (to, from) = bounded(alloc, 2).expect(rt, "ample memory");
+    Ends { to, from }
+}
+
+/// What lets jobs go, and what they tell.
+#[derive(Drop)]
+struct Talk {
+    go: Ends<()>,
+    done: Ends<u32>,
+}
+
+fn talk_of(rt: &impl Abort, alloc: Global) -> Talk {
+    Talk {
+        go: ends_of(rt, alloc),
+        done: ends_of(rt, alloc),
     }
 }
 
-/// A job about this with this number, which waits and tells at these ends.
-fn waiting_job(rt: &impl Abort, word: JobWord, number: u32, ends: &Ends) -> Waits {
+/// A further receiver of these ends.
+fn receiver_of<T: Drop>(rt: &impl Abort, ends: &Ends<T>) -> Receiver<T> {
+    ends.from.clone().expect(rt, "ample memory")
+}
+
+/// A further sender of these ends.
+fn sender_of<T: Drop>(rt: &impl Abort, ends: &Ends<T>) -> Sender<T> {
+    ends.to.clone().expect(rt, "ample memory")
+}
+
+/// A job about this with this number, which waits to be let go, and tells.
+fn waiting_job(rt: &impl Abort, word: JobWord, number: u32, talk: &Talk) -> Waits {
     Waits {
         word,
-        go: ends.wait.clone().expect(rt, "ample memory"),
-        done: ends.done.clone().expect(rt, "ample memory"),
+        go: receiver_of(rt, &talk.go),
+        done: sender_of(rt, &talk.done),
         number,
     }
 }
 
 /// The jobs of a link and of the console, with the numbers 3 and 4.
-fn two_jobs(rt: &impl Abort, alloc: Global, ends: &Ends) -> Vec<Waits> {
+fn two_jobs(rt: &impl Abort, alloc: Global, talk: &Talk) -> Vec<Waits> {
     let mut jobs = Vec::new(alloc);
-    for (word, number) in [(JobWord::Link(LinkId(1)), 3), (JobWord::Console, 4)] {
-        jobs.push(waiting_job(rt, word, number, ends))
-            .expect(rt, "ample memory");
-    }
+    add(
+        rt,
+        &mut jobs,
+        waiting_job(rt, JobWord::Link(LinkId(1)), 3, talk),
+    );
+    add(rt, &mut jobs, waiting_job(rt, JobWord::Console, 4, talk));
     jobs
 }
 
+/// Adds a job.
+pub(crate) fn add<J: Drop>(rt: &impl Abort, jobs: &mut Vec<J>, job: J) {
+    jobs.push(job).expect(rt, "ample memory");
+}
+
 /// Lets two jobs go, and hears the numbers 3 and 4.
-fn let_go<R: Abort + Wait>(rt: &R, ends: &Ends) {
+fn let_go<R: Abort + Wait>(rt: &R, talk: &Talk) {
     for _ in 0..2 {
-        assert!(rt; ends.go.send(rt, ()).is_ok());
+        assert!(rt; talk.go.to.send(rt, ()).is_ok());
     }
-    let first = ends.told.recv(rt).expect(rt, "a job is done");
-    let second = ends.told.recv(rt).expect(rt, "the other job is done");
+    let first = talk.done.from.recv(rt).expect(rt, "a job is done");
+    let second = talk.done.from.recv(rt).expect(rt, "the other job is done");
     assert!(rt; (first, second) == (3, 4) || (first, second) == (4, 3));
+}
+
+/// None of the jobs of links is at work yet.
+pub(crate) fn links_of(rt: &impl Abort, alloc: Global) -> LinksAtWork {
+    LinksAtWork::new(alloc).expect(rt, "ample memory")
+}
+
+/// Two jobs, of which one is that of a link, wait to be let go, and end.
+fn two_jobs_run<R: Abort + Threads + Wait + Clock + Copy + Send + 'static>(
+    rt: R,
+    alloc: Global,
+    links: &LinksAtWork,
+) {
+    let talk = talk_of(&rt, alloc);
+    start_in_threads(rt, alloc, links, two_jobs(&rt, alloc, &talk));
+    assert!(rt; links.number() == 1 && !links.wait_for_none(&rt, 2));
+    let_go(&rt, &talk);
 }
 
 #[test]
 fn jobs_run_in_threads(rt: HostRuntime) {
-    let links = LinksAtWork::new(rt.alloc()).expect(&rt, "ample memory");
-    let ends = ends_of(&rt, rt.alloc());
-    start_in_threads(rt, rt.alloc(), &links, two_jobs(&rt, rt.alloc(), &ends));
-    assert!(rt; links.number() == 1 && !links.wait_for_none(&rt, 2));
-    let_go(&rt, &ends);
+    let links = links_of(&rt, rt.alloc());
+    two_jobs_run(rt, rt.alloc(), &links);
     assert!(rt; links.wait_for_none(&rt, 10_000));
+}
+
+/// The job of a link with the number 7.
+fn seventh_job(rt: &impl Abort, alloc: Global) -> Waits {
+    waiting_job(rt, JobWord::Link(LinkId(1)), 7, &talk_of(rt, alloc))
+}
+
+/// Whether the job with the number 7 came back.
+fn came_back(answer: &Result<(), Waits>) -> bool {
+    match answer {
+        Ok(()) => false,
+        Err(job) => job.number == 7,
+    }
+}
+
+/// A gate that starts no thread gives its job back.
+fn gives_back<R: Abort + Wait + Copy>(rt: R, alloc: Global, others: LinksAtWork) {
+    let mut gate = OsGate::new(rt, alloc, others, |from: Receiver<Errand<Waits>>| {
+        drop(from);
+        false
+    });
+    let answer = gate.start(seventh_job(&rt, alloc));
+    assert!(rt; came_back(&answer));
+}
+
+/// The same number of links at work, for another holder.
+fn another(rt: &impl Abort, links: &LinksAtWork) -> LinksAtWork {
+    links.another().expect(rt, "ample memory")
 }
 
 #[test]
 fn a_job_without_a_thread_comes_back(rt: HostRuntime) {
-    let links = LinksAtWork::new(rt.alloc()).expect(&rt, "ample memory");
-    let mut gate = OsGate::new(
-        rt,
-        rt.alloc(),
-        links.another().expect(&rt, "ample memory"),
-        |from: Receiver<Errand<Waits>>| {
-            drop(from);
-            false
-        },
-    );
-    let job = waiting_job(&rt, JobWord::Link(LinkId(1)), 7, &ends_of(&rt, rt.alloc()));
-    assert!(rt; matches!(gate.start(job), Err(job) if job.number == 7));
+    let links = links_of(&rt, rt.alloc());
+    gives_back(rt, rt.alloc(), another(&rt, &links));
     assert!(rt; links.number() == 0);
 }

@@ -2,7 +2,7 @@
 
 ghost use Rattle.std.specs.Prelude.{◌≤◌};
 
-use crate::gate_tests::start_in_threads;
+use crate::gate_tests::{add, links_of, start_in_threads};
 use crate::os_tests::socket_at;
 use std::alloc::Global;
 use std::io::Stdin;
@@ -39,15 +39,16 @@ type RealProgram = Started<
     OsWaiter<SystemProcess>,
 >;
 
-/// Starts `cat`.
-fn started_cat<S: Spawner>(
-    rt: &impl Abort,
-    alloc: Global,
-    spawner: &mut S,
-) -> Started<S::Stdin, S::Stdout, S::Stderr, S::Waiter> {
+/// The one word `cat`.
+fn word_cat(rt: &impl Abort, alloc: Global) -> Items<Text> {
     let mut words = Items::new(alloc);
     words.push(Text::fixed("cat")).expect(rt, "ample memory");
-    let order = SpawnOrder {
+    words
+}
+
+/// An order for these words.
+fn order_of(alloc: Global, words: Items<Text>) -> SpawnOrder {
+    SpawnOrder {
         run: Run(1),
         group: Text::fixed("g"),
         name: Text::fixed("p"),
@@ -56,7 +57,16 @@ fn started_cat<S: Spawner>(
         user: Text::fixed(""),
         words,
         environment: Items::new(alloc),
-    };
+    }
+}
+
+/// Starts `cat`.
+fn started_cat<S: Spawner>(
+    rt: &impl Abort,
+    alloc: Global,
+    spawner: &mut S,
+) -> Started<S::Stdin, S::Stdout, S::Stderr, S::Waiter> {
+    let order = order_of(alloc, word_cat(rt, alloc));
     spawner.spawn(alloc, &order).expect(rt, "cat is started")
 }
 
@@ -69,8 +79,8 @@ fn lane_of<T: Drop>(rt: &impl Abort, alloc: Global, room: u32) -> (Taker<T>, Pos
     (taker, poster)
 }
 
-/// A further seat of the notes.
-fn seat_of(rt: &impl Abort, seats: &mut Seats<Note>) -> Poster<Note> {
+/// A further seat.
+fn seat_of<T: Drop>(rt: &impl Abort, seats: &mut Seats<T>) -> Poster<T> {
     seats.seat().expect(rt, "ample memory")
 }
 
@@ -154,11 +164,6 @@ fn add_program(
     add(rt, jobs, watch_job(program.waiter, seat_of(rt, seats)));
 }
 
-/// Adds a job.
-fn add(rt: &impl Abort, jobs: &mut Vec<RealJob>, job: RealJob) {
-    jobs.push(job).expect(rt, "ample memory");
-}
-
 /// The jobs of `cat`, whose standard input takes these words, of the clock and of the console.
 fn all_jobs(
     rt: &impl Abort,
@@ -200,25 +205,39 @@ fn write_hello<R: Abort + Wait>(rt: &R, alloc: Global, poster: &mut Poster<Stdin
     poster.post(rt, StdinWord::Close);
 }
 
+/// What was heard of a program: how many bytes it wrote, and a bit for each other note.
+#[derive(Drop)]
+struct Heard {
+    said: usize,
+    seen: u32,
+}
+
+/// Takes a note in.
+fn take_in(rt: &impl Abort, heard: &mut Heard, note: &Note) {
+    match note {
+        Note::Out(_, Stream::Out, piece) => {
+            heard.said = heard.said.wrapping_add(piece.as_slice().len())
+        }
+        Note::Wrote(_) => heard.seen |= 1,
+        Note::StdinEnd(_) => heard.seen |= 2,
+        Note::OutEnd(_, Stream::Out) => heard.seen |= 4,
+        Note::OutEnd(_, Stream::Err) => heard.seen |= 8,
+        Note::Exit(_, How::Code(0)) => heard.seen |= 16,
+        Note::Tick => heard.seen |= 32,
+        note => assert!(rt; false, "{note:?}"),
+    }
+}
+
 /// Hears `hello` from the program, its ends and a tick.
 fn hear_hello<R: Abort + Wait>(rt: &R, notes: &mut Taker<Note>) {
-    let (mut said, mut seen) = (0usize, 0u32);
+    let mut heard = Heard { said: 0, seen: 0 };
     for _ in 0..64 {
-        if seen == 63 {
+        if heard.seen == 63 {
             break;
         }
-        match notes.take(rt) {
-            Note::Out(_, Stream::Out, piece) => said = said.wrapping_add(piece.as_slice().len()),
-            Note::Wrote(_) => seen |= 1,
-            Note::StdinEnd(_) => seen |= 2,
-            Note::OutEnd(_, Stream::Out) => seen |= 4,
-            Note::OutEnd(_, Stream::Err) => seen |= 8,
-            Note::Exit(_, How::Code(0)) => seen |= 16,
-            Note::Tick => seen |= 32,
-            note => assert!(rt; false, "{note:?}"),
-        }
+        take_in(rt, &mut heard, &notes.take(rt));
     }
-    assert!(rt; seen == 63 && said == 5);
+    assert!(rt; heard.seen == 63 && heard.said == 5);
 }
 
 /// Starts the jobs of `cat`, of the clock and of the console: what posts the words of the program's standard input.
@@ -227,7 +246,7 @@ fn start_cat<R: Abort + Threads + Wait + Copy + Send + 'static>(
     host: HostRuntime,
     seats: &mut Seats<Note>,
 ) -> Poster<StdinWord> {
-    let links = LinksAtWork::new(host.alloc()).expect(&rt, "ample memory");
+    let links = links_of(&rt, host.alloc());
     let (taker, words) = lane_of(&rt, host.alloc(), 65);
     start(rt, host.alloc(), &links, all_jobs(&rt, host, taker, seats));
     words
@@ -236,8 +255,7 @@ fn start_cat<R: Abort + Threads + Wait + Copy + Send + 'static>(
 /// Starts `cat`, which is given `hello` and gives it back.
 fn runs_cat<R: Abort + Threads + Wait + Copy + Send + 'static>(rt: R, host: HostRuntime) {
     let (mut notes, mut seats) = lane(host.alloc(), 256).expect(&rt, "ample memory");
-    let mut words = start_cat(rt, host, &mut seats);
-    write_hello(&rt, host.alloc(), &mut words);
+    write_hello(&rt, host.alloc(), &mut start_cat(rt, host, &mut seats));
     hear_hello(&rt, &mut notes);
 }
 
@@ -256,42 +274,73 @@ fn socket_path(rt: &HostRuntime) -> io::Result<String> {
 
 type RealLink = <OsListen<HostRuntime> as Listen>::Link;
 
+/// A lane: its taker, and its seats.
+#[derive(Drop)]
+struct Hall<T: Drop> {
+    taker: Taker<T>,
+    seats: Seats<T>,
+}
+
+/// A lane for so many items.
+fn hall_of<T: Drop>(rt: &impl Abort, alloc: Global, room: u32) -> Hall<T>
+    requires { 1 ≤ room }
+{
+    let (taker, seats) = lane(alloc, room).expect(rt, "ample memory");
+    Hall { taker, seats }
+}
+
 /// An address, and what hears the jobs of it and takes its links.
 #[derive(Drop)]
 struct Address {
     place: Place,
-    notes: Taker<Note>,
-    seats: Seats<Note>,
-    accepted: Taker<RealLink>,
-    accepting: Seats<RealLink>,
+    notes: Hall<Note>,
+    links: Hall<RealLink>,
 }
 
 /// The address of this path.
 fn address_of(rt: &impl Abort, alloc: Global, path: &str) -> Address {
-    let place = socket_at(rt, alloc, path);
-    let (notes, seats) = lane(alloc, 256).expect(rt, "ample memory");
-    let (accepted, accepting) = lane(alloc, 64).expect(rt, "ample memory");
     Address {
-        place,
-        notes,
-        seats,
-        accepted,
-        accepting,
+        place: socket_at(rt, alloc, path),
+        notes: hall_of(rt, alloc, 256),
+        links: hall_of(rt, alloc, 64),
     }
 }
 
-/// The job that accepts one link at the address.
-fn links_job(rt: &impl Abort, host: HostRuntime, address: &mut Address) -> RealJob {
-    let place = address.place.clone().expect(rt, "ample memory");
+/// What accepts the links of this place.
+fn opened_at(rt: &impl Abort, host: HostRuntime, place: &Place) -> OsListen<HostRuntime> {
+    let place = place.clone().expect(rt, "ample memory");
     let (listen, opened) = OsListen::open(host, place);
     opened.expect(rt, "the system does it");
+    listen
+}
+
+/// The job that accepts one link.
+fn accepting_job(
+    listen: OsListen<HostRuntime>,
+    poster: Poster<Note>,
+    links: Poster<RealLink>,
+) -> RealJob {
     AnyJob::Links(LinksJob {
         side: Side::Unix,
         listen,
         turns: 1,
-        poster: seat_of(rt, &mut address.seats),
-        links: address.accepting.seat().expect(rt, "ample memory"),
+        poster,
+        links,
     })
+}
+
+/// The job that accepts one link at the address.
+fn links_job(rt: &impl Abort, host: HostRuntime, address: &mut Address) -> RealJob {
+    accepting_job(
+        opened_at(rt, host, &address.place),
+        seat_of(rt, &mut address.notes.seats),
+        seat_of(rt, &mut address.links.seats),
+    )
+}
+
+/// A new link is told.
+fn is_told<R: Abort + Wait>(rt: &R, notes: &mut Taker<Note>) {
+    assert!(rt; matches!(&notes.take(rt), Note::Open(Side::Unix)));
 }
 
 /// A client of the address, which is told as a new link.
@@ -299,8 +348,24 @@ fn client_of<R: Abort + Wait>(rt: &R, host: HostRuntime, address: &mut Address) 
     let client = OsDial::new(&host)
         .connect(host.alloc(), &address.place)
         .expect(rt, "a client");
-    assert!(rt; matches!(address.notes.take(rt), Note::Open(Side::Unix)));
+    is_told(rt, &mut address.notes.taker);
     client
+}
+
+/// The job that serves a link, which takes these words.
+fn serving_job(
+    alloc: Global,
+    link: RealLink,
+    poster: Poster<Note>,
+    words: Taker<LinkWord>,
+) -> RealJob {
+    AnyJob::Link(LinkJob {
+        number: LinkId(1),
+        link,
+        poster,
+        words,
+        alloc,
+    })
 }
 
 /// The job that serves the accepted link, which takes these words.
@@ -310,13 +375,20 @@ fn link_job<R: Abort + Wait>(
     address: &mut Address,
     words: Taker<LinkWord>,
 ) -> RealJob {
-    AnyJob::Link(LinkJob {
-        number: LinkId(1),
-        link: address.accepted.take(rt),
-        poster: seat_of(rt, &mut address.seats),
-        words,
-        alloc,
-    })
+    let poster = seat_of(rt, &mut address.notes.seats);
+    serving_job(alloc, address.links.taker.take(rt), poster, words)
+}
+
+/// Has `pong` sent, and the link closed.
+fn send_pong<R: Abort + Wait>(rt: &R, alloc: Global, poster: &mut Poster<LinkWord>) {
+    let bytes = Bytes::from_slice(alloc, b"pong").expect(rt, "ample memory");
+    poster.post(rt, LinkWord::Send(bytes));
+    poster.post(rt, LinkWord::Close);
+}
+
+/// A piece of a link is told.
+fn piece_is_told<R: Abort + Wait>(rt: &R, notes: &mut Taker<Note>) {
+    assert!(rt; matches!(&notes.take(rt), Note::Piece(_, _)));
 }
 
 /// A client sends `ping`, and gets `pong` and the end.
@@ -329,10 +401,8 @@ fn talk<R: Abort + Wait, K: Link>(
 ) {
     poster.post(rt, LinkWord::More);
     assert!(rt; matches!(client.write(b"ping"), Ok(4)));
-    assert!(rt; matches!(notes.take(rt), Note::Piece(_, _)));
-    let bytes = Bytes::from_slice(alloc, b"pong").expect(rt, "ample memory");
-    poster.post(rt, LinkWord::Send(bytes));
-    poster.post(rt, LinkWord::Close);
+    piece_is_told(rt, notes);
+    send_pong(rt, alloc, poster);
     let mut piece = [0u8; 8];
     assert!(rt; matches!(client.read(&mut piece), Ok(4)));
     assert!(rt; matches!(client.read(&mut piece), Ok(0)));
@@ -350,6 +420,31 @@ fn start_one<R: Abort + Threads + Wait + Copy + Send + 'static>(
     start(rt, alloc, links, jobs);
 }
 
+/// Starts the job of the address's link: what posts its words.
+fn start_link<R: Abort + Threads + Wait + Copy + Send + 'static>(
+    rt: R,
+    alloc: Global,
+    links: &LinksAtWork,
+    address: &mut Address,
+) -> Poster<LinkWord> {
+    let (words, poster) = lane_of(&rt, alloc, 18);
+    start_one(rt, alloc, links, link_job(&rt, alloc, address, words));
+    poster
+}
+
+/// The address's link is served by a job, and talks with this client.
+fn serve_client<R: Abort + Threads + Wait + Copy + Send + 'static, K: Link>(
+    rt: R,
+    alloc: Global,
+    links: &LinksAtWork,
+    address: &mut Address,
+    client: &mut K,
+) {
+    let mut poster = start_link(rt, alloc, links, address);
+    assert!(rt; links.number() == 1);
+    talk(&rt, alloc, client, &mut address.notes.taker, &mut poster);
+}
+
 /// The address's link is served at one end by a job, and talks at the other.
 fn serve_link<R: Abort + Threads + Wait + Copy + Send + 'static>(
     rt: R,
@@ -357,13 +452,20 @@ fn serve_link<R: Abort + Threads + Wait + Copy + Send + 'static>(
     links: &LinksAtWork,
     address: &mut Address,
 ) {
-    let alloc = host.alloc();
     let mut client = client_of(&rt, host, address);
-    let (words, mut poster) = lane_of(&rt, alloc, 18);
-    start_one(rt, alloc, links, link_job(&rt, alloc, address, words));
-    assert!(rt; links.number() == 1);
-    talk(&rt, alloc, &mut client, &mut address.notes, &mut poster);
+    serve_client(rt, host.alloc(), links, address, &mut client);
     assert!(rt; links.wait_for_none(&host, 10_000));
+}
+
+/// The address is opened, and serves a link.
+fn open_and_serve<R: Abort + Threads + Wait + Copy + Send + 'static>(
+    rt: R,
+    host: HostRuntime,
+    links: &LinksAtWork,
+    address: &mut Address,
+) {
+    start_one(rt, host.alloc(), links, links_job(&rt, host, address));
+    serve_link(rt, host, links, address);
 }
 
 /// An address of this path is opened, and serves a link.
@@ -372,10 +474,9 @@ fn serve_address<R: Abort + Threads + Wait + Copy + Send + 'static>(
     host: HostRuntime,
     path: &str,
 ) {
-    let links = LinksAtWork::new(host.alloc()).expect(&rt, "ample memory");
+    let links = links_of(&rt, host.alloc());
     let mut address = address_of(&rt, host.alloc(), path);
-    start_one(rt, host.alloc(), &links, links_job(&rt, host, &mut address));
-    serve_link(rt, host, &links, &mut address);
+    open_and_serve(rt, host, &links, &mut address);
 }
 
 #[test]

@@ -29,14 +29,30 @@ fn passes<F: Link, T: Link>(rt: &impl Abort, from: &mut F, to: &mut T, bytes: &[
     assert!(rt; &piece[..4] == bytes);
 }
 
+/// A link and its peer pass bytes both ways.
+fn pass_both<L: Link, K: Link>(rt: &impl Abort, link: &mut L, peer: &mut K) {
+    passes(rt, peer, link, b"ping".as_slice());
+    passes(rt, link, peer, b"pong".as_slice());
+}
+
 /// A link passes bytes both ways, and tells its end.
 fn serves<L: Link, K: Link + Drop>(rt: &impl Abort, link: &mut L, peer: K) {
     let mut peer = peer;
-    passes(rt, &mut peer, link, b"ping".as_slice());
-    passes(rt, link, &mut peer, b"pong".as_slice());
+    pass_both(rt, link, &mut peer);
     drop(peer);
     let mut piece = [0u8; 8];
     assert!(rt; matches!(link.read(&mut piece), Ok(0)));
+}
+
+/// The next link is accepted, and serves.
+fn accepted_serves<R: Abort + Net + Files + Clock, K: Link + Drop>(
+    rt: &R,
+    listen: &mut OsListen<R>,
+    peer: K,
+) {
+    let mut link = listen.accept().expect(rt, "a link");
+    has_limits(rt, &link);
+    serves(rt, &mut link, peer);
 }
 
 /// The link of a client at this place is accepted, and serves.
@@ -47,9 +63,7 @@ fn is_served<R: Abort + Net + Files + Clock>(
     place: &Place,
 ) {
     let peer = OsDial::new(rt).connect(alloc, place).expect(rt, "a client");
-    let mut link = listen.accept().expect(rt, "a link");
-    has_limits(rt, &link);
-    serves(rt, &mut link, peer);
+    accepted_serves(rt, listen, peer);
 }
 
 /// What accepts the links of this address.
@@ -78,8 +92,12 @@ fn serves_host<R: Abort + Net + Files + Clock + Copy>(
     port: u16,
 ) {
     let mut listen = opened_at(rt, Place::Inet(Text::fixed(host), port));
-    let place = Place::Inet(Text::fixed("127.0.0.1"), port);
-    is_served(&rt, alloc, &mut listen, &place);
+    is_served(
+        &rt,
+        alloc,
+        &mut listen,
+        &Place::Inet(Text::fixed("127.0.0.1"), port),
+    );
 }
 
 #[test]
@@ -118,10 +136,15 @@ fn is_replaced<R: Abort + Net + Files + Clock + Copy>(rt: R, alloc: Global, path
     assert!(rt; !fs::exists(&rt, path).expect(&rt, "the system does it"));
 }
 
+/// A socket's file in this directory is replaced.
+fn is_replaced_in<R: Abort + Net + Files + Clock + Copy>(rt: R, alloc: Global, directory: &str) {
+    let path = path_in(&rt, alloc, directory, "socket");
+    is_replaced(rt, alloc, path.as_str());
+}
+
 #[test]
 fn links_come_over_a_socket_file(rt: HostRuntime) {
     let directory = new_directory(&rt, "listen").expect(&rt, "a new directory");
-    let path = path_in(&rt, rt.alloc(), directory.as_str(), "socket");
-    is_replaced(rt, rt.alloc(), path.as_str());
+    is_replaced_in(rt, rt.alloc(), directory.as_str());
     fs::remove_dir_all(&rt, directory.as_str()).expect(&rt, "the system does it");
 }

@@ -6,17 +6,22 @@ use std::process;
 use std::process::Abort;
 use std::rt::Env;
 use std::time::Duration;
-use sv_base::{Moment, Text};
+use sv_base::{Host, Moment, Text};
 use sv_os::{OsClock, directory_of, environment_of, host_of, moment_of};
 use sv_outside::Clock;
+
+/// The machine is told as it is for this process.
+fn is_told(rt: &impl Abort, host: &Host, pid: u32) {
+    assert!(rt; host.pid == pid && host.here.as_str() == "/etc");
+    assert!(rt; !host.name.as_str().is_empty() && !host.name.as_str().ends_with('\n'));
+    assert!(rt; Moment::zero() < host.start);
+}
 
 #[test]
 fn the_machine_is_told(rt: HostRuntime) {
     let pid = process::id(rt.process());
     let host = host_of(&rt, pid, Some("/etc/s.conf")).expect(&rt, "ample memory");
-    assert!(rt; host.pid == pid && host.here.as_str() == "/etc");
-    assert!(rt; !host.name.as_str().is_empty() && !host.name.as_str().ends_with('\n'));
-    assert!(rt; Moment::zero() < host.start);
+    is_told(&rt, &host, pid);
 }
 
 /// An environment with these entries.

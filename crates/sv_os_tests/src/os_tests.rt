@@ -2,9 +2,10 @@
 
 use std::alloc::Global;
 use std::io::{ErrorKind, Read, Write};
-use std::net::{Ipv4Addr, SocketAddr, TcpListener};
+use std::net::{Ipv4Addr, Net, OpenListener, SocketAddr, TcpListener};
 use std::os::unix::net::UnixListener;
 use std::process::Abort;
+use std::rt::Files;
 use std::{env, fs, io, process};
 use sv_base::{Place, Text};
 use sv_os::{OsDial, OsShelf, ReadSource, WriteSink};
@@ -12,12 +13,17 @@ use sv_out::sink::{Sink, write_all};
 use sv_out::source::Source;
 use sv_out::{Dial, DialFault, Link, Shelf, ShelfFault};
 
-/// A new directory of this process alone.
-pub(crate) fn new_directory(rt: &HostRuntime, name: &str) -> io::Result<String> {
+/// The path of a new directory of this process alone.
+fn new_path(rt: &HostRuntime, name: &str) -> io::Result<String> {
     let above = env::temp_dir(rt)?;
     let above = above.display();
     let pid = process::id(rt.process());
-    let path = format!(in rt.alloc(); "{above}/sv_os_{name}_{pid}")?;
+    Ok(format!(in rt.alloc(); "{above}/sv_os_{name}_{pid}")?)
+}
+
+/// A new directory of this process alone.
+pub(crate) fn new_directory(rt: &HostRuntime, name: &str) -> io::Result<String> {
+    let path = new_path(rt, name)?;
     fs::create_dir(rt, path.as_str())?;
     Ok(path)
 }
@@ -34,18 +40,40 @@ pub(crate) fn socket_at(rt: &impl Abort, alloc: Global, path: &str) -> Place {
 
 #[test]
 fn files_come_through(rt: HostRuntime) {
-    let alloc = rt.alloc();
     let directory = new_directory(&rt, "files").expect(&rt, "a new directory");
-    let first = path_in(&rt, alloc, directory.as_str(), "a.log");
-    let second = path_in(&rt, alloc, directory.as_str(), "b.log");
-    let mut shelf = OsShelf::new(rt);
-    make_file(&rt, alloc, &mut shelf, first.as_str());
-    read_file(&rt, alloc, &mut shelf, first.as_str());
-    rename_file(&rt, alloc, &mut shelf, first.as_str(), second.as_str());
-    list_file(&rt, alloc, &mut shelf, directory.as_str(), second.as_str());
-    empty_file(&rt, alloc, &mut shelf, second.as_str());
-    read_directory(&rt, alloc, &mut shelf, directory.as_str());
+    come_through_in(rt, rt.alloc(), directory.as_str());
     fs::remove_dir_all(&rt, directory.as_str()).expect(&rt, "the system does it");
+}
+
+/// Files come through in this directory.
+fn come_through_in<R: Abort + Files + AllocGlobal + Copy>(rt: R, alloc: Global, directory: &str) {
+    let first = path_in(&rt, alloc, directory, "a.log");
+    let second = path_in(&rt, alloc, directory, "b.log");
+    come_through(
+        &rt,
+        alloc,
+        &mut OsShelf::new(rt),
+        directory,
+        first.as_str(),
+        second.as_str(),
+    );
+}
+
+/// A file comes through, under its first name and then under its second one.
+fn come_through<S: Shelf>(
+    rt: &impl Abort,
+    alloc: Global,
+    shelf: &mut S,
+    directory: &str,
+    first: &str,
+    second: &str,
+) {
+    make_file(rt, alloc, shelf, first);
+    read_file(rt, alloc, shelf, first);
+    rename_file(rt, alloc, shelf, first, second);
+    list_file(rt, alloc, shelf, directory, second);
+    empty_file(rt, alloc, shelf, second);
+    read_directory(rt, alloc, shelf, directory);
 }
 
 /// Makes a file, which wasn't there, in two steps.
@@ -61,6 +89,11 @@ fn make_file<S: Shelf>(rt: &impl Abort, alloc: Global, shelf: &mut S, file: &str
 fn read_file<S: Shelf>(rt: &impl Abort, alloc: Global, shelf: &mut S, file: &str) {
     let bytes = shelf.read(alloc, file).expect(rt, "a file is read");
     assert!(rt; bytes.as_slice() == b"abcde".as_slice());
+    read_part(rt, alloc, shelf, file);
+}
+
+/// Reads the size of the file, and a part of it.
+fn read_part<S: Shelf>(rt: &impl Abort, alloc: Global, shelf: &mut S, file: &str) {
     let size = shelf.size(alloc, file).expect(rt, "a file has a size");
     assert!(rt; size == 5);
     let part = shelf.part(alloc, file, 1, 3).expect(rt, "a part is read");
@@ -80,10 +113,18 @@ fn rename_file<S: Shelf>(rt: &impl Abort, alloc: Global, shelf: &mut S, first: &
 /// The file is the one of a directory that a pattern matches.
 fn list_file<S: Shelf>(rt: &impl Abort, alloc: Global, shelf: &mut S, directory: &str, file: &str) {
     let pattern = path_in(rt, alloc, directory, "?.l*");
-    let names = shelf
-        .names(alloc, pattern.as_str())
-        .expect(rt, "names are listed");
-    match names.as_slice() {
+    is_listed(rt, alloc, shelf, pattern.as_str(), file);
+}
+
+/// The file is the one that a pattern matches.
+fn is_listed<S: Shelf>(rt: &impl Abort, alloc: Global, shelf: &mut S, pattern: &str, file: &str) {
+    let names = shelf.names(alloc, pattern).expect(rt, "names are listed");
+    is_only(rt, names.as_slice(), file);
+}
+
+/// The names are this one.
+fn is_only(rt: &impl Abort, names: &[Text], file: &str) {
+    match names {
         [name] => assert_eq!(rt; name.as_str(), file),
         _ => assert!(rt; false, "one file is there"),
     }
@@ -103,34 +144,67 @@ fn read_directory<S: Shelf>(rt: &impl Abort, alloc: Global, shelf: &mut S, direc
     assert!(rt; matches!(shelf.read(alloc, directory), Err(ShelfFault::Failed)));
 }
 
-/// Sends over a link, hears the answer, and gives the link back.
-fn talk<D: Dial>(rt: &impl Abort, alloc: Global, dial: &mut D, link: D::Link) {
-    let mut link = link;
+/// Hears the answer over a link, and its end.
+fn hear_pong<L: Link>(rt: &impl Abort, link: &mut L) {
     let mut buffer = [0u8; 8];
     let count = link.read(&mut buffer).expect(rt, "an answer is read");
     assert!(rt; &buffer[..count] == b"pong".as_slice());
     let count = link.read(&mut buffer).expect(rt, "the end is read");
     assert!(rt; count == 0);
+}
+
+/// Hears the answer over a link, and gives the link back.
+fn hear<D: Dial>(rt: &impl Abort, alloc: Global, dial: &mut D, link: D::Link) {
+    let mut link = link;
+    hear_pong(rt, &mut link);
     dial.close(alloc, link).expect(rt, "a link is given back");
 }
 
-/// Connects over TCP, and talks both ways.
-fn talk_over_tcp<D: Dial>(rt: &impl Abort, alloc: Global, dial: &mut D, listener: &TcpListener) {
-    let address = listener.local_addr().expect(rt, "the system does it");
-    let place = Place::Inet(Text::fixed(""), address.port());
-    let mut link = dial
-        .connect(alloc, &place)
-        .expect(rt, "a connection over TCP");
-    let (mut peer, _) = listener.accept().expect(rt, "the system does it");
+/// Sends over a link.
+fn send_ping<L: Link>(rt: &impl Abort, link: &mut L) {
     let count = link.write(b"ping").expect(rt, "a request is written");
     assert!(rt; count == 4);
+}
+
+/// Hears what was sent.
+fn hear_ping<P: Read>(rt: &impl Abort, peer: &mut P) {
     let mut buffer = [0u8; 4];
     peer.read_exact(&mut buffer)
         .expect(rt, "the system does it");
     assert!(rt; buffer.as_slice() == b"ping".as_slice());
+}
+
+/// Accepts the peer of a link, which hears what is sent over the link, answers and ends.
+fn answer_over_tcp<R: Abort + Net, L: Link>(rt: &R, listener: &R::Listener, link: &mut L) {
+    let (mut peer, _) = listener.accept().expect(rt, "the system does it");
+    send_ping(rt, link);
+    hear_ping(rt, &mut peer);
     peer.write_all(b"pong").expect(rt, "the system does it");
-    drop(peer);
-    talk(rt, alloc, dial, link);
+}
+
+/// A link to this place.
+fn connected<D: Dial>(rt: &impl Abort, alloc: Global, dial: &mut D, place: &Place) -> D::Link {
+    dial.connect(alloc, place).expect(rt, "a connection")
+}
+
+/// Connects over TCP, and talks both ways.
+fn talk_over_tcp<R: Abort + Net, D: Dial>(
+    rt: &R,
+    alloc: Global,
+    dial: &mut D,
+    listener: &R::Listener,
+) {
+    let address = listener.local_addr().expect(rt, "the system does it");
+    let place = Place::Inet(Text::fixed(""), address.port());
+    let mut link = connected(rt, alloc, dial, &place);
+    answer_over_tcp(rt, listener, &mut link);
+    hear(rt, alloc, dial, link);
+}
+
+/// Accepts a peer, which answers and ends.
+fn answer_over_path(rt: &impl Abort, listener: &UnixListener) {
+    let (mut peer, _) = listener.accept().expect(rt, "the system does it");
+    peer.write_all(b"pong").expect(rt, "the system does it");
 }
 
 /// Connects over a socket's path, and hears the peer.
@@ -141,31 +215,50 @@ fn talk_over_path<D: Dial>(
     listener: &UnixListener,
     place: &Place,
 ) {
-    let link = dial
-        .connect(alloc, place)
-        .expect(rt, "a connection over a socket's path");
-    let (mut peer, _) = listener.accept().expect(rt, "the system does it");
-    peer.write_all(b"pong").expect(rt, "the system does it");
-    drop(peer);
-    talk(rt, alloc, dial, link);
+    let link = connected(rt, alloc, dial, place);
+    answer_over_path(rt, listener);
+    hear(rt, alloc, dial, link);
+}
+
+/// Listens over TCP; a client talks both ways.
+fn listen_over_tcp<R: Abort + Net, D: Dial>(rt: &R, alloc: Global, dial: &mut D) {
+    let listener = TcpListener::bind(rt, SocketAddr::from((Ipv4Addr::LOCALHOST, 0))).expect(
+        rt,
+        "the system does it",
+    );
+    talk_over_tcp(rt, alloc, dial, &listener);
+}
+
+/// Nobody accepts at this address.
+fn is_closed<D: Dial>(rt: &impl Abort, alloc: Global, dial: &mut D, place: &Place) {
+    assert!(rt; matches!(dial.connect(alloc, place), Err(DialFault::Failed)));
+}
+
+/// Listens at this path, where nobody did; a client hears the peer.
+fn listen_at<R: Abort + Net + Files, D: Dial>(rt: &R, alloc: Global, dial: &mut D, path: &str) {
+    let place = socket_at(rt, alloc, path);
+    is_closed(rt, alloc, dial, &place);
+    let listener = UnixListener::bind(rt, path).expect(rt, "the system does it");
+    talk_over_path(rt, alloc, dial, &listener, &place);
+}
+
+/// Listens at a path in this directory; a client hears the peer.
+fn listen_in<R: Abort + Net + Files, D: Dial>(
+    rt: &R,
+    alloc: Global,
+    dial: &mut D,
+    directory: &str,
+) {
+    let path = path_in(rt, alloc, directory, "socket");
+    listen_at(rt, alloc, dial, path.as_str());
 }
 
 #[test]
 fn connections_come_through(rt: HostRuntime) {
-    let alloc = rt.alloc();
     let mut dial = OsDial::new(&rt);
-    let listener = TcpListener::bind(&rt, SocketAddr::from((Ipv4Addr::LOCALHOST, 0))).expect(
-        &rt,
-        "the system does it",
-    );
-    talk_over_tcp(&rt, alloc, &mut dial, &listener);
-
+    listen_over_tcp(&rt, rt.alloc(), &mut dial);
     let directory = new_directory(&rt, "sockets").expect(&rt, "a new directory");
-    let path = path_in(&rt, alloc, directory.as_str(), "socket");
-    let place = socket_at(&rt, alloc, path.as_str());
-    assert!(rt; matches!(dial.connect(alloc, &place), Err(DialFault::Failed)));
-    let listener = UnixListener::bind(&rt, path.as_str()).expect(&rt, "the system does it");
-    talk_over_path(&rt, alloc, &mut dial, &listener, &place);
+    listen_in(&rt, rt.alloc(), &mut dial, directory.as_str());
     fs::remove_dir_all(&rt, directory.as_str()).expect(&rt, "the system does it");
 }
 
@@ -187,9 +280,9 @@ impl Read for Interrupted {
 #[test]
 fn interrupted_calls_are_made_again(rt: HostRuntime) {
     let mut buffer = [0u8; 2];
-    for (interrupted, read) in [(0, true), (999, true), (1_000, false)] {
-        let mut source = ReadSource::new(Interrupted(interrupted));
-        assert!(rt; matches!(source.read(&mut buffer), Ok(2)) == read);
+    for (interrupted, read) in &[(0, true), (999, true), (1_000, false)] {
+        let mut source = ReadSource::new(Interrupted(*interrupted));
+        assert!(rt; matches!(source.read(&mut buffer), Ok(2)) == *read);
     }
 }
 
@@ -244,6 +337,15 @@ impl Write for HaltingWriter {
     }
 }
 
+/// Writes what a source gives to a sink, piece by piece, so many of them.
+fn copy<S: Source, K: Sink>(rt: &impl Abort, source: &mut S, sink: &mut K, pieces: usize) {
+    let mut buffer = [0u8; 7];
+    for _ in 0..pieces {
+        let count = source.read(&mut buffer).expect(rt, "bytes are read");
+        write_all(sink, &buffer[..count]).expect(rt, "bytes are written");
+    }
+}
+
 #[test]
 fn short_and_interrupted_calls_lose_no_byte(rt: HostRuntime) {
     let text = b"each byte comes through, once and in its order".as_slice();
@@ -255,11 +357,11 @@ fn short_and_interrupted_calls_lose_no_byte(rt: HostRuntime) {
         taken: Vec::new(rt.alloc()),
         is_interrupted: false,
     };
-    let mut sink = WriteSink::new(&mut writer);
-    let mut buffer = [0u8; 7];
-    for _ in 0..text.len() {
-        let count = source.read(&mut buffer).expect(&rt, "bytes are read");
-        write_all(&mut sink, &buffer[..count]).expect(&rt, "bytes are written");
-    }
+    copy(
+        &rt,
+        &mut source,
+        &mut WriteSink::new(&mut writer),
+        text.len(),
+    );
     assert!(rt; writer.taken.as_slice() == text);
 }

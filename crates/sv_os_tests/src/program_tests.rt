@@ -4,9 +4,9 @@ use crate::os_tests::{new_directory, path_in};
 use std::alloc::Global;
 use std::fs;
 use std::fs::{File, Permissions};
-use std::net::{Ipv4Addr, SocketAddr, TcpListener};
+use std::net::{Ipv4Addr, Net, SocketAddr, TcpListener};
 use std::os::unix::fs::PermissionsExt;
-use std::process::Abort;
+use std::process::{Abort, Processes};
 use std::rt::Files;
 use sv_base::{ExitSignal, How, Items, Pid, Run, Signal, Text};
 use sv_os::OsSpawner;
@@ -15,14 +15,47 @@ use sv_out::sink::Sink;
 use sv_out::source::Source;
 use sv_outside::{KillFault, Refusal, SpawnFault, Spawner, Started, Waiter};
 
+/// A text that is made anew.
+fn text_of(rt: &impl Abort, alloc: Global, text: &str) -> Text {
+    Text::from_str(alloc, text).expect(rt, "ample memory")
+}
+
 /// These words, one after the other.
 fn words_of(rt: &impl Abort, alloc: Global, words: &[&str]) -> Items<Text> {
     let mut all = Items::new(alloc);
     for word in words {
-        let word = Text::from_str(alloc, word).expect(rt, "ample memory");
-        all.push(word).expect(rt, "ample memory");
+        all.push(text_of(rt, alloc, word))
+            .expect(rt, "ample memory");
     }
     all
+}
+
+/// One variable.
+fn environment_of(rt: &impl Abort, alloc: Global) -> Items<(Text, Text)> {
+    let mut environment = Items::new(alloc);
+    environment
+        .push((Text::fixed("SV_OS_TEST"), Text::fixed("a b")))
+        .expect(rt, "ample memory");
+    environment
+}
+
+/// An order for these words in this directory and for this user, with these variables.
+fn order_of(
+    words: Items<Text>,
+    directory: Text,
+    user: &'static str,
+    environment: Items<(Text, Text)>,
+) -> SpawnOrder {
+    SpawnOrder {
+        run: Run(1),
+        group: Text::fixed("g"),
+        name: Text::fixed("p"),
+        directory,
+        umask: Text::fixed(""),
+        user: Text::fixed(user),
+        words,
+        environment,
+    }
 }
 
 /// An order for these words in this directory and for this user, with one variable.
@@ -33,20 +66,24 @@ fn order_in(
     directory: &str,
     user: &'static str,
 ) -> SpawnOrder {
-    let mut environment = Items::new(alloc);
-    environment
-        .push((Text::fixed("SV_OS_TEST"), Text::fixed("a b")))
-        .expect(rt, "ample memory");
-    SpawnOrder {
-        run: Run(1),
-        group: Text::fixed("g"),
-        name: Text::fixed("p"),
-        directory: Text::from_str(alloc, directory).expect(rt, "ample memory"),
-        umask: Text::fixed(""),
-        user: Text::fixed(user),
-        words: words_of(rt, alloc, words),
-        environment,
-    }
+    order_of(
+        words_of(rt, alloc, words),
+        text_of(rt, alloc, directory),
+        user,
+        environment_of(rt, alloc),
+    )
+}
+
+/// Starts the program of an order.
+fn started<S: Spawner>(
+    rt: &impl Abort,
+    alloc: Global,
+    spawner: &mut S,
+    order: &SpawnOrder,
+) -> Started<S::Stdin, S::Stdout, S::Stderr, S::Waiter> {
+    spawner
+        .spawn(alloc, order)
+        .expect(rt, "a program is started")
 }
 
 /// Starts the program of these words in this directory.
@@ -57,10 +94,12 @@ fn started_in<S: Spawner>(
     words: &[&str],
     directory: &str,
 ) -> Started<S::Stdin, S::Stdout, S::Stderr, S::Waiter> {
-    let order = order_in(rt, alloc, words, directory, "");
-    spawner
-        .spawn(alloc, &order)
-        .expect(rt, "a program is started")
+    started(
+        rt,
+        alloc,
+        spawner,
+        &order_in(rt, alloc, words, directory, ""),
+    )
 }
 
 /// Starts a line of the shell.
@@ -73,19 +112,30 @@ fn started_line<S: Spawner>(
     started_in(rt, alloc, spawner, ["/bin/sh", "-c", line].as_slice(), "")
 }
 
+/// Adds a piece of what a source gives: whether it was at its end.
+fn add_piece<S: Source>(rt: &impl Abort, source: &mut S, all: &mut Vec<u8>) -> bool {
+    let mut piece = [0u8; 512];
+    let count = source.read(&mut piece).expect(rt, "a pipe is read");
+    all.extend_from_slice(&piece[..count])
+        .expect(rt, "ample memory");
+    count == 0
+}
+
+/// Adds what a source gives up to its end.
+fn add_all<S: Source>(rt: &impl Abort, source: &mut S, all: &mut Vec<u8>) {
+    for _ in 0..1_000 {
+        if add_piece(rt, source, all) {
+            return;
+        }
+    }
+    panic!(rt; "a source ends")
+}
+
 /// What a source gives up to its end.
 fn all_of<S: Source>(rt: &impl Abort, alloc: Global, source: &mut S) -> Vec<u8> {
     let mut all = Vec::new(alloc);
-    let mut piece = [0u8; 512];
-    for _ in 0..1_000 {
-        let count = source.read(&mut piece).expect(rt, "a pipe is read");
-        if count == 0 {
-            return all;
-        }
-        all.extend_from_slice(&piece[..count])
-            .expect(rt, "ample memory");
-    }
-    panic!(rt; "a source ends")
+    add_all(rt, source, &mut all);
+    all
 }
 
 /// A source gives this text, and then its end.
@@ -105,7 +155,12 @@ fn tells<S: Spawner>(rt: &impl Abort, alloc: Global, spawner: &mut S, directory:
     says_hello(rt, started.stdin);
     gives_hello(rt, alloc, &mut started.stdout, directory);
     gives(rt, alloc, &mut started.stderr, "oh\n");
-    assert!(rt; matches!(started.waiter.wait(), Ok(How::Code(3))));
+    ends(rt, &mut started.waiter, 3);
+}
+
+/// A program ends with this code.
+fn ends<W: Waiter>(rt: &impl Abort, waiter: &mut W, wanted: u8) {
+    assert!(rt; matches!(waiter.wait(), Ok(How::Code(code)) if code == wanted));
 }
 
 /// Writes a line to a sink, which ends.
@@ -141,19 +196,24 @@ fn names_three_beside<S: Spawner>(rt: &impl Abort, alloc: Global, spawner: &mut 
     names_three(rt, alloc, spawner);
     drop(other.stdin);
     let mut waiter = other.waiter;
-    assert!(rt; matches!(waiter.wait(), Ok(How::Code(1))));
+    ends(rt, &mut waiter, 1);
+}
+
+/// Starts the programs while a socket is open.
+fn names_three_beside_socket<R: Abort + Net + Processes + Files + Copy>(rt: R, alloc: Global) {
+    let listener = TcpListener::bind(&rt, SocketAddr::from((Ipv4Addr::LOCALHOST, 0))).expect(
+        &rt,
+        "the system does it",
+    );
+    names_three_beside(&rt, alloc, &mut OsSpawner::new(rt));
+    drop(listener);
 }
 
 #[test]
 fn a_program_holds_three_descriptors(rt: HostRuntime) {
     let file = File::open(&rt, "/proc/self/stat").expect(&rt, "the system does it");
-    let listener = TcpListener::bind(&rt, SocketAddr::from((Ipv4Addr::LOCALHOST, 0))).expect(
-        &rt,
-        "the system does it",
-    );
-    names_three_beside(&rt, rt.alloc(), &mut OsSpawner::new(rt));
+    names_three_beside_socket(rt, rt.alloc());
     drop(file);
-    drop(listener);
 }
 
 /// This process, or its group, is signalled, and ends by the signal of this number.
@@ -200,47 +260,66 @@ fn signal_group<S: Spawner>(rt: &impl Abort, alloc: Global, spawner: &mut S) {
     gives(rt, alloc, &mut started.stdout, "");
 }
 
-#[test]
-fn programs_are_signalled(rt: HostRuntime) {
-    let alloc = rt.alloc();
-    let mut spawner = OsSpawner::new(rt);
-    let rows = [
-        (Signal::Usr1, false, 10),
-        (Signal::Kill, false, 9),
-        (Signal::Term, true, 15),
-    ];
-    for row in rows {
-        signal_one(&rt, alloc, &mut spawner, row);
-    }
-    signal_group(&rt, alloc, &mut spawner);
-    let none = Pid::new(4_194_305).expect(&rt, "past the last process");
+/// Starts three programs, one after the other, each of which is ended by another signal.
+fn signal_three<S: Spawner>(rt: &impl Abort, alloc: Global, spawner: &mut S) {
+    signal_one(rt, alloc, spawner, (Signal::Usr1, false, 10));
+    signal_one(rt, alloc, spawner, (Signal::Kill, false, 9));
+    signal_one(rt, alloc, spawner, (Signal::Term, true, 15));
+}
+
+/// A signal to a process that isn't there, or to its group, fails.
+fn signal_none<S: Spawner>(rt: &impl Abort, alloc: Global, spawner: &mut S) {
+    let none = Pid::new(4_194_305).expect(rt, "past the last process");
     for group in [false, true] {
         let answer = spawner.kill(alloc, none, Signal::Term, group);
         assert!(rt; matches!(answer, Err(KillFault::Failed)));
     }
 }
 
+#[test]
+fn programs_are_signalled(rt: HostRuntime) {
+    let mut spawner = OsSpawner::new(rt);
+    signal_three(&rt, rt.alloc(), &mut spawner);
+    signal_group(&rt, rt.alloc(), &mut spawner);
+    signal_none(&rt, rt.alloc(), &mut spawner);
+}
+
 /// Why the spawner refuses an order; empty where it doesn't for a reason that it tells.
-fn refusal<S: Spawner>(alloc: Global, spawner: &mut S, order: &SpawnOrder) -> Text {
-    match spawner.spawn(alloc, order) {
-        Err(SpawnFault::Refused(Refusal::NoFile)) => Text::fixed("no file"),
-        Err(SpawnFault::Refused(Refusal::NotExecutable)) => Text::fixed("not executable"),
-        Err(SpawnFault::Refused(Refusal::Refused(reason))) => reason,
-        _ => Text::fixed(""),
+fn refusal<I: Drop, O: Drop, E: Drop, W: Drop>(
+    answer: &Result<Started<I, O, E, W>, SpawnFault>,
+) -> &str {
+    match answer {
+        Err(SpawnFault::Refused(Refusal::NoFile)) => "no file",
+        Err(SpawnFault::Refused(Refusal::NotExecutable)) => "not executable",
+        Err(SpawnFault::Refused(Refusal::Refused(reason))) => reason.as_str(),
+        _ => "",
     }
 }
 
-/// Why the spawner refuses an order for these words in this directory and for this user.
-fn refusal_of<S: Spawner>(
+/// An order is refused for this reason.
+fn is_refusal<S: Spawner>(
+    rt: &impl Abort,
+    alloc: Global,
+    spawner: &mut S,
+    order: &SpawnOrder,
+    wanted: &str,
+) {
+    let answer = spawner.spawn(alloc, order);
+    assert_eq!(rt; refusal(&answer), wanted);
+}
+
+/// An order for these words in this directory and for this user is refused for this reason.
+fn is_refused_in<S: Spawner>(
     rt: &impl Abort,
     alloc: Global,
     spawner: &mut S,
     words: &[&str],
     directory: &str,
     user: &'static str,
-) -> Text {
+    wanted: &str,
+) {
     let order = order_in(rt, alloc, words, directory, user);
-    refusal(alloc, spawner, &order)
+    is_refusal(rt, alloc, spawner, &order, wanted);
 }
 
 /// An order for these words is refused for this reason.
@@ -251,8 +330,7 @@ fn is_refused<S: Spawner>(
     words: &[&str],
     wanted: &str,
 ) {
-    let reason = refusal_of(rt, alloc, spawner, words, "", "");
-    assert_eq!(rt; reason.as_str(), wanted);
+    is_refused_in(rt, alloc, spawner, words, "", "", wanted);
 }
 
 /// Makes two files, of which the second may be executed.
@@ -264,12 +342,26 @@ fn make_files<R: Abort + Files>(rt: &R, plain: &str, noise: &str) {
 
 /// A program is refused whose directory is a file, and one with a user.
 fn are_refused_in_file<S: Spawner>(rt: &impl Abort, alloc: Global, spawner: &mut S, plain: &str) {
-    let wanted = format!(in alloc; "can't change to directory {plain}").expect(rt, "ample memory");
     let words = ["/bin/true"];
-    let reason = refusal_of(rt, alloc, spawner, words.as_slice(), plain, "");
-    assert!(rt; reason.as_str() == wanted.as_str());
-    let reason = refusal_of(rt, alloc, spawner, words.as_slice(), plain, "nobody");
-    assert!(rt; reason.as_str() == "can't become user nobody");
+    let wanted = format!(in alloc; "can't change to directory {plain}").expect(rt, "ample memory");
+    is_refused_in(
+        rt,
+        alloc,
+        spawner,
+        words.as_slice(),
+        plain,
+        "",
+        wanted.as_str(),
+    );
+    is_refused_in(
+        rt,
+        alloc,
+        spawner,
+        words.as_slice(),
+        plain,
+        "nobody",
+        "can't become user nobody",
+    );
 }
 
 /// Programs are refused by their names; of a directory and of two files in it none is executed.
@@ -296,22 +388,30 @@ fn are_refused<'a, S: Spawner>(
     is_refused(rt, alloc, spawner, [].as_slice(), "no file");
 }
 
+/// Programs are refused by their names; of this directory and of two files that are made in it none is executed.
+fn are_refused_at<R: Abort + Processes + Files + Copy>(
+    rt: R,
+    alloc: Global,
+    directory: &str,
+    plain: &str,
+    noise: &str,
+) {
+    make_files(&rt, plain, noise);
+    let mut spawner = OsSpawner::new(rt);
+    are_refused(&rt, alloc, &mut spawner, directory, plain, noise);
+    are_refused_in_file(&rt, alloc, &mut spawner, plain);
+}
+
+/// Programs are refused by their names, which stand in this directory.
+fn are_refused_in<R: Abort + Processes + Files + Copy>(rt: R, alloc: Global, directory: &str) {
+    let plain = path_in(&rt, alloc, directory, "plain");
+    let noise = path_in(&rt, alloc, directory, "noise");
+    are_refused_at(rt, alloc, directory, plain.as_str(), noise.as_str());
+}
+
 #[test]
 fn programs_are_refused_by_name(rt: HostRuntime) {
-    let alloc = rt.alloc();
     let directory = new_directory(&rt, "refused").expect(&rt, "a new directory");
-    let plain = path_in(&rt, alloc, directory.as_str(), "plain");
-    let noise = path_in(&rt, alloc, directory.as_str(), "noise");
-    make_files(&rt, plain.as_str(), noise.as_str());
-    let mut spawner = OsSpawner::new(rt);
-    are_refused(
-        &rt,
-        alloc,
-        &mut spawner,
-        directory.as_str(),
-        plain.as_str(),
-        noise.as_str(),
-    );
-    are_refused_in_file(&rt, alloc, &mut spawner, plain.as_str());
+    are_refused_in(rt, rt.alloc(), directory.as_str());
     fs::remove_dir_all(&rt, directory.as_str()).expect(&rt, "the system does it");
 }

@@ -10,21 +10,24 @@ use sv_os::{fault_of, how_of, kill_line};
 use sv_outside::{Refusal, SpawnFault};
 
 /// Memory was refused in this process.
-fn is_own_memory(rt: &impl Abort, alloc: Global, error: io::Error) {
-    let fault = fault_of(alloc, &error);
-    assert!(rt; matches!(fault, Ok(SpawnFault::OutOfMemory)));
+fn is_own_memory(rt: &impl Abort, alloc: Global, error: &io::Error) {
+    assert!(rt; matches!(&fault_of(alloc, error), Ok(SpawnFault::OutOfMemory)));
 }
 
 /// The system refused, in words of its own.
-fn is_refused(rt: &impl Abort, alloc: Global, error: io::Error) {
-    let fault = fault_of(alloc, &error);
-    assert!(rt; matches!(fault, Ok(SpawnFault::Refused(Refusal::Refused(_)))));
+fn is_refused(rt: &impl Abort, alloc: Global, error: &io::Error) {
+    assert!(rt;
+        matches!(
+            &fault_of(alloc, error),
+            Ok(SpawnFault::Refused(Refusal::Refused(_)))
+        )
+    );
 }
 
 #[test]
 fn faults_of_the_system_are_told_apart(rt: HostRuntime) {
-    is_own_memory(&rt, rt.alloc(), io::Error::from(ErrorKind::OutOfMemory));
-    is_refused(&rt, rt.alloc(), io::Error::from_raw_os_error(12));
+    is_own_memory(&rt, rt.alloc(), &io::Error::from(ErrorKind::OutOfMemory));
+    is_refused(&rt, rt.alloc(), &io::Error::from_raw_os_error(12));
 }
 
 /// The line of the shell for this signal.

@@ -9,7 +9,7 @@ use std::thread::{JoinHandle, Threads};
 use sv_base::{How, Moment, Run};
 use sv_job_types::{AnyJob, NoBoard, TickerJob, WatchJob};
 use sv_jobs::Note;
-use sv_lane::{Seats, Taker, lane};
+use sv_lane::{Poster, Seats, Taker, lane};
 use sv_out::sink::ListSink;
 use sv_out::source::ListSource;
 use sv_outside::{FixedClock, Job, JobWord, PumpEnd, ScriptListen, ScriptWaiter};
@@ -25,22 +25,31 @@ type TestJob = AnyJob<
     NoBoard,
 >;
 
-fn watch_job(rt: &impl Abort, alloc: Global, seats: &mut Seats<Note>) -> TestJob {
+/// A further seat of the notes.
+fn seat_of(rt: &impl Abort, seats: &mut Seats<Note>) -> Poster<Note> {
+    seats.seat().expect(rt, "ample memory")
+}
+
+/// A job that waits for the end of a run.
+fn watch_job(alloc: Global, poster: Poster<Note>) -> TestJob {
     AnyJob::Watch(WatchJob {
         run: Run(3),
         waiter: ScriptWaiter::new(How::Code(5), Vec::new(alloc)),
-        poster: seats.seat().expect(rt, "ample memory"),
+        poster,
     })
 }
 
-fn ticker_job(rt: &impl Abort, alloc: Global, seats: &mut Seats<Note>) -> TestJob {
+/// A clock with room for two pauses.
+fn clock_of(rt: &impl Abort, alloc: Global) -> FixedClock {
+    FixedClock::new(alloc, Moment::zero(), VecDeque::new(alloc), 2).expect(rt, "ample memory")
+}
+
+/// A job that ticks twice by this clock.
+fn ticker_job(clock: FixedClock, poster: Poster<Note>) -> TestJob {
     AnyJob::Ticker(TickerJob {
-        clock: FixedClock::new(alloc, Moment::zero(), VecDeque::new(alloc), 2).expect(
-            rt,
-            "ample memory",
-        ),
+        clock,
         turns: 2,
-        poster: seats.seat().expect(rt, "ample memory"),
+        poster,
     })
 }
 
@@ -66,9 +75,9 @@ fn ticks_taken<R: Abort + Wait>(rt: &R, taker: &mut Taker<Note>) -> u64 {
 }
 
 /// A job about this word, at work in a thread of its own.
-fn at_work<R: Abort + Threads + Wait + Copy + Send + 'static>(
+fn at_work<R: Abort + Threads + Wait + Copy + Send + 'static, J: Job + Send + 'static>(
     rt: R,
-    job: TestJob,
+    job: J,
     word: JobWord,
 ) -> JoinHandle<PumpEnd> {
     let mut job = job;
@@ -76,16 +85,24 @@ fn at_work<R: Abort + Threads + Wait + Copy + Send + 'static>(
     thread::spawn(&rt, move || job.work(&rt)).expect(&rt, "memory")
 }
 
-/// The watching job and the ticker at work, whose notes come in this lane.
-fn both_at_work<R: Abort + Threads + Wait + Copy + Send + 'static>(
+/// The watching job at work, whose notes come in this lane.
+fn watch_at_work<R: Abort + Threads + Wait + Copy + Send + 'static>(
     rt: R,
     alloc: Global,
     seats: &mut Seats<Note>,
-) -> (JoinHandle<PumpEnd>, JoinHandle<PumpEnd>) {
-    let watch = watch_job(&rt, alloc, seats);
-    let first = at_work(rt, watch, JobWord::Watch(Run(3)));
-    let ticker = ticker_job(&rt, alloc, seats);
-    (first, at_work(rt, ticker, JobWord::Ticker))
+) -> JoinHandle<PumpEnd> {
+    let job = watch_job(alloc, seat_of(&rt, seats));
+    at_work(rt, job, JobWord::Watch(Run(3)))
+}
+
+/// The ticker at work, whose notes come in this lane.
+fn ticker_at_work<R: Abort + Threads + Wait + Copy + Send + 'static>(
+    rt: R,
+    alloc: Global,
+    seats: &mut Seats<Note>,
+) -> JoinHandle<PumpEnd> {
+    let job = ticker_job(clock_of(&rt, alloc), seat_of(&rt, seats));
+    at_work(rt, job, JobWord::Ticker)
 }
 
 /// A job ends.
@@ -96,7 +113,8 @@ fn ends<R: Abort + Threads + Wait>(rt: &R, job: JoinHandle<PumpEnd>) {
 #[test]
 fn jobs_work_in_threads_of_their_own(rt: HostRuntime) {
     let (mut taker, mut seats) = lane(rt.alloc(), 8).expect(&rt, "memory");
-    let (first, second) = both_at_work(rt, rt.alloc(), &mut seats);
+    let first = watch_at_work(rt, rt.alloc(), &mut seats);
+    let second = ticker_at_work(rt, rt.alloc(), &mut seats);
     ends(&rt, first);
     ends(&rt, second);
     assert!(rt; ticks_taken(&rt, &mut taker) == 2);

@@ -5,6 +5,7 @@ use std::collections::VecDeque;
 use std::process::Abort;
 use std::sync::Wait;
 use sv_base::{How, Items, Moment, Pid, Place, Run, Signal, Stream, Text};
+use sv_out::failed::Failed;
 use sv_out::order::SpawnOrder;
 use sv_out::sink::{ListSink, Sink};
 use sv_out::source::{ListSource, Source};
@@ -22,51 +23,88 @@ fn moment(rt: &impl Abort, milliseconds: u64) -> Moment {
     Moment::new(milliseconds).expect(rt, "a moment")
 }
 
-/// A clock that gives 5 and then 7, with room for two pauses.
-fn clock_of(rt: &impl Abort, alloc: Global) -> FixedClock {
+/// The moment 7.
+fn later_of(rt: &impl Abort, alloc: Global) -> VecDeque<Moment> {
     let mut later = VecDeque::new(alloc);
     later.push_back(moment(rt, 7)).expect(rt, "ample memory");
-    FixedClock::new(alloc, moment(rt, 5), later, 2).expect(rt, "ample memory")
+    later
 }
 
-#[test]
-fn a_clock_gives_its_moments_and_then_the_last(rt: HostRuntime) {
-    let mut clock = clock_of(&rt, rt.alloc());
+/// A clock that gives 5 and then 7, with room for two pauses.
+fn clock_of(rt: &impl Abort, alloc: Global) -> FixedClock {
+    FixedClock::new(alloc, moment(rt, 5), later_of(rt, alloc), 2).expect(rt, "ample memory")
+}
+
+/// The clock gives 5, and then 7.
+fn gives_moments(rt: &impl Abort, clock: &mut FixedClock) {
     for milliseconds in &[5, 7, 7] {
         assert!(rt; clock.now().milliseconds() == *milliseconds);
     }
+}
+
+/// The clock tells of two pauses, and of none any more after a third one.
+fn tells_pauses(rt: &impl Abort, clock: &mut FixedClock) {
     clock.pause(1_000);
     clock.pause(20);
-    assert!(rt; clock.pauses().expect(&rt, "all told") == [1_000, 20].as_slice());
+    assert!(rt; clock.pauses().expect(rt, "all told") == [1_000, 20].as_slice());
     clock.pause(3);
     assert!(rt; clock.pauses().is_none());
 }
 
 #[test]
-fn a_waiter_fails_at_its_calls(rt: HostRuntime) {
-    let mut waiter = ScriptWaiter::new(How::Code(3), calls_of(&rt, rt.alloc(), &[2]));
+fn a_clock_gives_its_moments_and_then_the_last(rt: HostRuntime) {
+    let mut clock = clock_of(&rt, rt.alloc());
+    gives_moments(&rt, &mut clock);
+    tells_pauses(&rt, &mut clock);
+}
+
+/// The waiter fails at its second call, and else tells how its program ended.
+fn fails_once(rt: &impl Abort, waiter: &mut ScriptWaiter) {
     let end = Some(How::Code(3));
     for (how, faults) in &[(end, 0), (None, 1), (end, 1)] {
         assert!(rt; waiter.wait().ok() == *how && waiter.faults() == *faults);
     }
 }
 
+#[test]
+fn a_waiter_fails_at_its_calls(rt: HostRuntime) {
+    let mut waiter = ScriptWaiter::new(How::Code(3), calls_of(&rt, rt.alloc(), &[2]));
+    fails_once(&rt, &mut waiter);
+}
+
+/// A script that gives this text.
+fn script_of(rt: &impl Abort, alloc: Global, text: &str) -> Script {
+    let bytes = Vec::from_slice(alloc, text.as_bytes()).expect(rt, "ample memory");
+    Script::new(bytes, 9, Vec::new(alloc))
+}
+
 /// A link that gives this text.
 fn link_of(rt: &impl Abort, alloc: Global, text: &str) -> ScriptLink {
-    let bytes = Vec::from_slice(alloc, text.as_bytes()).expect(rt, "ample memory");
-    let script = Script::new(bytes, 9, Vec::new(alloc));
-    ScriptLink::new(alloc, Place::Unix(Text::fixed("/s")), script)
+    ScriptLink::new(
+        alloc,
+        Place::Unix(Text::fixed("/s")),
+        script_of(rt, alloc, text),
+    )
+}
+
+/// Adds a link that gives this text.
+fn add_link(rt: &impl Abort, alloc: Global, links: &mut VecDeque<ScriptLink>, text: &str) {
+    links
+        .push_back(link_of(rt, alloc, text))
+        .expect(rt, "ample memory");
+}
+
+/// A link of `a` and one of `b`.
+fn links_of(rt: &impl Abort, alloc: Global) -> VecDeque<ScriptLink> {
+    let mut links = VecDeque::new(alloc);
+    add_link(rt, alloc, &mut links, "a");
+    add_link(rt, alloc, &mut links, "b");
+    links
 }
 
 /// What gives a link of `a` and one of `b`, and fails at its second call.
 fn listen_of(rt: &impl Abort, alloc: Global) -> ScriptListen {
-    let mut links = VecDeque::new(alloc);
-    for text in ["a", "b"] {
-        links
-            .push_back(link_of(rt, alloc, text))
-            .expect(rt, "ample memory");
-    }
-    ScriptListen::new(links, calls_of(rt, alloc, &[2]))
+    ScriptListen::new(links_of(rt, alloc), calls_of(rt, alloc, &[2]))
 }
 
 /// The one byte that a link gives at first.
@@ -76,21 +114,26 @@ fn first_byte(rt: &impl Abort, link: &mut ScriptLink) -> u8 {
     buffer[0]
 }
 
-/// The one byte that the next link gives at first; none where there is no link.
-fn next_byte(rt: &impl Abort, listen: &mut ScriptListen) -> Option<u8> {
-    match listen.accept() {
-        Ok(mut link) => Some(first_byte(rt, &mut link)),
+/// The one byte that an accepted link gives at first; none where there is no link.
+fn byte_of(rt: &impl Abort, accepted: &mut Result<ScriptLink, Failed>) -> Option<u8> {
+    match accepted {
+        Ok(link) => Some(first_byte(rt, link)),
         Err(_) => None,
     }
+}
+
+/// The next links give `a` and `b`, with a failure between them and one behind them.
+fn gives_links(rt: &impl Abort, listen: &mut ScriptListen) {
+    for byte in &[Some(b'a'), None, Some(b'b'), None] {
+        assert!(rt; byte_of(rt, &mut listen.accept()) == *byte);
+    }
+    assert!(rt; listen.given() == 2 && listen.faults() == 2);
 }
 
 #[test]
 fn links_come_in_turn(rt: HostRuntime) {
     let mut listen = listen_of(&rt, rt.alloc());
-    for byte in &[Some(b'a'), None, Some(b'b'), None] {
-        assert!(rt; next_byte(&rt, &mut listen) == *byte);
-    }
-    assert!(rt; listen.given() == 2 && listen.faults() == 2);
+    gives_links(&rt, &mut listen);
 }
 
 /// A job that is about this word and does nothing.
@@ -181,14 +224,19 @@ fn order(alloc: Global, run: u32) -> SpawnOrder {
     }
 }
 
+/// A program that ends with the code 9.
+fn program_of(alloc: Global) -> Program {
+    Program {
+        waiter: ScriptWaiter::new(How::Code(9), Vec::new(alloc)),
+        ..Program::silent(alloc)
+    }
+}
+
 /// One program, which ends with the code 9.
 fn programs_of(rt: &impl Abort, alloc: Global) -> VecDeque<Program> {
     let mut programs = VecDeque::new(alloc);
     programs
-        .push_back(Program {
-            waiter: ScriptWaiter::new(How::Code(9), Vec::new(alloc)),
-            ..Program::silent(alloc)
-        })
+        .push_back(program_of(alloc))
         .expect(rt, "ample memory");
     programs
 }
@@ -204,9 +252,12 @@ fn refusals_of(rt: &impl Abort, alloc: Global) -> VecDeque<Refusal> {
 
 /// A spawner that fails at its second, fourth and fifth call.
 fn spawner_of(rt: &impl Abort, alloc: Global) -> ScriptSpawner {
-    let failing = calls_of(rt, alloc, &[2, 4, 5]);
-    let programs = programs_of(rt, alloc);
-    ScriptSpawner::new(alloc, programs, refusals_of(rt, alloc), failing)
+    ScriptSpawner::new(
+        alloc,
+        programs_of(rt, alloc),
+        refusals_of(rt, alloc),
+        calls_of(rt, alloc, &[2, 4, 5]),
+    )
 }
 
 /// What came of an order for a program: a process and how it ended, or why it was refused.

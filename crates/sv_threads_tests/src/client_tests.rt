@@ -2,7 +2,7 @@
 
 use crate::clients::{ClientLink, Clients, LateConsole, StageClock, StageSpawner, StageWaiter};
 use crate::course::{Course, Parts, go_over};
-use crate::daemon::{journal_of, orders_of};
+use crate::daemon::{bytes_of, journal_of, orders_of, text_of};
 use crate::start_gate::{StartGate, receive_and_work};
 use crossbeam_channel::{Receiver, Sender, bounded};
 use std::alloc::Global;
@@ -10,7 +10,6 @@ use std::collections::VecDeque;
 use std::process::Abort;
 use std::sync::Wait;
 use std::thread;
-use sv_base::Bytes;
 use sv_job_types::{AnyJob, NoBoard};
 use sv_out::MapShelf;
 use sv_out::sink::ListSink;
@@ -49,11 +48,15 @@ struct TwoClients;
 
 impl Course for TwoClients {
     fn over<W: World>(&self, rt: &impl Abort, alloc: Global, world: &mut W) {
-        let configuration = Bytes::from_slice(alloc, CONF.as_bytes()).expect(rt, "ample memory");
-        let journal = journal_of(rt, alloc, configuration, world);
-        let text = std::str::from_utf8(journal.written()).expect(rt, "a journal's text");
-        second_comes_first(rt, orders_of(rt, alloc, text).as_str());
+        let journal = journal_of(rt, alloc, bytes_of(rt, alloc, CONF), world);
+        answers_second_first(rt, alloc, &journal);
     }
+}
+
+/// This journal answers the second client before the first one.
+fn answers_second_first(rt: &impl Abort, alloc: Global, journal: &ListSink) {
+    let orders = orders_of(rt, alloc, text_of(rt, journal));
+    second_comes_first(rt, orders.as_str());
 }
 
 /// These orders answer the second client before the first one.
@@ -61,6 +64,11 @@ fn second_comes_first(rt: &impl Abort, orders: &str) {
     let second = orders.find("\nsend 2 ");
     let first = orders.find("\nsend 1 ");
     assert!(rt; second.is_some() && first.is_some() && second < first);
+}
+
+/// Adds one of those who are told of a reply.
+fn add(rt: &impl Abort, told: &mut Vec<Sender<()>>, one: Sender<()>) {
+    told.push(one).expect(rt, "ample memory");
 }
 
 /// The first client, which asks for a start; its reply ends the child and the daemon.
@@ -71,8 +79,8 @@ fn first_client<R: Abort + Copy>(
     ends_daemon: Sender<()>,
 ) -> ClientLink<R> {
     let mut told = Vec::new(alloc);
-    told.push(ends_child).expect(&rt, "ample memory");
-    told.push(ends_daemon).expect(&rt, "ample memory");
+    add(&rt, &mut told, ends_child);
+    add(&rt, &mut told, ends_daemon);
     ClientLink {
         rt,
         begins: None,
@@ -90,7 +98,7 @@ fn second_client<R: Abort + Copy>(
     answers: Sender<()>,
 ) -> ClientLink<R> {
     let mut told = Vec::new(alloc);
-    told.push(answers).expect(&rt, "ample memory");
+    add(&rt, &mut told, answers);
     ClientLink {
         rt,
         begins: Some(begins),
@@ -98,6 +106,11 @@ fn second_client<R: Abort + Copy>(
         reply: "RUNNING",
         told,
     }
+}
+
+/// Adds a client.
+fn add_client<R: Abort + Copy>(rt: R, links: &mut VecDeque<ClientLink<R>>, client: ClientLink<R>) {
+    links.push_back(client).expect(&rt, "ample memory");
 }
 
 /// What accepts these two clients, the first one first.
@@ -108,12 +121,52 @@ fn both_clients<R: Abort + Copy>(
     second: ClientLink<R>,
 ) -> Clients<R> {
     let mut links = VecDeque::new(alloc);
-    links.push_back(first).expect(&rt, "ample memory");
-    links.push_back(second).expect(&rt, "ample memory");
+    add_client(rt, &mut links, first);
+    add_client(rt, &mut links, second);
     Clients {
         rt,
         links,
         faults: 0,
+    }
+}
+
+/// Both ends of what tells something once.
+#[derive(Drop)]
+struct Ends {
+    tells: Sender<()>,
+    hears: Receiver<()>,
+}
+
+fn ends_of(rt: &impl Abort, alloc: Global) -> Ends {
+    let (tells, hears) = bounded(alloc, 1).expect(rt, "ample memory");
+    Ends { tells, hears }
+}
+
+/// What the parts tell each other: that the child and the daemon end, that the child was started, and that the second client has its
+/// reply.
+#[derive(Drop)]
+struct Stages {
+    child: Ends,
+    daemon: Ends,
+    start: Ends,
+    reply: Ends,
+}
+
+fn stages_of(rt: &impl Abort, alloc: Global) -> Stages {
+    Stages {
+        child: ends_of(rt, alloc),
+        daemon: ends_of(rt, alloc),
+        start: ends_of(rt, alloc),
+        reply: ends_of(rt, alloc),
+    }
+}
+
+/// A console that asks for the end once it hears this.
+fn console_of<R: Abort + Copy>(rt: R, alloc: Global, until: Receiver<()>) -> LateConsole<R> {
+    LateConsole {
+        rt,
+        until: Some(until),
+        source: source(&rt, alloc, "signal TERM\n"),
     }
 }
 
@@ -123,34 +176,33 @@ fn both_clients<R: Abort + Copy>(
 fn parts<R: Abort + Wait + std::time::Clock + Copy>(
     rt: R,
     alloc: Global,
+    stages: Stages,
 ) -> Parts<StageSpawner<R>, Clients<R>, LateConsole<R>, StageClock<R>, MapShelf> {
-    let (ends_child, until_child) = bounded(alloc, 1).expect(&rt, "ample memory");
-    let (ends_daemon, until_daemon) = bounded(alloc, 1).expect(&rt, "ample memory");
-    let first = first_client(rt, alloc, ends_child, ends_daemon);
-    let (started, begins) = bounded(alloc, 1).expect(&rt, "ample memory");
-    let (answers, answered) = bounded(alloc, 1).expect(&rt, "ample memory");
-    let second = second_client(rt, alloc, begins, answers);
+    let Stages {
+        child,
+        daemon,
+        start,
+        reply,
+    } = stages;
+    let first = first_client(rt, alloc, child.tells, daemon.tells);
+    let second = second_client(rt, alloc, start.hears, reply.tells);
     Parts {
         spawner: StageSpawner {
             rt,
-            started,
-            until: Some(until_child),
+            started: start.tells,
+            until: Some(child.hears),
         },
         inet: Some(both_clients(rt, alloc, first, second)),
-        console: LateConsole {
-            rt,
-            until: Some(until_daemon),
-            source: source(&rt, alloc, "signal TERM\n"),
-        },
+        console: console_of(rt, alloc, daemon.hears),
         ticker: StageClock::new(rt, None),
-        clock: StageClock::new(rt, Some(answered)),
+        clock: StageClock::new(rt, Some(reply.hears)),
         shelf: MapShelf::new(alloc, Vec::new(alloc)),
     }
 }
 
 #[test]
 fn links_are_served_side_by_side(rt: HostRuntime) {
-    let parts = parts(rt, rt.alloc());
+    let parts = parts(rt, rt.alloc(), stages_of(&rt, rt.alloc()));
     let gate = StartGate::new(
         rt,
         rt.alloc(),

@@ -1,7 +1,7 @@
 //! A daemon over a world of threads, whose journal is replayed: the same orders both times.
 
 use crate::course::{Course, Parts, go_over};
-use crate::daemon::{ROOM, journal_of, orders_of, words};
+use crate::daemon::{ROOM, bytes_of, journal_of, orders_of, text_of, words};
 use crate::parts::StillClock;
 use crate::programs::{ALL_RUNS, LateConsole, RUNS, SignalWaiter, TenSpawner, ten_of_each};
 use crate::start_gate::{StartGate, receive_and_work};
@@ -36,26 +36,37 @@ type DaemonJob<R> = AnyJob<
     NoBoard,
 >;
 
+/// Adds a program to a configuration, which is started again at each exit.
+fn add_program(rt: &impl Abort, text: &mut String, name: &str) {
+    push(rt, text, "[program:");
+    push(rt, text, name);
+    push(
+        rt,
+        text,
+        "]\ncommand=/bin/x\nstartsecs=0\nautorestart=true\nstdout_logfile=/log/",
+    );
+    push(rt, text, name);
+    push(rt, text, "\nstderr_logfile=NONE\n");
+}
+
 /// The configuration: twenty programs that are started again at each exit, whose output goes to one log.
-fn configuration(rt: &impl Abort, alloc: Global) -> Bytes {
+fn configuration(rt: &impl Abort, alloc: Global) -> String {
     let mut text = String::new(alloc);
     push(rt, &mut text, "[supervisord]\nlogfile=NONE\n");
     for name in NAMES {
-        push(rt, &mut text, "[program:");
-        push(rt, &mut text, name);
-        push(
-            rt,
-            &mut text,
-            "]\ncommand=/bin/x\nstartsecs=0\nautorestart=true\nstdout_logfile=/log/",
-        );
-        push(rt, &mut text, name);
-        push(rt, &mut text, "\nstderr_logfile=NONE\n");
+        add_program(rt, &mut text, name);
     }
-    Bytes::from_slice(alloc, text.as_bytes()).expect(rt, "ample memory")
+    text
 }
 
 fn push(rt: &impl Abort, text: &mut String, part: &str) {
     text.push_str(part).expect(rt, "ample memory");
+}
+
+/// The bytes of the configuration.
+fn configured(rt: &impl Abort, alloc: Global) -> Bytes {
+    let text = configuration(rt, alloc);
+    bytes_of(rt, alloc, text.as_str())
 }
 
 /// How many programs of this name were started by these orders; all of them for the empty name.
@@ -74,16 +85,20 @@ struct Supervised;
 
 impl Course for Supervised {
     fn over<W: World>(&self, rt: &impl Abort, alloc: Global, world: &mut W) {
-        let journal = journal_of(rt, alloc, configuration(rt, alloc), world);
-        replayed(rt, alloc, journal.written());
+        let journal = journal_of(rt, alloc, configured(rt, alloc), world);
+        is_replayed(rt, alloc, &journal);
     }
 }
 
 /// Each program was started ten times; a replay writes the orders that the journal has.
-fn replayed(rt: &impl Abort, alloc: Global, journal: &[u8]) {
-    let text = std::str::from_utf8(journal).expect(rt, "a journal's text");
-    let orders = orders_of(rt, alloc, text);
+fn is_replayed(rt: &impl Abort, alloc: Global, journal: &ListSink) {
+    let orders = orders_of(rt, alloc, text_of(rt, journal));
     are_started(rt, orders.as_str());
+    are_replayed(rt, alloc, journal.written(), orders.as_str());
+}
+
+/// A replay of a journal writes these orders.
+fn are_replayed(rt: &impl Abort, alloc: Global, journal: &[u8], orders: &str) {
     let lines = replay_of(rt, alloc, journal);
     assert!(rt; lines.written() == orders.as_bytes());
 }
@@ -96,18 +111,23 @@ fn are_started(rt: &impl Abort, orders: &str) {
     }
 }
 
+/// A source of a journal.
+fn source_of(rt: &impl Abort, alloc: Global, journal: &[u8]) -> ListSource {
+    let bytes = Vec::from_slice(alloc, journal).expect(rt, "ample memory");
+    ListSource::new(bytes, 4_096, Vec::new(alloc))
+}
+
+/// Replays a journal.
+fn replay_into(rt: &impl Abort, alloc: Global, source: &mut ListSource, lines: &mut ListSink) {
+    let words = words(rt, alloc, &["run"]);
+    let status = replay(alloc, words.as_slice(), source, lines);
+    assert!(rt; status == 0);
+}
+
 /// What a replay of a journal writes.
 fn replay_of(rt: &impl Abort, alloc: Global, journal: &[u8]) -> ListSink {
-    let bytes = Vec::from_slice(alloc, journal).expect(rt, "ample memory");
-    let mut source = ListSource::new(bytes, 4_096, Vec::new(alloc));
     let mut lines = ListSink::new(alloc, ROOM, Vec::new(alloc));
-    let status = replay(
-        alloc,
-        words(rt, alloc, &["run"]).as_slice(),
-        &mut source,
-        &mut lines,
-    );
-    assert!(rt; status == 0);
+    replay_into(rt, alloc, &mut source_of(rt, alloc, journal), &mut lines);
     lines
 }
 

@@ -103,8 +103,7 @@ fn ask_twice<W: World>(rt: &impl Abort, alloc: Global, world: &mut W) {
 fn start_without_thread<W: World>(rt: &impl Abort, alloc: Global, world: &mut W) {
     give(rt, alloc, world, spawn_order(alloc, 1));
     assert!(rt; heard(rt, alloc, world) == 'r');
-    let bytes = bytes_of(rt, alloc, "x");
-    give(rt, alloc, world, Order::Stdin { run: Run(1), bytes });
+    write(rt, alloc, world);
     append(rt, alloc, world);
     read(rt, alloc, world);
     assert!(rt; heard(rt, alloc, world) == 'R');
@@ -114,8 +113,7 @@ fn write_65_pieces<W: World>(rt: &impl Abort, alloc: Global, world: &mut W) {
     give(rt, alloc, world, spawn_order(alloc, 1));
     assert!(rt; heard(rt, alloc, world) == 'p');
     for _ in 0..65 {
-        let bytes = bytes_of(rt, alloc, "x");
-        give(rt, alloc, world, Order::Stdin { run: Run(1), bytes });
+        write(rt, alloc, world);
     }
     read(rt, alloc, world);
     assert!(rt; heard(rt, alloc, world) == '?');
@@ -142,6 +140,11 @@ fn signal_thrice<W: World>(rt: &impl Abort, alloc: Global, world: &mut W) {
     read(rt, alloc, world);
     assert!(rt; heard(rt, alloc, world) == 'D');
     assert!(rt; heard(rt, alloc, world) == 'R');
+}
+
+fn write<W: World>(rt: &impl Abort, alloc: Global, world: &mut W) {
+    let bytes = bytes_of(rt, alloc, "x");
+    give(rt, alloc, world, Order::Stdin { run: Run(1), bytes });
 }
 
 fn append<W: World>(rt: &impl Abort, alloc: Global, world: &mut W) {

@@ -28,10 +28,16 @@ impl<R: Wait + Abort + std::time::Clock + Drop> Gate<TestJob<R>> for RefusingGat
     ghost faults = { λ g. 0 };
 
     fn start(&mut self, job: TestJob<R>) -> Result<(), TestJob<R>> {
-        if let AnyJob::Console(mut console) = job {
-            post_all(&self.rt, console.alloc, &mut console.poster);
-        }
+        let mut job = job;
+        post_at_console(&self.rt, &mut job);
         Ok(())
+    }
+}
+
+/// Posts all notes, where a job is that of the console.
+fn post_at_console<R: Wait + Abort + std::time::Clock + Drop>(rt: &R, job: &mut TestJob<R>) {
+    if let AnyJob::Console(console) = job {
+        post_all(rt, console.alloc, &mut console.poster);
     }
 }
 

@@ -86,43 +86,95 @@ impl<R: Wait + Drop> Waiter for SignalWaiter<R> {
     }
 }
 
+/// The spawner, which says for each program that it was asked for one.
+fn spawner_of<R: Drop>(rt: R, alloc: Global, asked: Sender<()>) -> TenSpawner<R> {
+    TenSpawner {
+        rt,
+        asked,
+        tallies: Vec::new(alloc),
+        running: Vec::new(alloc),
+        next: Pid::least(),
+    }
+}
+
+/// The console, which asks for the end once all programs were asked for.
+fn console_of<R: Abort + Copy>(rt: R, alloc: Global, asked: Receiver<()>) -> LateConsole<R> {
+    let text = Vec::from_slice(alloc, b"signal TERM\n").expect(&rt, "ample memory");
+    LateConsole {
+        rt,
+        asked,
+        awaited: ALL_RUNS,
+        text: ListSource::new(text, 9, Vec::new(alloc)),
+    }
+}
+
 /// The spawner, and the console that asks for the end after all runs.
 pub(crate) fn ten_of_each<R: Abort + Wait + Copy>(
     rt: R,
     alloc: Global,
 ) -> (TenSpawner<R>, LateConsole<R>) {
     let (to, from) = bounded(alloc, usize::from(ALL_RUNS)).expect(&rt, "ample memory");
-    let text = Vec::from_slice(alloc, b"signal TERM\n").expect(&rt, "ample memory");
-    let spawner = TenSpawner {
-        rt,
-        asked: to,
-        tallies: Vec::new(alloc),
-        running: Vec::new(alloc),
-        next: Pid::least(),
-    };
-    let console = LateConsole {
-        rt,
-        asked: from,
-        awaited: ALL_RUNS,
-        text: ListSource::new(text, 9, Vec::new(alloc)),
-    };
-    (spawner, console)
+    (spawner_of(rt, alloc, to), console_of(rt, alloc, from))
 }
 
 impl<R: Drop> TenSpawner<R> {
-    /// The number of this run of a program.
-    fn counted(&mut self, name: &Text) -> Result<u8, AllocError> {
+    /// Counts a run of a program that is among the others: its number.
+    fn counted_again(&mut self, name: &Text) -> Option<u8> {
         for tally in &mut self.tallies {
             if tally.name.as_str() == name.as_str() {
                 tally.runs = tally.runs.saturating_add(1);
-                return Ok(tally.runs);
+                return Some(tally.runs);
             }
         }
-        self.tallies.push(Tally {
-            name: name.clone()?,
-            runs: 1,
-        })?;
+        None
+    }
+
+    /// The number of this run of a program.
+    fn counted(&mut self, name: &Text) -> Result<u8, AllocError> {
+        if let Some(number) = self.counted_again(name) {
+            return Ok(number);
+        }
+        let name = name.clone()?;
+        self.tallies.push(Tally { name, runs: 1 })?;
         Ok(1)
+    }
+
+    /// What a process ends by, which runs until it gets a signal.
+    fn running(&mut self, alloc: Global, pid: Pid) -> Result<Receiver<()>, AllocError> {
+        self.running.reserve(1)?;
+        let (ends, from) = bounded(alloc, 1)?;
+        self.running.push_reserved(Running { pid, ends });
+        Ok(from)
+    }
+
+    /// What a process of this program ends by; none where it ends at once.
+    fn until(
+        &mut self,
+        alloc: Global,
+        pid: Pid,
+        name: &Text,
+    ) -> Result<Option<Receiver<()>>, AllocError> {
+        if self.counted(name)? == RUNS {
+            Ok(Some(self.running(alloc, pid)?))
+        } else {
+            Ok(None)
+        }
+    }
+}
+
+/// A program that writes this.
+fn started<R: Drop>(
+    alloc: Global,
+    pid: Pid,
+    written: Vec<u8>,
+    waiter: SignalWaiter<R>,
+) -> Started<ListSink, ListSource, ListSource, SignalWaiter<R>> {
+    Started {
+        pid,
+        stdin: ListSink::new(alloc, 9, Vec::new(alloc)),
+        stdout: ListSource::new(written, 9, Vec::new(alloc)),
+        stderr: ListSource::new(Vec::new(alloc), 9, Vec::new(alloc)),
+        waiter,
     }
 }
 
@@ -146,22 +198,11 @@ impl<R: Wait + Copy> Spawner for TenSpawner<R> {
     ) -> Result<Started<ListSink, ListSource, ListSource, SignalWaiter<R>>, SpawnFault> {
         let pid = self.next;
         self.next = pid.one_more();
-        let mut until = None;
-        if self.counted(&order.name)? == RUNS {
-            let (ends, from) = bounded(alloc, 1)?;
-            self.running.reserve(1)?;
-            self.running.push_reserved(Running { pid, ends });
-            until = Some(from);
-        }
+        let until = self.until(alloc, pid, &order.name)?;
         let written = Vec::from_slice(alloc, b"hi\n")?;
         let _refused = self.asked.send(&self.rt, ());
-        Ok(Started {
-            pid,
-            stdin: ListSink::new(alloc, 9, Vec::new(alloc)),
-            stdout: ListSource::new(written, 9, Vec::new(alloc)),
-            stderr: ListSource::new(Vec::new(alloc), 9, Vec::new(alloc)),
-            waiter: SignalWaiter { rt: self.rt, until },
-        })
+        let waiter = SignalWaiter { rt: self.rt, until };
+        Ok(started(alloc, pid, written, waiter))
     }
 
     fn kill(

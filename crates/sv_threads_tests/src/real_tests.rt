@@ -2,7 +2,7 @@
 ghost use Rattle.std.specs.Prelude.{None};
 
 use crate::course::{Course, Parts, go_over};
-use crate::daemon::{journal_of, orders_of};
+use crate::daemon::{bytes_of, journal_of, orders_of, text_of};
 use crate::start_gate::{StartGate, receive_and_work};
 use crossbeam_channel::Receiver;
 use std::alloc::Global;
@@ -10,11 +10,11 @@ use std::process::{Abort, Processes};
 use std::rt::Files;
 use std::thread;
 use std::time::Duration;
-use sv_base::Bytes;
 use sv_job_types::{AnyJob, NoBoard};
 use sv_os::{OsClock, OsSpawner};
 use sv_out::MapShelf;
 use sv_out::failed::Failed;
+use sv_out::sink::ListSink;
 use sv_out::source::{ListSource, Source};
 use sv_outside::{ScriptListen, Spawner};
 use sv_world::World;
@@ -64,11 +64,15 @@ struct Copying;
 
 impl Course for Copying {
     fn over<W: World>(&self, rt: &impl Abort, alloc: Global, world: &mut W) {
-        let configuration = Bytes::from_slice(alloc, CAT.as_bytes()).expect(rt, "ample memory");
-        let journal = journal_of(rt, alloc, configuration, world);
-        let text = std::str::from_utf8(journal.written()).expect(rt, "a journal's text");
-        has_all_states(rt, orders_of(rt, alloc, text).as_str());
+        let journal = journal_of(rt, alloc, bytes_of(rt, alloc, CAT), world);
+        has_its_states(rt, alloc, &journal);
     }
+}
+
+/// The program has all states by this journal.
+fn has_its_states(rt: &impl Abort, alloc: Global, journal: &ListSink) {
+    let orders = orders_of(rt, alloc, text_of(rt, journal));
+    has_all_states(rt, orders.as_str());
 }
 
 /// The program has all states by these orders.

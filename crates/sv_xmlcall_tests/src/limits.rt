@@ -33,6 +33,10 @@ const LOGS: [(&[u8], &str, &str); 3] = [
     ),
 ];
 
+fn put(rt: &impl Abort, text: &mut Vec<u8>, piece: &[u8]) {
+    text.extend_from_slice(piece).expect(rt, "memory");
+}
+
 /// A piece so many times between two texts.
 fn filled(
     rt: &impl Abort,
@@ -41,12 +45,12 @@ fn filled(
     piece: &[u8],
     count: usize,
 ) -> Vec<u8> {
-    let mut text = Vec::from_slice(alloc, around.0.as_bytes()).expect(rt, "memory");
+    let mut text = Vec::new(alloc);
+    put(rt, &mut text, around.0.as_bytes());
     for _ in 0..count {
-        text.extend_from_slice(piece).expect(rt, "memory");
+        put(rt, &mut text, piece);
     }
-    text.extend_from_slice(around.1.as_bytes())
-        .expect(rt, "memory");
+    put(rt, &mut text, around.1.as_bytes());
     text
 }
 
