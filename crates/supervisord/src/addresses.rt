@@ -29,19 +29,42 @@ pub fn addresses_of<R: Net + Files + Clock + Eprint + Copy>(
         socket: None,
     };
     for server in servers {
-        let (listen, opened) = OsListen::open(rt, server.place.clone()?);
-        if let Err(error) = opened {
-            report(rt, alloc, &server.place, &error)?;
-        }
-        match &server.place {
-            Place::Inet(_, _) => all.inet = Some(listen),
-            Place::Unix(_) => {
-                all.unix = Some(listen);
-                all.socket = Some(server.place.clone()?);
-            }
-        }
+        add_address(rt, alloc, &mut all, &server.place)?;
     }
     Ok(all)
+}
+
+/// Opens this address and takes it among them.
+fn add_address<R: Net + Files + Clock + Eprint + Copy>(
+    rt: R,
+    alloc: Global,
+    all: &mut Addresses<R>,
+    place: &Place,
+) -> Result<(), AllocError> {
+    match place {
+        Place::Inet(_, _) => all.inet = Some(opened(rt, alloc, place)?),
+        Place::Unix(_) => {
+            all.socket = Some(place.clone()?);
+            all.unix = Some(opened(rt, alloc, place)?);
+        }
+    }
+    Ok(())
+}
+
+/// The address, open, or reported.
+fn opened<R: Net + Files + Clock + Eprint + Copy>(
+    rt: R,
+    alloc: Global,
+    place: &Place,
+) -> Result<OsListen<R>, AllocError> {
+    let (listen, opened) = OsListen::open(rt, place.clone()?);
+    match opened {
+        Ok(()) => Ok(listen),
+        Err(error) => {
+            report(rt, alloc, place, &error)?;
+            Ok(listen)
+        }
+    }
 }
 
 /// Reports why an address isn't open. What standard error doesn't take is lost.

@@ -26,12 +26,22 @@ pub enum Password {
 }
 
 /// A server of the daemon.
-#[derive(Debug, Drop)]
+#[derive(Debug)]
 pub struct ServerSpec {
     pub place: Place,
     /// Empty where none is asked for.
     pub username: Text,
     pub password: Password,
+}
+
+impl Drop for ServerSpec {
+    fn drop(self) {
+        let Self {
+            place: _,
+            username: _,
+            password: _,
+        } = self;
+    }
 }
 
 /// What the client is told of the daemon's server.
@@ -43,7 +53,7 @@ pub struct ClientSpec {
 }
 
 /// A whole configuration.
-#[derive(Debug, Drop)]
+#[derive(Debug)]
 pub struct Config {
     /// The name by which the daemon calls itself.
     pub identifier: Text,
@@ -61,8 +71,22 @@ pub struct Config {
     pub rpc: bool,
 }
 
+impl Drop for Config {
+    fn drop(self) {
+        let Self {
+            identifier: _,
+            main: _,
+            level: _,
+            groups: _,
+            servers: _,
+            client: _,
+            rpc: _,
+        } = self;
+    }
+}
+
 /// The machine that the daemon runs on, as it was when the daemon began.
-#[derive(Debug, Drop)]
+#[derive(Debug)]
 pub struct Host {
     pub name: Text,
     /// The directory of the configuration file.
@@ -73,6 +97,18 @@ pub struct Host {
     pub environment: Items<(Text, Text)>,
     /// When the daemon began.
     pub start: Moment,
+}
+
+impl Drop for Host {
+    fn drop(self) {
+        let Self {
+            name: _,
+            here: _,
+            pid: _,
+            environment: _,
+            start: _,
+        } = self;
+    }
 }
 
 /// One step in the keeping of a log: bytes added at a file's end, a file renamed over another, a file made

@@ -27,7 +27,7 @@ pub struct LogSpec {
 
 /// One process of a program or an event listener, with each key of its section (the manual's chapter on
 /// configuration).
-#[derive(Debug, Drop)]
+#[derive(Debug)]
 pub struct Spec {
     /// The name of its group.
     pub group: Text,
@@ -71,6 +71,33 @@ pub struct Spec {
     pub user: Text,
 }
 
+impl Drop for Spec {
+    fn drop(self) {
+        let Self {
+            group: _,
+            name: _,
+            words: _,
+            priority: _,
+            autostart: _,
+            startsecs: _,
+            startretries: _,
+            autorestart: _,
+            exitcodes: _,
+            stopsignal: _,
+            stopwaitsecs: _,
+            stopasgroup: _,
+            killasgroup: _,
+            redirect_stderr: _,
+            stdout: _,
+            stderr: _,
+            environment: _,
+            directory: _,
+            umask: _,
+            user: _,
+        } = self;
+    }
+}
+
 impl Ranked for Spec {
     ghost priority_of = { λ m. m.priority };
 
@@ -95,7 +122,7 @@ pub struct PoolSpec {
 }
 
 /// A group of processes; an event listener's has a pool.
-#[derive(Debug, Drop)]
+#[derive(Debug)]
 pub struct GroupSpec {
     pub name: Text,
     /// Lower starts earlier.
@@ -104,6 +131,17 @@ pub struct GroupSpec {
     pub members: Items<Spec>,
     /// The event pool, for an event listener.
     pub pool: Option<PoolSpec>,
+}
+
+impl Drop for GroupSpec {
+    fn drop(self) {
+        let Self {
+            name: _,
+            priority: _,
+            members: _,
+            pool: _,
+        } = self;
+    }
 }
 
 impl Ranked for GroupSpec {

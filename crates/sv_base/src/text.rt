@@ -22,9 +22,15 @@ enum Held {
 }
 
 /// An owned text, which contracts see as the list of its UTF-8 bytes.
-#[derive(Debug, Drop)]
+#[derive(Debug)]
 pub struct Text {
     held: Held,
+}
+
+impl Drop for Text {
+    fn drop(self) {
+        let Self { held: _ } = self;
+    }
 }
 
 impl Model for Text {

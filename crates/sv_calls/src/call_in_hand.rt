@@ -20,7 +20,6 @@ use sv_multi::Part;
 use sv_xmlcall::Answered;
 
 /// A call in hand.
-#[derive(Drop)]
 pub(crate) struct CallInHand {
     /// Whether its link closes after the reply.
     pub(crate) close: bool,
@@ -28,6 +27,16 @@ pub(crate) struct CallInHand {
     pub(crate) several: Option<Several>,
     /// What the call that was begun last still has to do.
     pub(crate) task: Option<Task>,
+}
+
+impl Drop for CallInHand {
+    fn drop(self) {
+        let Self {
+            close: _,
+            several: _,
+            task: _,
+        } = self;
+    }
 }
 
 impl CallInHand {

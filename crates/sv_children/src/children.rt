@@ -26,7 +26,7 @@ use sv_child::step::Step;
 use sv_groups::{Found, Roster, Span};
 
 /// The groups of the daemon, and a child for each of their processes, both in start order. Places are counted from 0.
-#[derive(Debug, Drop)]
+#[derive(Debug)]
 pub struct Children {
     pub(crate) roster: Roster,
     pub(crate) all: Vec<Child>,
@@ -34,6 +34,17 @@ pub struct Children {
     watch: Watch,
     /// How often one was looked at as time passed.
     looks: u64,
+}
+
+impl Drop for Children {
+    fn drop(self) {
+        let Self {
+            roster: _,
+            all: _,
+            watch: _,
+            looks: _,
+        } = self;
+    }
 }
 
 impl Model for Children {

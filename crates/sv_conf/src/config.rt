@@ -218,11 +218,7 @@ fn config_of(others: Others, rpc: bool, groups: Vec<GroupSpec>) -> Result<Config
 fn with_groups(others: Others, rpc: bool, groups: Groups) -> Config
     ensures { result ≡ with_groups others rpc groups }
 {
-    let Others {
-        daemon,
-        client,
-        servers,
-    } = others;
+    let (daemon, client, servers) = others.into_parts();
     let Daemon {
         main,
         level,

@@ -19,6 +19,7 @@ ghost use Rattle.sv_conf.specs.Configuration.{sorted_members, with_sorted, sorte
 use std::alloc::{AllocError, Global};
 use std::collections::HashSet;
 use std::marker::Model;
+use std::mem;
 use sv_base::config::Host;
 use sv_base::items::Items;
 use sv_base::spec::{GroupSpec, Spec};
@@ -117,7 +118,11 @@ fn members_of(alloc: Global, parts: Items<GroupSpec>) -> Result<Items<Spec>, All
 {
     let mut members = Items::new(alloc);
     for part in parts.into_vec() {
-        add_members(&mut members, part.members)?;
+        let mut part = part;
+        add_members(
+            &mut members,
+            mem::replace(&mut part.members, Items::new(alloc)),
+        )?;
     }
     Ok(members)
 }
@@ -290,15 +295,13 @@ pub fn each_once(alloc: Global, groups: &[GroupSpec]) -> Result<(), ConfFault>
 }
 
 #[tactic(auto, unfolding(crate::specs::Configuration::with_sorted))]
-fn with_sorted(group: GroupSpec) -> Result<GroupSpec, AllocError>
+fn with_sorted(alloc: Global, group: GroupSpec) -> Result<GroupSpec, AllocError>
     ensures { IfOk result (λ made. made ≡ with_sorted group) }
 {
-    Ok(GroupSpec {
-        name: group.name,
-        priority: group.priority,
-        members: Items::from_vec(sorted(group.members)?),
-        pool: group.pool,
-    })
+    let mut group = group;
+    let members = mem::replace(&mut group.members, Items::new(alloc));
+    group.members = Items::from_vec(sorted(members)?);
+    Ok(group)
 }
 
 /// The groups in start order, each with its members in start order.
@@ -308,7 +311,7 @@ pub fn sorted_groups(alloc: Global, groups: Items<GroupSpec>) -> Result<Vec<Grou
 {
     let mut made = Items::new(alloc);
     for group in groups.into_vec() {
-        made.push(with_sorted(group)?)?;
+        made.push(with_sorted(alloc, group)?)?;
     }
     sorted(made)
 }

@@ -4,7 +4,7 @@ use sv_base::moment::Moment;
 use sv_out::order::Order;
 
 /// The turn in hand, or the last one.
-#[derive(Debug, Drop)]
+#[derive(Drop)]
 pub struct Hand {
     /// Its moment.
     pub(crate) moment: Moment,

@@ -28,7 +28,6 @@ use sv_runs::Runs;
 use sv_streams::Streams;
 
 /// The daemon's machine.
-#[derive(Drop)]
 pub struct Machine {
     /// Where it takes its memory.
     pub(crate) alloc: Global,
@@ -60,6 +59,28 @@ pub struct Machine {
     pub(crate) hand: Hand,
     /// Whether memory was refused in a step.
     pub(crate) broken: bool,
+}
+
+impl Drop for Machine {
+    fn drop(self) {
+        let Self {
+            alloc: _,
+            config: _,
+            pid: _,
+            children: _,
+            course: _,
+            numbers: _,
+            clock: _,
+            pools: _,
+            runs: _,
+            streams: _,
+            links: _,
+            calls: _,
+            sizes: _,
+            hand: _,
+            broken: _,
+        } = self;
+    }
 }
 
 impl Machine {

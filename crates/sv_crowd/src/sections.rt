@@ -34,12 +34,9 @@ fn emptied(alloc: Global, group: GroupSpec) -> Result<GroupSpec, AllocError>
     if first_twice(alloc, group.members.as_slice())?.is_some() {
         return Ok(group);
     }
-    Ok(GroupSpec {
-        name: group.name,
-        priority: group.priority,
-        members: Items::new(alloc),
-        pool: group.pool,
-    })
+    let mut group = group;
+    group.members = Items::new(alloc);
+    Ok(group)
 }
 
 /// The processes of a section in a group, built, counted and let go.

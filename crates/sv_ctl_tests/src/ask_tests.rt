@@ -198,11 +198,20 @@ fn put_script(
 }
 
 /// What is asked of whom.
-#[derive(Drop)]
 struct Question {
     place: Place,
     client: ClientSpec,
     call: Call,
+}
+
+impl Drop for Question {
+    fn drop(self) {
+        let Self {
+            place: _,
+            client: _,
+            call: _,
+        } = self;
+    }
 }
 
 fn version_question(alloc: Global) -> Question {

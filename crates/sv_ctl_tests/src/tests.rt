@@ -117,7 +117,6 @@ const NONE: Failing = Failing {
 };
 
 /// What a conversation is had with, and its status once it is over.
-#[derive(Drop)]
 struct Conversation {
     words: Vec<Text>,
     host: Host,
@@ -126,6 +125,20 @@ struct Conversation {
     input: ListSource,
     out: ListSink,
     status: u8,
+}
+
+impl Drop for Conversation {
+    fn drop(self) {
+        let Self {
+            words: _,
+            host: _,
+            shelf: _,
+            dial: _,
+            input: _,
+            out: _,
+            status: _,
+        } = self;
+    }
 }
 
 fn bytes_of(rt: &impl Abort, alloc: Global, text: &str) -> Vec<u8> {

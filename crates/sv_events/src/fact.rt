@@ -11,7 +11,6 @@ use sv_base::state::{State, Stream};
 use sv_base::text::Text;
 
 /// What an event tells of, one variant for each form of body (the manual's chapter on events). Data are any bytes.
-#[derive(Debug, Drop)]
 pub enum Fact {
     /// A process entered STARTING or BACKOFF; `tries` counts its failed starts.
     Trying {
@@ -71,6 +70,54 @@ pub enum Fact {
     },
     /// The daemon started or stops.
     Supervisor,
+}
+
+impl Drop for Fact {
+    fn drop(self) {
+        match self {
+            Self::Trying {
+                name: _,
+                group: _,
+                from: _,
+                tries: _,
+            } => {}
+            Self::Living {
+                name: _,
+                group: _,
+                from: _,
+                pid: _,
+            } => {}
+            Self::Ended {
+                name: _,
+                group: _,
+                from: _,
+                expected: _,
+                pid: _,
+            } => {}
+            Self::GaveUp {
+                name: _,
+                group: _,
+                from: _,
+            } => {}
+            Self::Communication {
+                name: _,
+                group: _,
+                pid: _,
+                bytes: _,
+            } => {}
+            Self::Log {
+                name: _,
+                group: _,
+                pid: _,
+                stream: _,
+                bytes: _,
+            } => {}
+            Self::Remote { sort: _, bytes: _ } => {}
+            Self::Tick { when: _ } => {}
+            Self::GroupChange { group: _ } => {}
+            Self::Supervisor => {}
+        }
+    }
 }
 
 /// The body of the event that tells of this fact.

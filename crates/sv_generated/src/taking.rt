@@ -63,17 +63,28 @@ fn answer_all(alloc: Global, machine: &mut Machine, counts: &mut Counts) -> Resu
 
 /// The machine, which begins, goes through the run of so many inputs; its orders are counted. Each spawn is answered,
 /// which isn't counted as an input.
-pub fn run(alloc: Global, mut machine: Machine, number: u64) -> Result<Counts, AllocError>
+pub fn run(alloc: Global, machine: Machine, number: u64) -> Result<Counts, AllocError>
     requires few { number ≤ 1000000 }
     requires begins { (begins : Beginning) × Begins machine begins }
     ensures { IfOk result (λ counts. (begins : Beginning) → Begins machine begins →
         Counted counts (deeds (first_of begins) (generated (first_of begins) number))) }
 {
+    let mut machine = machine;
+    run_through(alloc, &mut machine, number)
+}
+
+/// The machine, which begins, goes through the run.
+fn run_through(alloc: Global, machine: &mut Machine, number: u64) -> Result<Counts, AllocError>
+    requires few { number ≤ 1000000 }
+    requires begins { (begins : Beginning) × Begins machine.old begins }
+    ensures { IfOk result (λ counts. (begins : Beginning) → Begins machine.old begins →
+        Counted counts (deeds (first_of begins) (generated (first_of begins) number))) }
+{
     let mut counts = Counts::none();
     let mut generated = generate(number);
     while let Some(draw) = generated.draw(counts.spawns) {
-        take(alloc, &mut machine, input_of(alloc, draw)?, &mut counts)?;
-        answer_all(alloc, &mut machine, &mut counts)?;
+        take(alloc, machine, input_of(alloc, draw)?, &mut counts)?;
+        answer_all(alloc, machine, &mut counts)?;
     }
     Ok(counts)
 }

@@ -19,11 +19,20 @@ use sv_base::spec::GroupSpec;
 use sv_base::text::Text;
 
 /// The names of a roster's groups and processes, each at its place in the start order.
-#[derive(Debug, Drop)]
+#[derive(Debug)]
 pub(crate) struct Names {
     groups: IndexSet<Text>,
     /// The name of the group of each process, and its own.
     processes: IndexSet<(Text, Text)>,
+}
+
+impl Drop for Names {
+    fn drop(self) {
+        let Self {
+            groups: _,
+            processes: _,
+        } = self;
+    }
 }
 
 /// The name of a group that is looked for.

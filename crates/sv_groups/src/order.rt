@@ -16,13 +16,23 @@ use sv_base::spec::{GroupSpec, Spec};
 /// The groups of a daemon: at most 256 groups of at most 1,024 processes together, groups and members in start
 /// order, no two groups of one name, and in no group two processes of one name. Contracts see it as the list of
 /// the groups.
-#[derive(Debug, Drop)]
+#[derive(Debug)]
 pub struct Roster {
     pub(crate) groups: Vec<GroupSpec>,
     /// Where each process is, in start order.
     pub(crate) seats: Vec<Seat>,
     /// The names of the groups and of the processes, by which one is found.
     pub(crate) names: Names,
+}
+
+impl Drop for Roster {
+    fn drop(self) {
+        let Self {
+            groups: _,
+            seats: _,
+            names: _,
+        } = self;
+    }
 }
 
 impl Model for Roster {

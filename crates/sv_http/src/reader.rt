@@ -39,12 +39,23 @@ enum StreamProgress {
 
 /// A link's stream, of which only the undecided bytes of a request are kept: of its head, and then of its body; of the
 /// whole head only the count.
-#[derive(Debug, Drop)]
+#[derive(Debug)]
 pub struct HttpReader {
     guard: Guard,
     place: StreamProgress,
     head: Vec<u8>,
     body: Vec<u8>,
+}
+
+impl Drop for HttpReader {
+    fn drop(self) {
+        let Self {
+            guard: _,
+            place: _,
+            head: _,
+            body: _,
+        } = self;
+    }
 }
 
 impl HttpReader {

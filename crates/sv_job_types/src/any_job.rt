@@ -14,7 +14,6 @@ use sv_outside::{Clock, Job, JobWord, Listen, PumpEnd, Waiter};
 
 /// A job of a world with these parts: what takes a standard input, what gives the two outputs, what waits for an end,
 /// what accepts links, the console, the clock, and the job of its board.
-#[derive(Drop)]
 pub enum AnyJob<K: Drop, O: Drop, E: Drop, W: Drop, L: Listen + Drop, Q: Drop, C: Drop, B: Drop> {
     Stdin(StdinJob<K>),
     Out(OutPump<O>),
@@ -25,6 +24,23 @@ pub enum AnyJob<K: Drop, O: Drop, E: Drop, W: Drop, L: Listen + Drop, Q: Drop, C
     Console(ConsoleJob<Q>),
     Ticker(TickerJob<C>),
     Board(B),
+}
+
+impl<K: Drop, O: Drop, E: Drop, W: Drop, L: Listen + Drop, Q: Drop, C: Drop, B: Drop> Drop
+    for AnyJob<K, O, E, W, L, Q, C, B> {
+    fn drop(self) {
+        match self {
+            Self::Stdin(_) => {}
+            Self::Out(_) => {}
+            Self::Err(_) => {}
+            Self::Watch(_) => {}
+            Self::Links(_) => {}
+            Self::Link(_) => {}
+            Self::Console(_) => {}
+            Self::Ticker(_) => {}
+            Self::Board(_) => {}
+        }
+    }
 }
 
 /// The job of a world without a board: it is about the board, and has nothing to do.

@@ -15,7 +15,6 @@ use sv_lane::{Poster, Taker};
 use sv_outside::{Job, JobWord, Listen, PumpEnd};
 
 /// Accepts the links of one side, so many times.
-#[derive(Drop)]
 pub struct LinksJob<L: Listen + Drop> {
     pub side: Side,
     pub listen: L,
@@ -24,14 +23,37 @@ pub struct LinksJob<L: Listen + Drop> {
     pub links: Poster<L::Link>,
 }
 
+impl<L: Listen + Drop> Drop for LinksJob<L> {
+    fn drop(self) {
+        let Self {
+            side: _,
+            listen: _,
+            turns: _,
+            poster: _,
+            links: _,
+        } = self;
+    }
+}
+
 /// Reads and writes one link.
-#[derive(Drop)]
 pub struct LinkJob<K: Drop> {
     pub number: LinkId,
     pub link: K,
     pub poster: Poster<Note>,
     pub words: Taker<LinkWord>,
     pub alloc: Global,
+}
+
+impl<K: Drop> Drop for LinkJob<K> {
+    fn drop(self) {
+        let Self {
+            number: _,
+            link: _,
+            poster: _,
+            words: _,
+            alloc: _,
+        } = self;
+    }
 }
 
 impl<L: Listen + Drop> Job for LinksJob<L> {

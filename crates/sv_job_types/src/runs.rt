@@ -19,7 +19,6 @@ use sv_out::source::Source;
 use sv_outside::{Job, JobWord, PumpEnd, Waiter};
 
 /// Reads a run's standard output.
-#[derive(Drop)]
 pub struct OutPump<O: Drop> {
     pub run: Run,
     pub source: O,
@@ -27,8 +26,18 @@ pub struct OutPump<O: Drop> {
     pub alloc: Global,
 }
 
+impl<O: Drop> Drop for OutPump<O> {
+    fn drop(self) {
+        let Self {
+            run: _,
+            source: _,
+            poster: _,
+            alloc: _,
+        } = self;
+    }
+}
+
 /// Reads a run's standard error output.
-#[derive(Drop)]
 pub struct ErrPump<E: Drop> {
     pub run: Run,
     pub source: E,
@@ -36,8 +45,18 @@ pub struct ErrPump<E: Drop> {
     pub alloc: Global,
 }
 
+impl<E: Drop> Drop for ErrPump<E> {
+    fn drop(self) {
+        let Self {
+            run: _,
+            source: _,
+            poster: _,
+            alloc: _,
+        } = self;
+    }
+}
+
 /// Writes a run's standard input.
-#[derive(Drop)]
 pub struct StdinJob<K: Drop> {
     pub run: Run,
     pub sink: K,
@@ -45,12 +64,32 @@ pub struct StdinJob<K: Drop> {
     pub words: Taker<StdinWord>,
 }
 
+impl<K: Drop> Drop for StdinJob<K> {
+    fn drop(self) {
+        let Self {
+            run: _,
+            sink: _,
+            poster: _,
+            words: _,
+        } = self;
+    }
+}
+
 /// Waits for the end of a run's process.
-#[derive(Drop)]
 pub struct WatchJob<W: Drop> {
     pub run: Run,
     pub waiter: W,
     pub poster: Poster<Note>,
+}
+
+impl<W: Drop> Drop for WatchJob<W> {
+    fn drop(self) {
+        let Self {
+            run: _,
+            waiter: _,
+            poster: _,
+        } = self;
+    }
 }
 
 impl<O: Source + Drop> Job for OutPump<O> {

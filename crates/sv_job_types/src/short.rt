@@ -16,19 +16,37 @@ use sv_out::source::Source;
 use sv_outside::{Clock, Job, JobWord, PumpEnd};
 
 /// Reads the daemon's own standard input.
-#[derive(Drop)]
 pub struct ConsoleJob<Q: Drop> {
     pub source: Q,
     pub poster: Poster<Note>,
     pub alloc: Global,
 }
 
+impl<Q: Drop> Drop for ConsoleJob<Q> {
+    fn drop(self) {
+        let Self {
+            source: _,
+            poster: _,
+            alloc: _,
+        } = self;
+    }
+}
+
 /// Brings so many ticks.
-#[derive(Drop)]
 pub struct TickerJob<C: Drop> {
     pub clock: C,
     pub turns: u64,
     pub poster: Poster<Note>,
+}
+
+impl<C: Drop> Drop for TickerJob<C> {
+    fn drop(self) {
+        let Self {
+            clock: _,
+            turns: _,
+            poster: _,
+        } = self;
+    }
 }
 
 impl<Q: Source + Drop> Job for ConsoleJob<Q> {

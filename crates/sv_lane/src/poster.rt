@@ -1,5 +1,6 @@
 //! A seat's end of a lane.
 
+ghost use Rattle.std.specs.Prelude.{◌≡◌};
 ghost use Rattle.crossbeam_channel.specs.Claims.{view, IsSeatAt};
 ghost use Rattle.crossbeam_channel.specs.Ends.{ruled_capacity, sends_on};
 ghost use Rattle.sv_lane.specs.Roles.{IsPosting};
@@ -11,7 +12,6 @@ use crossbeam_channel::{Pass, RuledReceiver, RuledSender};
 use std::sync::Wait;
 
 /// The poster of one seat. It keeps both ends of the channel, so that no post meets a closed lane.
-#[derive(Drop)]
 pub struct Poster<T: Drop> {
     pub(crate) sender: RuledSender<T, Role<T>, Rule>,
     pub(crate) receiver: RuledReceiver<T, Role<T>, Rule>,
@@ -20,8 +20,32 @@ pub struct Poster<T: Drop> {
     ghost posting: { IsPosting (ruled_capacity (sends_on sender)) (view pass) },
 }
 
+impl<T: Drop> Drop for Poster<T> {
+    fn drop(self) {
+        let Self {
+            sender: _,
+            receiver: _,
+            pass: _,
+        } = self;
+    }
+}
+
 impl<T: Drop> Poster<T> {
-    ghost use Rattle.std.specs.Prelude.{◌≡◌, [], ◌∷◌, ◌++◌};
+    /// The pass.
+    pub(crate) fn into_pass(self) -> Pass<T, Role<T>>
+        ensures { result ≡ self.pass }
+    {
+        let Self {
+            sender: _,
+            receiver: _,
+            pass,
+        } = self;
+        pass
+    }
+}
+
+impl<T: Drop> Poster<T> {
+    ghost use Rattle.std.specs.Prelude.{[], ◌∷◌, ◌++◌};
     ghost use Rattle.sv_lane.specs.Ends.{IsSameSeat, posted};
 
     /// Posts an item, after all that this seat posted before. Waits while the channel is full; if it returns, the

@@ -1,5 +1,6 @@
 //! The seats of a lane, and how they are made.
 
+ghost use Rattle.std.specs.Prelude.{◌≡◌};
 ghost use Rattle.crossbeam_channel.specs.Claims.{view, IsSeatAt};
 ghost use Rattle.crossbeam_channel.specs.Ends.{ruled_capacity, sends_on};
 ghost use Rattle.sv_lane.specs.Roles.{IsSeating};
@@ -12,7 +13,6 @@ use crossbeam_channel::{Pass, RuledReceiver, RuledSender};
 use std::alloc::AllocError;
 
 /// The seats of a lane. They are numbered from 0 in the order in which they are made; no number is kept at run time.
-#[derive(Drop)]
 pub struct Seats<T: Drop> {
     pub(crate) sender: RuledSender<T, Role<T>, Rule>,
     pub(crate) receiver: RuledReceiver<T, Role<T>, Rule>,
@@ -21,8 +21,32 @@ pub struct Seats<T: Drop> {
     ghost seating: { IsSeating (ruled_capacity (sends_on sender)) (view pass) },
 }
 
+impl<T: Drop> Drop for Seats<T> {
+    fn drop(self) {
+        let Self {
+            sender: _,
+            receiver: _,
+            pass: _,
+        } = self;
+    }
+}
+
 impl<T: Drop> Seats<T> {
-    ghost use Rattle.std.specs.Prelude.{◌≡◌, ◌+◌, [], IfOk, is_ok, if◌then◌else◌};
+    /// The end that sends, and the pass.
+    pub(crate) fn into_ends(self) -> (RuledSender<T, Role<T>, Rule>, Pass<T, Role<T>>)
+        ensures { result ≡ (self.sender, self.pass) }
+    {
+        let Self {
+            sender,
+            receiver: _,
+            pass,
+        } = self;
+        (sender, pass)
+    }
+}
+
+impl<T: Drop> Seats<T> {
+    ghost use Rattle.std.specs.Prelude.{◌+◌, [], IfOk, is_ok, if◌then◌else◌};
     ghost use Rattle.sv_lane.specs.Ends.{AreSameSeats, IsPosterOf, made, posted, seat_of};
 
     /// Makes a seat, which has posted nothing. A refusal makes none.

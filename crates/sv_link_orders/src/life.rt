@@ -15,7 +15,6 @@ pub(crate) const MOST_UNWRITTEN: u32 = 16;
 const WORDS: u32 = 18;
 
 /// A link whose job was started.
-#[derive(Drop)]
 pub struct LinkLife {
     /// Its number.
     pub link: LinkId,
@@ -25,6 +24,17 @@ pub struct LinkLife {
     pub unwritten: u32,
     /// Whether an order of it failed. Then its lane had a Close, and nothing more is posted there.
     pub failed: bool,
+}
+
+impl Drop for LinkLife {
+    fn drop(self) {
+        let Self {
+            link: _,
+            words: _,
+            unwritten: _,
+            failed: _,
+        } = self;
+    }
 }
 
 impl LinkLife {

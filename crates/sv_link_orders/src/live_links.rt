@@ -16,7 +16,6 @@ pub struct Waiting<K: Drop> {
 }
 
 /// The links, and how many there were. A link stands in one of the three lists, until it is over.
-#[derive(Drop)]
 pub struct LiveLinks<K: Drop> {
     /// How many links were taken; this is the number of the last one.
     pub count: u32,
@@ -26,6 +25,17 @@ pub struct LiveLinks<K: Drop> {
     pub lives: Vec<LinkLife>,
     /// Those whose jobs came back: each order of them fails.
     pub lost: Vec<LinkId>,
+}
+
+impl<K: Drop> Drop for LiveLinks<K> {
+    fn drop(self) {
+        let Self {
+            count: _,
+            waiting: _,
+            lives: _,
+            lost: _,
+        } = self;
+    }
 }
 
 impl<K: Drop> LiveLinks<K> {

@@ -9,12 +9,21 @@ use std::alloc::{AllocError, Global};
 use sv_http::{Ask, Guard};
 
 /// A link that is open, or has a request in hand.
-#[derive(Debug, Drop)]
+#[derive(Debug)]
 pub struct KeptLink {
     /// What is read of it, until it is over.
     pub(crate) reading: Option<OpenLink>,
     /// Whether the request that was begun last waits for its answer.
     pub(crate) in_hand: bool,
+}
+
+impl Drop for KeptLink {
+    fn drop(self) {
+        let Self {
+            reading: _,
+            in_hand: _,
+        } = self;
+    }
 }
 
 impl KeptLink {

@@ -9,7 +9,7 @@ use std::collections::VecDeque;
 use sv_http::{Ask, Guard, HttpReader};
 
 /// A link that is open.
-#[derive(Debug, Drop)]
+#[derive(Debug)]
 pub struct OpenLink {
     /// Who may ask, and the undecided bytes.
     pub(crate) reader: HttpReader,
@@ -19,6 +19,17 @@ pub struct OpenLink {
     pub(crate) is_fed: bool,
     /// Whether its last order is More.
     pub(crate) has_more: bool,
+}
+
+impl Drop for OpenLink {
+    fn drop(self) {
+        let Self {
+            reader: _,
+            waiting: _,
+            is_fed: _,
+            has_more: _,
+        } = self;
+    }
 }
 
 impl OpenLink {

@@ -35,12 +35,22 @@ pub enum End {
 
 /// A journal that is read: the place of the line in hand, how many lines stand before it, and what has come of it; and the
 /// orders of the line before it, which were written.
-#[derive(Drop)]
 pub struct Run {
     pub(crate) place: JournalProgress,
     pub(crate) lines: u64,
     pub(crate) line: Vec<u8>,
     pub(crate) orders: Vec<Order>,
+}
+
+impl Drop for Run {
+    fn drop(self) {
+        let Self {
+            place: _,
+            lines: _,
+            line: _,
+            orders: _,
+        } = self;
+    }
 }
 
 impl Run {

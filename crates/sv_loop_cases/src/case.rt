@@ -16,7 +16,6 @@ pub(crate) enum Form {
 }
 
 /// A case, as far as its lines were read.
-#[derive(Drop)]
 pub(crate) struct Case {
     pub(crate) form: Form,
     pub(crate) name: String,
@@ -26,6 +25,19 @@ pub(crate) struct Case {
     pub(crate) status: u8,
     pub(crate) wanted: String,
     is_given: bool,
+}
+
+impl Drop for Case {
+    fn drop(self) {
+        let Self {
+            form: _,
+            name: _,
+            lines: _,
+            status: _,
+            wanted: _,
+            is_given: _,
+        } = self;
+    }
 }
 
 /// How the case is given that a line begins, and its name.

@@ -22,7 +22,6 @@
 use std::alloc::{AllocError, Global};
 
 /// What a script comes to, as far as its lines were read.
-#[derive(Drop)]
 pub(crate) struct Spelled {
     sizes: String,
     conf: String,
@@ -31,6 +30,20 @@ pub(crate) struct Spelled {
     lines: u64,
     pub(crate) status: u8,
     is_begun: bool,
+}
+
+impl Drop for Spelled {
+    fn drop(self) {
+        let Self {
+            sizes: _,
+            conf: _,
+            journal: _,
+            written: _,
+            lines: _,
+            status: _,
+            is_begun: _,
+        } = self;
+    }
 }
 
 /// The configuration of each script, before its own sections.

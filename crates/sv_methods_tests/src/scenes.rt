@@ -32,19 +32,37 @@ pub const ENDED: &str = "FATAL fault=no~file~/bin/cat|STOPPED start=951000000000
 RUNNING pid=20 start=999816155500|UNKNOWN|BACKOFF start=1000000000000 fault=fork~failed|FATAL exit=2";
 
 /// All of what a stand borrows.
-#[derive(Drop)]
 pub struct Scene {
     mood: Mood,
     daemon: Daemon,
     lives: Lives,
 }
 
+impl Drop for Scene {
+    fn drop(self) {
+        let Self {
+            mood: _,
+            daemon: _,
+            lives: _,
+        } = self;
+    }
+}
+
 /// What a daemon was configured with, and the sizes that it knows.
-#[derive(Drop)]
 struct Daemon {
     config: Config,
     roster: Roster,
     sizes: Vec<(Text, u64)>,
+}
+
+impl Drop for Daemon {
+    fn drop(self) {
+        let Self {
+            config: _,
+            roster: _,
+            sizes: _,
+        } = self;
+    }
 }
 
 /// The children, and of each whether its stdin was closed.

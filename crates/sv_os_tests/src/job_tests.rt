@@ -275,10 +275,15 @@ fn socket_path(rt: &HostRuntime) -> io::Result<String> {
 type RealLink = <OsListen<HostRuntime> as Listen>::Link;
 
 /// A lane: its taker, and its seats.
-#[derive(Drop)]
 struct Hall<T: Drop> {
     taker: Taker<T>,
     seats: Seats<T>,
+}
+
+impl<T: Drop> Drop for Hall<T> {
+    fn drop(self) {
+        let Self { taker: _, seats: _ } = self;
+    }
 }
 
 /// A lane for so many items.
@@ -290,11 +295,20 @@ fn hall_of<T: Drop>(rt: &impl Abort, alloc: Global, room: u32) -> Hall<T>
 }
 
 /// An address, and what hears the jobs of it and takes its links.
-#[derive(Drop)]
 struct Address {
     place: Place,
     notes: Hall<Note>,
     links: Hall<RealLink>,
+}
+
+impl Drop for Address {
+    fn drop(self) {
+        let Self {
+            place: _,
+            notes: _,
+            links: _,
+        } = self;
+    }
 }
 
 /// The address of this path.

@@ -10,12 +10,23 @@ use sv_base::{Bytes, Place};
 
 /// What went over one connection: where it led, the bytes that were written, the bytes that were read, and whether a
 /// read gave the end.
-#[derive(Debug, Drop)]
+#[derive(Debug)]
 pub struct Exchange {
     pub place: Place,
     pub sent: Bytes,
     pub heard: Bytes,
     pub ended: bool,
+}
+
+impl Drop for Exchange {
+    fn drop(self) {
+        let Self {
+            place: _,
+            sent: _,
+            heard: _,
+            ended: _,
+        } = self;
+    }
 }
 
 /// A connection: a source and a sink with one count of faults. A link that can, tells its exchange so far.

@@ -10,7 +10,7 @@ use sv_base::state::{How, Side, Stream};
 use sv_base::text::Text;
 
 /// One thing that the machine is told: an event of the outside with its moment, or the answer to a question.
-#[derive(Debug, Drop)]
+#[derive(Drop)]
 pub enum Input {
     /// A clock moment.
     Tick {

@@ -8,7 +8,7 @@ use sv_base::state::State;
 use sv_base::text::Text;
 
 /// All that is needed to start one process.
-#[derive(Debug, Drop)]
+#[derive(Debug)]
 pub struct SpawnOrder {
     pub run: Run,
     /// The name of the child's group.
@@ -27,8 +27,22 @@ pub struct SpawnOrder {
     pub environment: Items<(Text, Text)>,
 }
 
+impl Drop for SpawnOrder {
+    fn drop(self) {
+        let Self {
+            run: _,
+            group: _,
+            name: _,
+            directory: _,
+            umask: _,
+            user: _,
+            words: _,
+            environment: _,
+        } = self;
+    }
+}
+
 /// One thing that the machine tells the world to do, or reports.
-#[derive(Debug, Drop)]
 pub enum Order {
     /// Reports that a child went from one state to another.
     State {
@@ -105,4 +119,44 @@ pub enum Order {
     },
     /// The daemon ends: every group is at rest.
     Halt,
+}
+
+impl Drop for Order {
+    fn drop(self) {
+        match self {
+            Self::State {
+                group: _,
+                name: _,
+                from: _,
+                to: _,
+            } => {}
+            Self::Dropped {
+                pool: _,
+                serial: _,
+                poolserial: _,
+            } => {}
+            Self::Spawn(_) => {}
+            Self::Kill {
+                run: _,
+                signal: _,
+                group: _,
+            } => {}
+            Self::Stdin { run: _, bytes: _ } => {}
+            Self::Append { file: _, bytes: _ } => {}
+            Self::Shift { from: _, to: _ } => {}
+            Self::Fresh { file: _ } => {}
+            Self::ReadFile {
+                file: _,
+                start: _,
+                length: _,
+            } => {}
+            Self::ClearFile { file: _ } => {}
+            Self::Names { pattern: _ } => {}
+            Self::Size { file: _ } => {}
+            Self::Send { link: _, bytes: _ } => {}
+            Self::More { link: _ } => {}
+            Self::Close { link: _ } => {}
+            Self::Halt => {}
+        }
+    }
 }

@@ -38,7 +38,7 @@ impl Script {
 }
 
 /// A connection in memory, which tells its exchange.
-#[derive(Debug, Drop)]
+#[derive(Debug)]
 pub struct ScriptLink {
     place: Place,
     bytes: Vec<u8>,
@@ -49,6 +49,20 @@ pub struct ScriptLink {
     calls: Calls,
     ghost within: { at ≤ length bytes.items },
     ghost some: { 1 ≤ most },
+}
+
+impl Drop for ScriptLink {
+    fn drop(self) {
+        let Self {
+            place: _,
+            bytes: _,
+            at: _,
+            most: _,
+            sent: _,
+            ended: _,
+            calls: _,
+        } = self;
+    }
 }
 
 impl ScriptLink {
@@ -166,11 +180,21 @@ impl Link for ScriptLink {
 
 /// A dial in memory, which tells the exchanges of the links that it took back. Each connection reads the next script,
 /// and one past the scripts is at its end at once.
-#[derive(Debug, Drop)]
+#[derive(Debug)]
 pub struct ScriptDial {
     scripts: VecDeque<Script>,
     exchanges: Vec<Exchange>,
     calls: Calls,
+}
+
+impl Drop for ScriptDial {
+    fn drop(self) {
+        let Self {
+            scripts: _,
+            exchanges: _,
+            calls: _,
+        } = self;
+    }
 }
 
 impl ScriptDial {

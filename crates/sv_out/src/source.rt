@@ -24,7 +24,7 @@ pub trait Source {
 
 /// A source in memory: it gives the bytes of a list, so many at a time at most, and fails at the calls that it was told
 /// to fail at, the first call being 1.
-#[derive(Debug, Drop)]
+#[derive(Debug)]
 pub struct ListSource {
     bytes: Vec<u8>,
     at: usize,
@@ -34,6 +34,19 @@ pub struct ListSource {
     faults: u64,
     ghost within: { at ≤ length bytes.items },
     ghost some: { 1 ≤ most },
+}
+
+impl Drop for ListSource {
+    fn drop(self) {
+        let Self {
+            bytes: _,
+            at: _,
+            most: _,
+            failing: _,
+            calls: _,
+            faults: _,
+        } = self;
+    }
 }
 
 impl ListSource {

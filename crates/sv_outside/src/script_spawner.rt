@@ -36,13 +36,25 @@ impl Program {
 /// past the list a silent one; the processes are numbered from 1. It fails at the calls that it was made to fail at,
 /// the first call being 1 and spawns and kills being counted together; a program is then refused for the next reason of
 /// its list, and past the list for want of a file.
-#[derive(Debug, Drop)]
+#[derive(Debug)]
 pub struct ScriptSpawner {
     programs: VecDeque<Program>,
     refusals: VecDeque<Refusal>,
     next: Pid,
     asked: Vec<Asked>,
     calls: Calls,
+}
+
+impl Drop for ScriptSpawner {
+    fn drop(self) {
+        let Self {
+            programs: _,
+            refusals: _,
+            next: _,
+            asked: _,
+            calls: _,
+        } = self;
+    }
 }
 
 impl ScriptSpawner {

@@ -1,10 +1,12 @@
-//! The tests of `sv_child`, `sv_groups`, `sv_timers`, `sv_events`, `sv_pool`, `sv_pools`, `sv_dates`, `sv_logs`, `sv_files`,
+//! The tests of `sv_child`, `sv_groups`, `sv_children`, `sv_timers`, `sv_events`, `sv_pool`, `sv_pools`, `sv_dates`, `sv_logs`, `sv_files`,
 //! `sv_facts`, `sv_lines` and `sv_generate`, worked by hand: the parts of which the machine is made. A crate of their own, so that
 //! these are proved once.
 #![tactic(auto)]
 
 #[cfg(test)]
 mod child_tests;
+#[cfg(test)]
+mod children_tests;
 #[cfg(test)]
 mod claims;
 #[cfg(test)]

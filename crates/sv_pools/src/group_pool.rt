@@ -20,7 +20,6 @@ use sv_out::order::Order;
 use sv_pool::{Dropped, Pool};
 
 /// The event pool of a listener group. Its listeners stand side by side in the start order.
-#[derive(Drop)]
 pub struct GroupPool {
     /// The name of the group, by which reports and events name the pool.
     pub(crate) group: Text,
@@ -29,6 +28,17 @@ pub struct GroupPool {
     /// The place of its first listener in the start order.
     pub(crate) first: u32,
     pub(crate) pool: Pool,
+}
+
+impl Drop for GroupPool {
+    fn drop(self) {
+        let Self {
+            group: _,
+            kinds: _,
+            first: _,
+            pool: _,
+        } = self;
+    }
 }
 
 /// Whether the first event type covers the second.

@@ -41,11 +41,34 @@ pub struct Common {
 }
 
 /// What the sections of the daemon, its servers and its client tell.
-#[derive(Drop)]
 pub struct Others {
     pub daemon: Daemon,
     pub client: ClientSpec,
     pub servers: Items<ServerSpec>,
+}
+
+impl Drop for Others {
+    fn drop(self) {
+        let Self {
+            daemon: _,
+            client: _,
+            servers: _,
+        } = self;
+    }
+}
+
+impl Others {
+    /// What the three kinds of sections tell.
+    pub fn into_parts(self) -> (Daemon, ClientSpec, Items<ServerSpec>)
+        ensures { result ≡ (self.daemon, self.client, self.servers) }
+    {
+        let Self {
+            daemon,
+            client,
+            servers,
+        } = self;
+        (daemon, client, servers)
+    }
 }
 
 fn first_others(alloc: Global) -> Others
@@ -61,13 +84,9 @@ fn first_others(alloc: Global) -> Others
 fn with_server(others: Others, server: ServerSpec) -> Result<Others, AllocError>
     ensures { IfOk result (λ next. next ≡ with_server others server) }
 {
-    let mut servers = others.servers;
-    servers.push(server)?;
-    Ok(Others {
-        daemon: others.daemon,
-        client: others.client,
-        servers,
-    })
+    let mut others = others;
+    others.servers.push(server)?;
+    Ok(others)
 }
 
 /// The server of a `unix_http_server` section.
@@ -194,10 +213,12 @@ fn after_daemon(
         IsFault fault (after_daemon names.now others section.now)) }
 {
     let name = section.name.as_str();
+    let daemon = daemon_in(alloc, name, section.keys.as_slice(), names)?;
+    let (_, client, servers) = others.into_parts();
     Ok(Others {
-        daemon: daemon_in(alloc, name, section.keys.as_slice(), names)?,
-        client: others.client,
-        servers: others.servers,
+        daemon,
+        client,
+        servers,
     })
 }
 
@@ -213,10 +234,12 @@ fn after_client(
         IsFault fault (after_client names.now others section.now)) }
 {
     let name = section.name.as_str();
+    let client = client_in(alloc, name, section.keys.as_slice(), names)?;
+    let (daemon, _, servers) = others.into_parts();
     Ok(Others {
-        daemon: others.daemon,
-        client: client_in(alloc, name, section.keys.as_slice(), names)?,
-        servers: others.servers,
+        daemon,
+        client,
+        servers,
     })
 }
 

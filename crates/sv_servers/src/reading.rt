@@ -4,6 +4,7 @@ ghost use Rattle.std.specs.Option.{ForSome};
 ghost use Rattle.sv_servers.specs.Servers.{AreServers};
 
 use std::alloc::{AllocError, Global};
+use std::mem;
 use sv_arguments::arguments_of;
 use sv_base::{Config, Host, Items, ServerSpec, Text};
 use sv_beginning::{Beginning, beginning_of};
@@ -27,18 +28,18 @@ pub fn servers<S: Shelf>(
         return Ok(Items::new(alloc));
     };
     match beginning_of(alloc, &arguments.file, host, shelf) {
-        Ok(beginning) => Ok(servers_of(beginning)),
+        Ok(beginning) => Ok(servers_of(alloc, beginning)),
         Err(Outcome::NoMemory) => Err(AllocError),
         Err(_) => Ok(Items::new(alloc)),
     }
 }
 
 /// The servers among what a daemon begins with.
-fn servers_of(beginning: Beginning) -> Items<ServerSpec>
+fn servers_of(alloc: Global, beginning: Beginning) -> Items<ServerSpec>
     ensures { result ≡ beginning.loaded.config.servers }
 {
     let Beginning { loaded, sizes: _ } = beginning;
     let Loaded { config, .. } = loaded;
-    let Config { servers, .. } = config;
-    servers
+    let mut config = config;
+    mem::replace(&mut config.servers, Items::new(alloc))
 }

@@ -79,7 +79,6 @@ fn text_of(rt: &impl Abort, alloc: Global, orders: &[Order]) -> String {
 }
 
 /// What a daemon is called with.
-#[derive(Drop)]
 struct Parts {
     words: Vec<Text>,
     host: Host,
@@ -87,6 +86,19 @@ struct Parts {
     world: ScriptWorld,
     journal: ListSink,
     out: ListSink,
+}
+
+impl Drop for Parts {
+    fn drop(self) {
+        let Self {
+            words: _,
+            host: _,
+            shelf: _,
+            world: _,
+            journal: _,
+            out: _,
+        } = self;
+    }
 }
 
 fn parts_of(rt: &impl Abort, alloc: Global, row: &Row) -> Parts {
@@ -120,11 +132,20 @@ fn orders_are(rt: &impl Abort, alloc: Global, row: &Row, orders: &[Order]) {
 }
 
 /// What a replay is called with.
-#[derive(Drop)]
 struct ReplayParts {
     words: Vec<Text>,
     source: ListSource,
     lines: ListSink,
+}
+
+impl Drop for ReplayParts {
+    fn drop(self) {
+        let Self {
+            words: _,
+            source: _,
+            lines: _,
+        } = self;
+    }
 }
 
 fn source(rt: &impl Abort, alloc: Global, journal: &[u8]) -> ListSource {

@@ -130,7 +130,6 @@ fn put_part(rt: &impl Abort, out: &mut String, part: char) {
 }
 
 /// What a daemon is called with, and its status once it has ended.
-#[derive(Drop)]
 struct Daemon {
     words: Vec<Text>,
     host: Host,
@@ -139,6 +138,20 @@ struct Daemon {
     journal: ListSink,
     out: ListSink,
     status: u8,
+}
+
+impl Drop for Daemon {
+    fn drop(self) {
+        let Self {
+            words: _,
+            host: _,
+            shelf: _,
+            world: _,
+            journal: _,
+            out: _,
+            status: _,
+        } = self;
+    }
 }
 
 fn world_of(rt: &impl Abort, alloc: Global, script: &str, failing: u64) -> ScriptWorld {

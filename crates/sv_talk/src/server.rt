@@ -2,8 +2,17 @@
 use sv_base::{ClientSpec, Place};
 
 /// The server that is asked: where it is, and its URL with the username and the password.
-#[derive(Debug, Drop)]
+#[derive(Debug)]
 pub struct Server {
     pub place: Place,
     pub client: ClientSpec,
+}
+
+impl Drop for Server {
+    fn drop(self) {
+        let Self {
+            place: _,
+            client: _,
+        } = self;
+    }
 }

@@ -10,7 +10,8 @@ use sv_base::Side;
 use sv_first_jobs::{hand_console, hand_links, hand_ticker};
 use sv_gate::Ready;
 use sv_job_types::{AnyJob, ConsoleJob, TickerJob};
-use sv_lane::{Poster, Taker, lane};
+use sv_jobs::Note;
+use sv_lane::{Poster, Seats, Taker, lane};
 use sv_link_orders::LiveLinks;
 use sv_out::files::Shelf;
 use sv_out::source::Source;
@@ -65,34 +66,33 @@ impl<
         ensures answer { IfOk result (λ w. w.answer ≡ None) }
         ensures faults { IfOk result (λ w. w.faults ≡ 0) }
     {
-        let (notes, mut seats) = lane(alloc, NOTES)?;
-        let (inet_links, inet_poster) = links_lane(alloc)?;
-        let (unix_links, unix_poster) = links_lane(alloc)?;
+        let Lanes {
+            notes,
+            seats,
+            posters,
+            accepted,
+            links,
+        } = Lanes::new(alloc)?;
         let console_job = ConsoleJob {
             source: console,
-            poster: seats.seat()?,
+            poster: posters.console,
             alloc,
         };
         let ticker_job = TickerJob {
             clock: ticker,
             turns: u64::MAX,
-            poster: seats.seat()?,
+            poster: posters.ticker,
         };
-        let inet_seat = seats.seat()?;
-        let unix_seat = seats.seat()?;
         let mut gate = Ready::new(gate);
         hand_console(&mut gate, console_job);
         hand_ticker(&mut gate, ticker_job);
-        hand_links(&mut gate, Side::Inet, inet, inet_seat, inet_poster);
-        hand_links(&mut gate, Side::Unix, unix, unix_seat, unix_poster);
+        hand_links(&mut gate, Side::Inet, inet, posters.inet, links.inet);
+        hand_links(&mut gate, Side::Unix, unix, posters.unix, links.unix);
         Ok(ThreadWorld {
             rt,
             runs: LiveRuns::new(alloc, spawner),
             links: LiveLinks::new(alloc),
-            accepted: Accepted {
-                inet: inet_links,
-                unix: unix_links,
-            },
+            accepted,
             shelf,
             clock,
             gate,
@@ -104,6 +104,78 @@ impl<
             faults: 0,
         })
     }
+}
+
+/// The posters of the jobs with which a world begins.
+#[derive(Drop)]
+struct FirstPosters {
+    console: Poster<Note>,
+    ticker: Poster<Note>,
+    inet: Poster<Note>,
+    unix: Poster<Note>,
+}
+
+impl FirstPosters {
+    /// One seat for each of them.
+    fn new(seats: &mut Seats<Note>) -> Result<FirstPosters, AllocError> {
+        Ok(FirstPosters {
+            console: seats.seat()?,
+            ticker: seats.seat()?,
+            inet: seats.seat()?,
+            unix: seats.seat()?,
+        })
+    }
+}
+
+/// The posters of the links that are accepted.
+#[derive(Drop)]
+struct LinkPosters<K: Drop> {
+    inet: Poster<K>,
+    unix: Poster<K>,
+}
+
+/// The lanes of a world, and the posters of its first jobs.
+#[derive(Drop)]
+struct Lanes<K: Drop> {
+    notes: Taker<Note>,
+    seats: Seats<Note>,
+    posters: FirstPosters,
+    accepted: Accepted<K>,
+    links: LinkPosters<K>,
+}
+
+impl<K: Drop> Lanes<K> {
+    ghost use Rattle.std.specs.Prelude.{◌≡◌, []};
+    ghost use Rattle.sv_lane.specs.Ends.{taken};
+
+    /// The lanes, from which nothing was taken.
+    fn new(alloc: Global) -> Result<Lanes<K>, AllocError>
+        ensures { IfOk result (λ l. taken l.notes ≡ []) }
+    {
+        let (notes, mut seats) = lane(alloc, NOTES)?;
+        let posters = FirstPosters::new(&mut seats)?;
+        let (accepted, links) = links_lanes(alloc)?;
+        Ok(Lanes {
+            notes,
+            seats,
+            posters,
+            accepted,
+            links,
+        })
+    }
+}
+
+/// The lanes of the links that are accepted on the two sides, with one seat each.
+fn links_lanes<K: Drop>(alloc: Global) -> Result<(Accepted<K>, LinkPosters<K>), AllocError> {
+    let (inet, inet_poster) = links_lane(alloc)?;
+    let (unix, unix_poster) = links_lane(alloc)?;
+    Ok((
+        Accepted { inet, unix },
+        LinkPosters {
+            inet: inet_poster,
+            unix: unix_poster,
+        },
+    ))
 }
 
 /// The lane of the accepted links of a side, with one seat.

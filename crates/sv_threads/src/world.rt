@@ -46,8 +46,13 @@ pub struct ThreadWorld<
 }
 
 /// The links that were accepted at each side, in the order in which they came.
-#[derive(Drop)]
 pub(crate) struct Accepted<K: Drop> {
     pub(crate) inet: Taker<K>,
     pub(crate) unix: Taker<K>,
+}
+
+impl<K: Drop> Drop for Accepted<K> {
+    fn drop(self) {
+        let Self { inet: _, unix: _ } = self;
+    }
 }

@@ -61,13 +61,24 @@ impl<R: Wait + std::time::Clock + Drop> Clock for StageClock<R> {
 }
 
 /// A client's link. It gives its bytes once it is told to begin; where it gets the reply that it waits for, it tells others.
-#[derive(Drop)]
 pub(crate) struct ClientLink<R: Drop> {
     pub(crate) rt: R,
     pub(crate) begins: Option<Receiver<()>>,
     pub(crate) source: ListSource,
     pub(crate) reply: &'static str,
     pub(crate) told: Vec<Sender<()>>,
+}
+
+impl<R: Drop> Drop for ClientLink<R> {
+    fn drop(self) {
+        let Self {
+            rt: _,
+            begins: _,
+            source: _,
+            reply: _,
+            told: _,
+        } = self;
+    }
 }
 
 impl<R: Wait + Drop> Link for ClientLink<R> {

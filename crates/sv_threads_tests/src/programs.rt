@@ -57,13 +57,24 @@ struct Running {
 
 /// Starts programs, each of which writes `hi` and ends with the code 0: at once, but the tenth run of each when it gets a
 /// signal. It says for each program that it was asked for one.
-#[derive(Drop)]
 pub(crate) struct TenSpawner<R: Drop> {
     rt: R,
     asked: Sender<()>,
     tallies: Vec<Tally>,
     running: Vec<Running>,
     next: Pid,
+}
+
+impl<R: Drop> Drop for TenSpawner<R> {
+    fn drop(self) {
+        let Self {
+            rt: _,
+            asked: _,
+            tallies: _,
+            running: _,
+            next: _,
+        } = self;
+    }
 }
 
 /// What waits for the end of a process: it has ended, or does when it gets a signal.

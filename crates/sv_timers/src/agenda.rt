@@ -21,10 +21,16 @@ pub struct Next {
 
 /// The deadlines of children, at most one each, which contracts see as a list. Those that are due are told one after the
 /// other in start order, from one settle; only where a deadline changed that comes later is there another settle.
-#[derive(Debug, Drop)]
+#[derive(Debug)]
 pub struct Agenda {
     due: Due,
     list: DueList,
+}
+
+impl Drop for Agenda {
+    fn drop(self) {
+        let Self { due: _, list: _ } = self;
+    }
 }
 
 impl Model for Agenda {

@@ -12,7 +12,6 @@ use sv_out::order::Order;
 /// A world in memory: it gives the inputs of a script as they stand, fails at the calls for an input that it was made to
 /// fail at, and keeps the orders. Its count of faults rises with each order of which the rest of the script tells that
 /// it failed.
-#[derive(Debug, Drop)]
 pub struct ScriptWorld {
     script: Vec<Input>,
     at: usize,
@@ -22,6 +21,20 @@ pub struct ScriptWorld {
     breaks: u64,
     faults: u64,
     ghost within: { at ≤ length script.items },
+}
+
+impl Drop for ScriptWorld {
+    fn drop(self) {
+        let Self {
+            script: _,
+            at: _,
+            orders: _,
+            failing: _,
+            calls: _,
+            breaks: _,
+            faults: _,
+        } = self;
+    }
 }
 
 impl ScriptWorld {

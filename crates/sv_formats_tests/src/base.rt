@@ -174,17 +174,17 @@ fn copies_of_a_server(rt: &impl Abort, alloc: Global) {
     };
     let copy = server.clone().expect(rt, "memory");
     drop(server);
-    copies_of_a_client(rt, alloc, copy.username);
+    copies_of_a_client(rt, alloc, &copy.username);
     let _place = Place::Unix(text(rt, alloc, "/run/s.sock"))
         .clone()
         .expect(rt, "memory");
     let _password = Password::Sha([7; 20]).clone().expect(rt, "memory");
 }
 
-fn copies_of_a_client(rt: &impl Abort, alloc: Global, username: Text) {
+fn copies_of_a_client(rt: &impl Abort, alloc: Global, username: &Text) {
     let client = ClientSpec {
         url: text(rt, alloc, "http://localhost:9001"),
-        username,
+        username: username.clone().expect(rt, "memory"),
         password: Text::fixed(""),
     };
     let _client = client.clone().expect(rt, "memory");

@@ -5,7 +5,7 @@ use Rattle.sv_generated.proofs.Counting.{draw_answered, draw_asking, draw_fits, 
 use Rattle.sv_generated.specs.Counted.{Counted}
 use Rattle.sv_generated.specs.Generated.{inputs_after}
 use Rattle.sv_generated.specs.Taken.{first_of}
-use Rattle.sv_generated.proofs.taking.run.Goals as goal
+use Rattle.sv_generated.proofs.taking.run_through.Goals as goal
 
 pub draw-requires : goal.draw-requires
 draw-requires c =

@@ -1,6 +1,6 @@
 //! What the texts of the tables spell, or where they are refused; nesting and numbers of values at their limits.
 
-use crate::tables::{
+use crate::xmlcall::tables::{
     CALLS, LOGS, NO_CALLS, NO_FORMS, NO_REPLIES, NO_TAGS, NO_TEXTS, NO_UTF8, REPLIES, VALUES,
 };
 use std::alloc::Global;

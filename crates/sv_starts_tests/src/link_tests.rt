@@ -1,68 +1,16 @@
 //! Links over a gate in memory.
-ghost use Rattle.std.specs.Prelude.{None};
-
+use crate::quiet::{QuietLink, TestGate, TestJob};
 use std::alloc::Global;
 use std::process::Abort;
 use std::sync::Wait;
 use sv_base::{Bytes, LinkId};
 use sv_gate::{Handed, Ready};
-use sv_job_types::{AnyJob, NoBoard};
+use sv_job_types::AnyJob;
 use sv_jobs::{LinkWord, Note};
 use sv_lane::{Seats, lane};
 use sv_link_orders::LiveLinks;
 use sv_link_starts::start_link;
-use sv_out::Link;
-use sv_out::failed::Failed;
-use sv_out::sink::ListSink;
-use sv_out::source::ListSource;
-use sv_outside::{FixedClock, HoldGate, Job, JobWord, Listen, ScriptWaiter};
-
-/// A link that brings nothing and takes what is sent.
-#[derive(Drop)]
-struct QuietLink {}
-
-impl Link for QuietLink {
-    ghost told = { λ l. None };
-
-    ghost faults = { λ l. 0 };
-
-    fn read(&mut self, _into: &mut [u8]) -> Result<usize, Failed> {
-        Ok(0)
-    }
-
-    fn write(&mut self, piece: &[u8]) -> Result<usize, Failed> {
-        Ok(piece.len())
-    }
-}
-
-/// Accepts such links.
-#[derive(Drop)]
-struct QuietListen {}
-
-impl Listen for QuietListen {
-    type Link = QuietLink;
-
-    ghost told = { λ l. None };
-
-    ghost faults = { λ l. 0 };
-
-    fn accept(&mut self) -> Result<QuietLink, Failed> {
-        Ok(QuietLink {})
-    }
-}
-
-type TestJob = AnyJob<
-    ListSink,
-    ListSource,
-    ListSource,
-    ScriptWaiter,
-    QuietListen,
-    ListSource,
-    FixedClock,
-    NoBoard,
->;
-
-type TestGate = Ready<TestJob, HoldGate<TestJob>>;
+use sv_outside::{HoldGate, Job, JobWord};
 
 type TestLinks = LiveLinks<QuietLink>;
 
