@@ -282,7 +282,7 @@ fn replies_come_to_this(rt: HostRuntime) {
 }
 
 /// Each line has the call of the link that fails and that of the dial, and what the call comes to.
-const FAILURES: [(u64, u64, &str, u64); 5] = [
+static FAILURES: [(u64, u64, &str, u64); 5] = [
     (0, 0, "value", 0),
     (1, 0, "broke off", 1),
     (2, 0, "broke off", 1),
@@ -298,7 +298,7 @@ fn failure_is(rt: &impl Abort, alloc: Global, link: u64, dials: u64, expected: &
 
 #[test]
 fn failures_are_counted(rt: HostRuntime) {
-    for (link, dials, expected, faults) in FAILURES {
+    for &(link, dials, expected, faults) in &FAILURES {
         failure_is(&rt, rt.alloc(), link, dials, expected, faults);
     }
 }

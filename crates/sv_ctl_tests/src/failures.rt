@@ -12,7 +12,7 @@ pub(crate) type Failure = (
 );
 
 /// The failures.
-pub(crate) const FAILURES: [Failure; 35] = [
+pub(crate) static FAILURES: [Failure; 35] = [
     ([0, 0, 0, 0, 0], "-c /part.conf pid", "", "#7|", 0, "7~"),
     (
         [1, 0, 0, 0, 0],

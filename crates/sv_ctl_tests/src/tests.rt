@@ -22,7 +22,7 @@ Authorization: Basic dXNlcjphYmM=\r\n\r\n\
 <?xml version='1.0'?><methodCall><methodName>supervisor.getPID</methodName><params></params></methodCall>";
 
 /// The files of the shelf.
-const FILES: [(&str, &str); 7] = [
+static FILES: [(&str, &str); 7] = [
     ("/good.conf", "[supervisorctl]\nserverurl=http://h:1\n"),
     ("/part.conf", "[include]\nfiles=/part.d/*\n"),
     ("/part.d/ctl", "[supervisorctl]\nserverurl=http://h:1\n"),
@@ -53,7 +53,7 @@ fn add_file(rt: &impl Abort, alloc: Global, shelf: &mut MapShelf, name: &str, te
 
 fn shelf_of(rt: &impl Abort, alloc: Global, failing: u64) -> MapShelf {
     let mut shelf = MapShelf::new(alloc, one_call(rt, alloc, failing));
-    for (name, text) in FILES {
+    for &(name, text) in &FILES {
         add_file(rt, alloc, &mut shelf, name, text);
     }
     shelf

@@ -8,7 +8,7 @@ use sv_base::{
     kind_of, signal_of, size_of_text, split_name, truth_of,
 };
 
-const SIGNALS: [(&str, Option<Signal>); 16] = [
+static SIGNALS: [(&str, Option<Signal>); 16] = [
     ("TERM", Some(Signal::Term)),
     ("sigterm", Some(Signal::Term)),
     ("15", Some(Signal::Term)),
@@ -27,7 +27,7 @@ const SIGNALS: [(&str, Option<Signal>); 16] = [
     ("TERM ", None),
 ];
 
-const SIZES: [(&str, Option<u64>); 15] = [
+static SIZES: [(&str, Option<u64>); 15] = [
     ("0", Some(0)),
     ("12", Some(12)),
     ("007", Some(7)),
@@ -45,7 +45,7 @@ const SIZES: [(&str, Option<u64>); 15] = [
     ("1k", None),
 ];
 
-const TRUTHS: [(&str, Option<bool>); 12] = [
+static TRUTHS: [(&str, Option<bool>); 12] = [
     ("yes", Some(true)),
     ("True", Some(true)),
     ("ON", Some(true)),
@@ -60,7 +60,7 @@ const TRUTHS: [(&str, Option<bool>); 12] = [
     ("true ", None),
 ];
 
-const KINDS: [(&str, Option<Kind>); 12] = [
+static KINDS: [(&str, Option<Kind>); 12] = [
     ("EVENT", Some(Kind::Event)),
     ("PROCESS_STATE", Some(Kind::ProcessState)),
     ("PROCESS_STATE_BACKOFF", Some(Kind::ProcessStateBackoff)),
@@ -82,7 +82,7 @@ const KINDS: [(&str, Option<Kind>); 12] = [
 ];
 
 // a name, its group, and its process: none is the whole group
-const NAMES: [(&str, &str, Option<&str>); 8] = [
+static NAMES: [(&str, &str, Option<&str>); 8] = [
     ("g:p", "g", Some("p")),
     ("g:*", "g", None),
     ("g:", "g", None),
@@ -99,31 +99,31 @@ fn reads_words(rt: HostRuntime) {
     check_sizes(&rt);
     check_truths(&rt);
     check_kinds(&rt);
-    for (text, group, process) in NAMES {
+    for &(text, group, process) in &NAMES {
         check_name(&rt, rt.alloc(), text, group, process);
     }
 }
 
 fn check_signals(rt: &impl Abort) {
-    for (text, signal) in SIGNALS {
+    for &(text, signal) in &SIGNALS {
         assert!(rt; signal_of(text) == signal, "the signal of {text}");
     }
 }
 
 fn check_sizes(rt: &impl Abort) {
-    for (text, size) in SIZES {
+    for &(text, size) in &SIZES {
         assert!(rt; size_of_text(text) == size, "the size of {text}");
     }
 }
 
 fn check_truths(rt: &impl Abort) {
-    for (text, truth) in TRUTHS {
+    for &(text, truth) in &TRUTHS {
         assert!(rt; truth_of(text) == truth, "the answer of {text}");
     }
 }
 
 fn check_kinds(rt: &impl Abort) {
-    for (text, kind) in KINDS {
+    for &(text, kind) in &KINDS {
         assert!(rt; kind_of(text) == kind, "the kind of {text}");
     }
 }
@@ -140,7 +140,7 @@ fn check_name(rt: &impl Abort, alloc: Global, text: &str, group: &str, process: 
     }
 }
 
-const MOODS: [(Mood, &str, i64); 3] = [
+static MOODS: [(Mood, &str, i64); 3] = [
     (Mood::Running, "RUNNING", 1),
     (Mood::Restarting, "RESTARTING", 0),
     (Mood::Shutdown, "SHUTDOWN", -1),
@@ -148,7 +148,7 @@ const MOODS: [(Mood, &str, i64); 3] = [
 
 #[test]
 fn moods_have_names_and_numbers(rt: HostRuntime) {
-    for (mood, name, number) in MOODS {
+    for &(mood, name, number) in &MOODS {
         assert!(rt;
             mood.name() == name && mood.number() == number,
             "the mood {name}"

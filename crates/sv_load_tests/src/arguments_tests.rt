@@ -6,7 +6,7 @@ use sv_arguments::arguments_of;
 use sv_base::Text;
 
 /// Words, parted by spaces, with the file and `+` where a journal is kept; `-` is a refusal.
-const LINES: [(&str, &str); 23] = [
+static LINES: [(&str, &str); 23] = [
     ("-c /s.conf", "/s.conf"),
     ("-c/s.conf", "/s.conf"),
     ("-c=/s.conf", "/s.conf"),
@@ -70,7 +70,7 @@ fn line_is(rt: &impl Abort, alloc: Global, line: &str, expected: &str) {
 
 #[test]
 fn words_say_the_file_and_the_journal(rt: HostRuntime) {
-    for (line, expected) in LINES {
+    for &(line, expected) in &LINES {
         line_is(&rt, rt.alloc(), line, expected);
     }
     are_told(&rt, rt.alloc(), &[], "-");

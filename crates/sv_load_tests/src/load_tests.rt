@@ -11,7 +11,7 @@ const MAIN: &str = "[include]\nfiles=/d/*.ini /d/b* /e/x.ini\n[program:main]\nco
 
 /// Files as names and texts: a main file, three that its patterns list, of which one is listed twice, and one that none
 /// lists.
-const FILES: [(&str, &str); 5] = [
+static FILES: [(&str, &str); 5] = [
     ("/s.conf", MAIN),
     ("/d/a.ini", "[program:a]\ncommand=/bin/a\n"),
     ("/d/b.ini", "[program:b]\ncommand=/bin/b\n"),
@@ -20,7 +20,7 @@ const FILES: [(&str, &str); 5] = [
 ];
 
 /// The name that is told where the call of this number fails; with none all files are read.
-const FAILURES: [(u64, &str); 8] = [
+static FAILURES: [(u64, &str); 8] = [
     (1, "failed /s.conf"),
     (2, "failed /d/*.ini"),
     (3, "failed /d/b*"),
@@ -119,7 +119,7 @@ fn failing_at(rt: &impl Abort, alloc: Global, call: u64) -> MapShelf {
 /// A shelf of the files that fails at this call.
 fn files_failing_at(rt: &impl Abort, alloc: Global, call: u64) -> MapShelf {
     let mut shelf = failing_at(rt, alloc, call);
-    for (name, text) in FILES {
+    for &(name, text) in &FILES {
         add_file(rt, alloc, &mut shelf, name, text);
     }
     shelf
@@ -135,7 +135,7 @@ fn failure_is(rt: &impl Abort, alloc: Global, call: u64, expected: &str) {
 
 #[test]
 fn each_listed_file_is_read_once(rt: HostRuntime) {
-    for (call, expected) in FAILURES {
+    for &(call, expected) in &FAILURES {
         failure_is(&rt, rt.alloc(), call, expected);
     }
 }

@@ -7,7 +7,7 @@ use sv_out::sink::ListSink;
 use sv_outcome::Outcome;
 
 /// An outcome as a letter, its status, and its line.
-const OUTCOMES: [(u8, u8, &str); 11] = [
+static OUTCOMES: [(u8, u8, &str); 11] = [
     (b'0', 0, ""),
     (
         b'u',
@@ -68,7 +68,7 @@ fn leaves(rt: &impl Abort, alloc: Global, letter: u8, status: u8, line: &str) {
 
 #[test]
 fn each_outcome_leaves_its_line(rt: HostRuntime) {
-    for (letter, status, line) in OUTCOMES {
+    for &(letter, status, line) in &OUTCOMES {
         leaves(&rt, rt.alloc(), letter, status, line);
     }
 }
@@ -83,7 +83,7 @@ fn fails(rt: &impl Abort, alloc: Global, letter: u8, status: u8, length: usize) 
 
 #[test]
 fn a_line_that_cannot_be_written_gives_7(rt: HostRuntime) {
-    for (letter, status, line) in OUTCOMES {
+    for &(letter, status, line) in &OUTCOMES {
         if line.is_empty() {
             fails(&rt, rt.alloc(), letter, status, 0);
         } else {

@@ -7,7 +7,7 @@ use sv_out::MapShelf;
 use sv_servers::servers;
 
 /// The files of the shelf.
-const FILES: [(&str, &str); 4] = [
+static FILES: [(&str, &str); 4] = [
     (
         "/s.conf",
         "[supervisord]\nlogfile=NONE\n[inet_http_server]\nport=9001\n[rpcinterface:supervisor]\n",
@@ -21,7 +21,7 @@ const FILES: [(&str, &str); 4] = [
 ];
 
 /// Words, the call on the shelf that fails (0: none), and the servers: each its place, its username and its password.
-const ROWS: [(&str, u64, &str); 8] = [
+static ROWS: [(&str, u64, &str); 8] = [
     ("-c /s.conf", 0, "inet :9001 user <> password none;"),
     (
         "-c /both.conf --journal",
@@ -46,7 +46,7 @@ fn shelf_of(rt: &impl Abort, alloc: Global, failing: u64) -> MapShelf {
     let mut calls = Vec::new(alloc);
     calls.push(failing).expect(rt, "memory");
     let mut shelf = MapShelf::new(alloc, calls);
-    for (name, text) in FILES {
+    for &(name, text) in &FILES {
         put_file(rt, alloc, &mut shelf, name, text);
     }
     shelf
@@ -151,7 +151,7 @@ fn row_is(rt: &impl Abort, alloc: Global, words: &str, failing: u64, expected: &
 
 #[test]
 fn servers_are_those_of_the_configuration(rt: HostRuntime) {
-    for (words, failing, expected) in ROWS {
+    for &(words, failing, expected) in &ROWS {
         row_is(&rt, rt.alloc(), words, failing, expected);
     }
 }

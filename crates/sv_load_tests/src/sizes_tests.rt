@@ -15,7 +15,7 @@ use sv_out::MapShelf;
 use sv_sizes::{SizesFault, sizes_of};
 
 /// What is told where the call of this number fails; with none all sizes are.
-const TOLD: [(u64, &str); 4] = [
+static TOLD: [(u64, &str); 4] = [
     (0, "/e=0 /m=3 /p=10"),
     (1, "failed /e"),
     (2, "failed /m"),
@@ -172,7 +172,7 @@ fn call_is(rt: &impl Abort, alloc: Global, config: &Config, call: u64, expected:
 #[test]
 fn each_log_file_is_asked_once(rt: HostRuntime) {
     let config = config(&rt, rt.alloc());
-    for (call, expected) in TOLD {
+    for &(call, expected) in &TOLD {
         call_is(&rt, rt.alloc(), &config, call, expected);
     }
 }

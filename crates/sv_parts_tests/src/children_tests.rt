@@ -112,7 +112,7 @@ fn one_and_three(rt: &impl Abort, alloc: Global) -> Children {
 }
 
 /// What names mean, by the places of the children.
-const NAMES: [(&str, usize, usize); 7] = [
+static NAMES: [(&str, usize, usize); 7] = [
     ("d", 0, 1),
     ("d:d", 0, 1),
     ("g:b", 2, 3),
@@ -126,7 +126,7 @@ const NAMES: [(&str, usize, usize); 7] = [
 fn names_are_the_rosters(rt: HostRuntime) {
     let children = one_and_three(&rt, rt.alloc());
     assert!(rt; children.len() == 4);
-    for (name, from, to) in NAMES {
+    for &(name, from, to) in &NAMES {
         let span = children.meant(&Text::fixed(name));
         assert!(rt; span == Span { from, to });
     }

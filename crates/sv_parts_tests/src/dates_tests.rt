@@ -4,7 +4,7 @@ use std::process::Abort;
 use sv_dates::{Day, date_of};
 
 /// The moment in milliseconds, and its year, month and day.
-const DAYS: [(u64, u16, u8, u8); 12] = [
+static DAYS: [(u64, u16, u8, u8); 12] = [
     (0, 1970, 1, 1),
     (86_399_999, 1970, 1, 1),
     (86_400_000, 1970, 1, 2),
@@ -21,7 +21,7 @@ const DAYS: [(u64, u16, u8, u8); 12] = [
 
 #[test]
 fn days_of_moments(rt: HostRuntime) {
-    for (moment, year, month, day) in DAYS {
+    for &(moment, year, month, day) in &DAYS {
         is_day(&rt, moment, Day { year, month, day });
     }
 }

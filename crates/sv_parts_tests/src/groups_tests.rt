@@ -178,7 +178,7 @@ const FINDS: [(&str, Found); 14] = [
 ];
 
 /// Four groups of five processes.
-const SAMPLE: [(&str, i32, &[&str]); 4] = [
+static SAMPLE: [(&str, i32, &[&str]); 4] = [
     ("mem", -1, &["mem"]),
     ("cat", 10, &["cat"]),
     ("front", 20, &["web_00", "web_01"]),
@@ -188,7 +188,7 @@ const SAMPLE: [(&str, i32, &[&str]); 4] = [
 /// The groups of these.
 fn sample_groups(rt: &impl Abort, alloc: Global) -> Vec<GroupSpec> {
     let mut groups = Vec::new(alloc);
-    for (name, priority, members) in SAMPLE {
+    for &(name, priority, members) in &SAMPLE {
         groups
             .push(group_of(rt, alloc, name, priority, members))
             .expect(rt, "memory");

@@ -13,7 +13,7 @@ use sv_xmlcall::write::{write_call, write_reply};
 // Each pair is the members of a struct, and the part that it is: the written call after its declaration, or the fault. In both
 // `M` stands for `<member><name>methodName</name><value>`, `P` for `<member><name>params</name><value>`, `E` for
 // `</value></member>`, `A` for `<array><data>`, `Z` for `</data></array>`.
-const PARTS: [(&str, &str); 16] = [
+static PARTS: [(&str, &str); 16] = [
     ("MgetE", "get|<params></params>"),
     ("MgetEPAZE", "get|<params></params>"),
     ("PAZEMgetE", "get|<params></params>"),
@@ -42,7 +42,7 @@ const PARTS: [(&str, &str); 16] = [
 ];
 
 // Values that aren't arrays of structs.
-const NO_PARTS: [&str; 7] = [
+static NO_PARTS: [&str; 7] = [
     "<int>1</int>",
     "<boolean>1</boolean>",
     "text",
@@ -188,7 +188,7 @@ fn is_written(rt: &impl Abort, alloc: Global, value: &Value, data: &str) {
 
 #[test]
 fn parts_of_structs(rt: HostRuntime) {
-    for (members, wanted) in PARTS {
+    for &(members, wanted) in &PARTS {
         has_part(&rt, rt.alloc(), members, wanted);
     }
 }
@@ -206,7 +206,7 @@ fn count_of(rt: &impl Abort, alloc: Global, value: &Value) -> usize {
 
 #[test]
 fn values_without_parts(rt: HostRuntime) {
-    for form in NO_PARTS {
+    for &form in &NO_PARTS {
         has_no_parts(&rt, rt.alloc(), form);
     }
 }

@@ -216,7 +216,7 @@ web_%(n)02d => web_07
 %(n)-3d => 2 BadForm 0
 a~%(x)s => a~text"#;
 
-const TEXTS: [(&str, &str); 7] = [
+static TEXTS: [(&str, &str); 7] = [
     ("ENV_H", "/r"),
     ("x", "text"),
     ("p", "%(x)s%"),
@@ -226,7 +226,7 @@ const TEXTS: [(&str, &str); 7] = [
     ("ü", "ö"),
 ];
 
-const NUMBERS: [(&str, u64); 8] = [
+static NUMBERS: [(&str, u64); 8] = [
     ("n", 7),
     ("big", 123_456),
     ("zero", 0),
@@ -299,7 +299,7 @@ fn expansion_said(rt: &impl Abort, alloc: Global, text: &str, names: &Names) -> 
 
 fn named_texts(rt: &impl Abort, alloc: Global) -> NamedTexts {
     let mut pairs = NamedTexts::new(alloc);
-    for (name, text) in TEXTS {
+    for &(name, text) in &TEXTS {
         pairs
             .push((Text::fixed(name), Text::fixed(text)))
             .expect(rt, "memory");
@@ -309,7 +309,7 @@ fn named_texts(rt: &impl Abort, alloc: Global) -> NamedTexts {
 
 fn named_numbers(rt: &impl Abort, alloc: Global) -> Items<(Text, u64)> {
     let mut numbers = Items::new(alloc);
-    for (name, number) in NUMBERS {
+    for &(name, number) in &NUMBERS {
         numbers
             .push((Text::fixed(name), number))
             .expect(rt, "memory");

@@ -6,7 +6,7 @@ use sv_http::reply::reply;
 use sv_http::{Replied, ReplyReader, Status};
 
 /// Sizes of bodies, multiples of 16, and the heads of their replies.
-const REPLIES: [(usize, &str); 2] = [
+static REPLIES: [(usize, &str); 2] = [
     (
         1_048_592,
         "HTTP/1.1 200 OK\r\nContent-Type: text/xml\r\nContent-Length: 1048592\r\n\r\n",
@@ -39,7 +39,7 @@ fn read_in_pieces(rt: &impl Abort, alloc: Global, text: &[u8]) -> Option<Replied
 #[test]
 fn replies_of_more_than_a_mebibyte(rt: HostRuntime) {
     let alloc = rt.alloc();
-    for (size, head) in REPLIES {
+    for &(size, head) in &REPLIES {
         let body = body_of(&rt, alloc, size);
         let text = reply(alloc, Status::Ok, body.as_slice(), false).expect(&rt, "ample memory");
         let behind_head = text.as_slice().strip_prefix(head.as_bytes());

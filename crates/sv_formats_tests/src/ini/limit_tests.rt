@@ -17,7 +17,7 @@ struct Text {
     expected: &'static str,
 }
 
-const TEXTS: [Text; 4] = [
+static TEXTS: [Text; 4] = [
     // 16,384 blocks of 64 bytes
     Text {
         head: "",
@@ -104,8 +104,8 @@ fn says(rt: &impl Abort, alloc: Global, text: &str, expected: &str) {
 #[test]
 fn texts_of_the_most_bytes_and_of_one_more(rt: HostRuntime) {
     let alloc = rt.alloc();
-    for row in TEXTS {
-        let mut text = written(alloc, &row).expect(&rt, "ample memory");
+    for row in &TEXTS {
+        let mut text = written(alloc, row).expect(&rt, "ample memory");
         assert_eq!(rt; text.as_str().len(), 1_048_576);
         says(&rt, alloc, text.as_str(), row.expected);
         text.push('\n').expect(&rt, "ample memory");

@@ -48,7 +48,7 @@ struct Run<'a> {
 }
 
 // Streams, and runs that end otherwise.
-const ENDS: [(&[u8], Run); 8] = [
+static ENDS: [(&[u8], Run); 8] = [
     (
         b"ver:3.0 len:x\n",
         Run {
@@ -176,7 +176,7 @@ fn a_crash_is_reported(rt: HostRuntime) {
 
 #[test]
 fn other_ends(rt: HostRuntime) {
-    for (stream, run) in ENDS {
+    for &(stream, run) in &ENDS {
         play(&rt, rt.alloc(), stream, &run);
     }
 }

@@ -46,7 +46,7 @@ impl Handler for Judge {
 type Run = (u64, HandleFault, u64, ListenEnd, &'static str);
 
 // The sink takes 50 bytes a call, and all answers have 53; they came together, so they take its calls 2 and 3.
-const RUNS: [Run; 6] = [
+static RUNS: [Run; 6] = [
     (
         0,
         HandleFault::Failed,
@@ -115,7 +115,7 @@ fn play(
 
 #[test]
 fn each_event_gets_its_result(rt: HostRuntime) {
-    for (stops_at, fault, sink_fails, end, said) in RUNS {
+    for &(stops_at, fault, sink_fails, end, said) in &RUNS {
         play(&rt, rt.alloc(), stops_at, fault, sink_fails, end, said);
     }
 }

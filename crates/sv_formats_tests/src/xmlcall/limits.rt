@@ -19,7 +19,7 @@ const REPLY: (&str, &str) = (
 );
 
 /// Each row has eight bytes of a log, the text that they are kept as, and how that is written in a reply.
-const LOGS: [(&[u8], &str, &str); 3] = [
+static LOGS: [(&[u8], &str, &str); 3] = [
     (b"abcdefgh", "abcdefgh", "abcdefgh"),
     (
         b"&&&&&&&&",
@@ -89,7 +89,7 @@ fn is_written(rt: &impl Abort, alloc: Global, value: &Value, text: &[u8]) {
 
 #[test]
 fn logs_of_the_most_bytes(rt: HostRuntime) {
-    for (bytes, kept, written) in LOGS {
+    for &(bytes, kept, written) in &LOGS {
         let value = kept_of(&rt, rt.alloc(), bytes, kept);
         let reply = filled(&rt, rt.alloc(), REPLY, written.as_bytes(), MOST / 8);
         is_written(&rt, rt.alloc(), &value, reply.as_slice());
