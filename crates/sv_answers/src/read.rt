@@ -14,7 +14,7 @@ use sv_methods::ReadShape;
 use sv_xmlcall::{Answered, Value, text_of_log};
 
 /// A part of a log that a call asks for.
-#[derive(Debug, Drop)]
+#[derive(Drop)]
 pub struct LogRead {
     pub file: Text,
     pub span: Span,
@@ -24,7 +24,7 @@ pub struct LogRead {
 }
 
 /// What became of a read of a part of a file.
-#[derive(Debug, Drop)]
+#[derive(Drop)]
 pub enum FileReply {
     /// Its bytes, fewer than were asked for where the file ends before.
     Part(Bytes),

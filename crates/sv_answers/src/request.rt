@@ -8,7 +8,8 @@ use crate::sent::{Sent, refused};
 use std::alloc::{AllocError, Global};
 use sv_base::text::Text;
 use sv_http::{Ask, Refusal};
-use sv_xmlcall::{Call, CallFault, Value, read_call};
+use sv_xmlcall::{Call, CallFault, Value};
+use sv_xmlread::read_call;
 
 /// What a request is.
 #[derive(Drop)]

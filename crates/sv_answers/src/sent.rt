@@ -12,7 +12,7 @@ use sv_info::Fault;
 use sv_xmlcall::{Answered, write_fault, write_reply};
 
 /// What is sent over a link.
-#[derive(Debug, Drop)]
+#[derive(Drop)]
 pub struct Sent {
     pub text: Bytes,
     /// Whether the link closes after it.

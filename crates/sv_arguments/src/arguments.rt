@@ -11,7 +11,7 @@ use std::alloc::{AllocError, Global};
 use sv_base::Text;
 
 /// What the daemon is told by its words.
-#[derive(Debug, Drop)]
+#[derive(Drop)]
 pub struct Arguments {
     /// The configuration file, `-c` or `--configuration`.
     pub file: Text,

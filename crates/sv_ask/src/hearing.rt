@@ -7,7 +7,8 @@ use crate::fault::AskFault;
 use std::alloc::Global;
 use sv_http::{Replied, ReplyFault, ReplyReader};
 use sv_out::Link;
-use sv_xmlcall::{Answered, CallFault, read_reply};
+use sv_xmlcall::{Answered, CallFault};
+use sv_xmlread::read_reply;
 
 /// How many bytes are asked for at once.
 const PIECE: usize = 16_384;

@@ -12,7 +12,7 @@ use std::marker::Model;
 pub const PIECE_LIMIT: usize = 65_536;
 
 /// Owned bytes, which contracts see as the list of the bytes.
-#[derive(Debug, Drop)]
+#[derive(Drop)]
 pub struct Bytes {
     bytes: Vec<u8>,
 }
@@ -83,7 +83,7 @@ impl Eq for Bytes {
 }
 
 /// One piece of a pipe or a link: 1 to 65,536 bytes.
-#[derive(Debug, Drop)]
+#[derive(Drop)]
 pub struct Piece {
     bytes: Vec<u8>,
 }

@@ -11,14 +11,14 @@ use crate::text::Text;
 use std::alloc::AllocError;
 
 /// Where a server listens: a host, empty for all interfaces, with a port from 1 on; or the path of a socket.
-#[derive(Debug, Drop)]
+#[derive(Drop)]
 pub enum Place {
     Inet(Text, u16),
     Unix(Text),
 }
 
 /// The password that a server asks for, plain or as the SHA-1 of it.
-#[derive(Debug, Drop)]
+#[derive(Drop)]
 pub enum Password {
     None,
     Plain(Text),
@@ -26,7 +26,6 @@ pub enum Password {
 }
 
 /// A server of the daemon.
-#[derive(Debug)]
 pub struct ServerSpec {
     pub place: Place,
     /// Empty where none is asked for.
@@ -45,7 +44,7 @@ impl Drop for ServerSpec {
 }
 
 /// What the client is told of the daemon's server.
-#[derive(Debug, Drop)]
+#[derive(Drop)]
 pub struct ClientSpec {
     pub url: Text,
     pub username: Text,
@@ -53,7 +52,6 @@ pub struct ClientSpec {
 }
 
 /// A whole configuration.
-#[derive(Debug)]
 pub struct Config {
     /// The name by which the daemon calls itself.
     pub identifier: Text,
@@ -86,7 +84,6 @@ impl Drop for Config {
 }
 
 /// The machine that the daemon runs on, as it was when the daemon began.
-#[derive(Debug)]
 pub struct Host {
     pub name: Text,
     /// The directory of the configuration file.
@@ -113,7 +110,7 @@ impl Drop for Host {
 
 /// One step in the keeping of a log: bytes added at a file's end, a file renamed over another, a file made
 /// empty.
-#[derive(Debug, Drop)]
+#[derive(Drop)]
 pub enum FileOrder {
     Append(Text, Bytes),
     Shift(Text, Text),

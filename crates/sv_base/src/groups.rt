@@ -15,7 +15,7 @@ pub const MOST_PROCESSES: usize = 1_024;
 
 /// The groups of a configuration: at most 256 groups of at most 1,024 processes together, groups and members in
 /// start order, no two groups of one name, and in no group two processes of one name.
-#[derive(Debug, Drop)]
+#[derive(Drop)]
 pub struct Groups {
     groups: Vec<GroupSpec>,
 }

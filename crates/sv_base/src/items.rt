@@ -5,7 +5,7 @@ use std::alloc::{AllocError, Global};
 use std::marker::Model;
 
 /// A list in a field, which contracts see as the list of its elements.
-#[derive(Clone, Debug, Drop)]
+#[derive(Clone, Drop)]
 pub struct Items<T> {
     items: Vec<T>,
 }

@@ -11,7 +11,7 @@ pub const MOMENT_LIMIT: u64 = 253_000_000_000_000;
 pub const DEADLINE_LIMIT: u64 = 253_001_000_001_000;
 
 /// A moment: milliseconds since 1970-01-01 00:00:00 UTC, at most 253,000,000,000,000.
-#[derive(Clone, Copy, Debug, PartialEq, Eq, PartialOrd, Ord)]
+#[derive(Clone, Copy, PartialEq, Eq, PartialOrd, Ord)]
 pub struct Moment {
     milliseconds: u64,
 }
@@ -69,7 +69,7 @@ impl Moment {
 }
 
 /// A deadline: milliseconds as in a moment, at most 1,000,001 seconds past the last one.
-#[derive(Clone, Copy, Debug, PartialEq, Eq, PartialOrd, Ord)]
+#[derive(Clone, Copy, PartialEq, Eq, PartialOrd, Ord)]
 pub struct Deadline {
     milliseconds: u64,
 }

@@ -4,7 +4,7 @@ ghost use Rattle.std.specs.Prelude.{◌≡◌, ◌+◌, ◌≤◌, ◌↔◌, Is
 use std::marker::Model;
 
 /// A whole number of at least `LEAST` and at most `MOST`, which contracts see as the number.
-#[derive(Clone, Copy, Debug, PartialEq, Eq, PartialOrd, Ord)]
+#[derive(Clone, Copy, PartialEq, Eq, PartialOrd, Ord)]
 pub struct Within<const LEAST: u32, const MOST: u32> {
     number: u32,
 }

@@ -6,7 +6,7 @@ ghost use Rattle.sv_base.specs.Names.{signal_name};
 use std::marker::Model;
 
 /// A signal that a child can be sent.
-#[derive(Clone, Copy, Debug, PartialEq, Eq, PartialOrd, Ord)]
+#[derive(Clone, Copy, PartialEq, Eq, PartialOrd, Ord)]
 pub enum Signal {
     Term,
     Hup,
@@ -35,7 +35,7 @@ impl Signal {
 }
 
 /// A signal that the daemon itself can be sent: each but HUP.
-#[derive(Debug, Drop)]
+#[derive(Drop)]
 pub struct DaemonSignal {
     signal: Signal,
 }

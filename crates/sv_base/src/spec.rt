@@ -11,7 +11,7 @@ use crate::text::Text;
 use std::alloc::AllocError;
 
 /// Where a log goes and how it is kept.
-#[derive(Debug, Drop)]
+#[derive(Drop)]
 pub struct LogSpec {
     /// The file's name; none is no log.
     pub file: Option<Text>,
@@ -27,7 +27,6 @@ pub struct LogSpec {
 
 /// One process of a program or an event listener, with each key of its section (the manual's chapter on
 /// configuration).
-#[derive(Debug)]
 pub struct Spec {
     /// The name of its group.
     pub group: Text,
@@ -113,7 +112,7 @@ impl Ranked for Spec {
 }
 
 /// The event pool of a listener.
-#[derive(Debug, Drop)]
+#[derive(Drop)]
 pub struct PoolSpec {
     /// The kinds of events that it takes.
     pub kinds: Items<Kind>,
@@ -122,7 +121,6 @@ pub struct PoolSpec {
 }
 
 /// A group of processes; an event listener's has a pool.
-#[derive(Debug)]
 pub struct GroupSpec {
     pub name: Text,
     /// Lower starts earlier.

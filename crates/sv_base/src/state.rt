@@ -7,7 +7,7 @@ ghost use Rattle.sv_base.specs.Names.{state_name, state_number, mood_name, mood_
 use crate::number::ExitSignal;
 
 /// The state of a child, as the manual's chapter on subprocesses names it.
-#[derive(Clone, Copy, Debug, PartialEq, Eq, PartialOrd, Ord)]
+#[derive(Clone, Copy, PartialEq, Eq, PartialOrd, Ord)]
 pub enum State {
     Stopped,
     Starting,
@@ -55,7 +55,7 @@ impl State {
 }
 
 /// What the daemon is about: running, or on the way to its end.
-#[derive(Clone, Copy, Debug, PartialEq, Eq, PartialOrd, Ord)]
+#[derive(Clone, Copy, PartialEq, Eq, PartialOrd, Ord)]
 pub enum Mood {
     Running,
     Restarting,
@@ -87,21 +87,21 @@ impl Mood {
 }
 
 /// How a process ended: with an exit code, or by a signal.
-#[derive(Clone, Copy, Debug, PartialEq, Eq)]
+#[derive(Clone, Copy, PartialEq, Eq)]
 pub enum How {
     Code(u8),
     Signal(ExitSignal),
 }
 
 /// One of a child's two output streams.
-#[derive(Clone, Copy, Debug, PartialEq, Eq, PartialOrd, Ord)]
+#[derive(Clone, Copy, PartialEq, Eq, PartialOrd, Ord)]
 pub enum Stream {
     Out,
     Err,
 }
 
 /// The kind of socket by which a connection came in.
-#[derive(Clone, Copy, Debug, PartialEq, Eq, PartialOrd, Ord)]
+#[derive(Clone, Copy, PartialEq, Eq, PartialOrd, Ord)]
 pub enum Side {
     Inet,
     Unix,

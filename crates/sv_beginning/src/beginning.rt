@@ -13,7 +13,7 @@ use sv_outcome::Outcome;
 use sv_sizes::{SizesFault, sizes_of};
 
 /// What a daemon begins with.
-#[derive(Debug, Drop)]
+#[derive(Drop)]
 pub struct Beginning {
     /// The configuration with the texts that it was read from.
     pub loaded: Loaded,

@@ -7,7 +7,7 @@ use sv_base::state::State;
 use sv_base::text::Text;
 
 /// The state of a process.
-#[derive(Debug, Drop)]
+#[derive(Drop)]
 pub struct Row {
     /// The name of its group.
     pub group: Text,
@@ -17,7 +17,7 @@ pub struct Row {
 }
 
 /// The news that a process went to a state.
-#[derive(Debug, Drop)]
+#[derive(Drop)]
 pub struct Report {
     /// The name of its group.
     pub group: Text,

@@ -6,7 +6,7 @@ ghost use Rattle.sv_calls.specs.CallBook.{fault_by, rows_faulted};
 use sv_methods::Asked;
 
 /// What went wrong with a request of a method that acts.
-#[derive(Clone, Copy, Debug, PartialEq, Eq)]
+#[derive(Clone, Copy, PartialEq, Eq)]
 pub enum Setback {
     /// There is no such program: fault 20.
     NoFile,

@@ -16,7 +16,7 @@ use sv_base::state::{How, Mood, State};
 use sv_base::text::Text;
 
 /// A child: a process of the configuration, through all its runs.
-#[derive(Debug, Drop)]
+#[derive(Drop)]
 pub struct Child {
     /// Where it stands in the diagram of states.
     pub state: State,

@@ -6,7 +6,7 @@ use sv_base::signal::Signal;
 use sv_base::state::State;
 
 /// An edge of the diagram of states, which a child takes.
-#[derive(Clone, Copy, Debug, PartialEq, Eq)]
+#[derive(Clone, Copy, PartialEq, Eq)]
 pub struct Edge {
     /// The state that it leads from.
     pub from: State,
@@ -15,7 +15,7 @@ pub struct Edge {
 }
 
 /// What is to be done for a child.
-#[derive(Clone, Copy, Debug, PartialEq, Eq)]
+#[derive(Clone, Copy, PartialEq, Eq)]
 pub enum ChildDeed {
     /// Its process is to be started.
     Spawn,
@@ -24,7 +24,7 @@ pub enum ChildDeed {
 }
 
 /// What came of a call: the edges that the child took, in order, and what is to be done.
-#[derive(Clone, Copy, Debug, PartialEq, Eq)]
+#[derive(Clone, Copy, PartialEq, Eq)]
 pub struct Step {
     /// The edges, in order.
     pub edges: [Option<Edge>; 2],

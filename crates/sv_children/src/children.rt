@@ -26,7 +26,6 @@ use sv_child::step::Step;
 use sv_groups::{Found, Roster, Span};
 
 /// The groups of the daemon, and a child for each of their processes, both in start order. Places are counted from 0.
-#[derive(Debug)]
 pub struct Children {
     pub(crate) roster: Roster,
     pub(crate) all: Vec<Child>,
@@ -60,7 +59,7 @@ impl Model for Children {
 }
 
 /// A child as the roster has it.
-#[derive(Clone, Copy, Debug)]
+#[derive(Clone, Copy)]
 pub struct Member<'a> {
     /// Its group.
     pub group: &'a GroupSpec,

@@ -14,7 +14,7 @@ use sv_child::child::Child;
 use sv_child::step::Step;
 
 /// What comes to children, one after the other.
-#[derive(Debug, Drop)]
+#[derive(Drop)]
 pub enum News {
     /// Time has passed, for each.
     Time,
@@ -27,7 +27,7 @@ pub enum News {
 }
 
 /// What a child is told of its spawn.
-#[derive(Debug, Drop)]
+#[derive(Drop)]
 pub enum Told {
     /// The number of its process.
     Started(Pid),

@@ -19,7 +19,7 @@ use sv_timers::Agenda;
 
 /// Who may be unsettled: rewinding may change them, though the clock doesn't go back. A child is where it starts with the
 /// deadline of an earlier stop, until its spawn is answered.
-#[derive(Clone, Copy, Debug, PartialEq, Eq)]
+#[derive(Clone, Copy, PartialEq, Eq)]
 pub(crate) enum Unsettled {
     Nobody,
     /// The child of this place.
@@ -29,7 +29,7 @@ pub(crate) enum Unsettled {
 }
 
 /// When each child wakes, and who is settled.
-#[derive(Debug, Drop)]
+#[derive(Drop)]
 pub(crate) struct Watch {
     /// The moments at which the children wake.
     pub(crate) agenda: Agenda,

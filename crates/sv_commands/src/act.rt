@@ -5,7 +5,7 @@ ghost use Rattle.sv_commands.specs.Commands.{method_of_all};
 ghost use Rattle.sv_commands.specs.Lines.{done_word, is_start};
 
 /// What a command does to processes.
-#[derive(Clone, Copy, Debug, PartialEq, Eq)]
+#[derive(Clone, Copy, PartialEq, Eq)]
 pub enum Act {
     Start,
     Stop,

@@ -18,7 +18,7 @@ use sv_base::{Bytes, Items, Text};
 use sv_xmlcall::Value;
 
 /// A row of a status array.
-#[derive(Debug, Drop)]
+#[derive(Drop)]
 pub struct Row {
     pub group: Text,
     pub name: Text,

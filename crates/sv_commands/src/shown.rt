@@ -3,7 +3,7 @@ use crate::status::Status;
 use sv_base::Bytes;
 
 /// What an answer prints, and the status that it asks for.
-#[derive(Debug, Drop)]
+#[derive(Drop)]
 pub struct Shown {
     pub text: Bytes,
     pub status: Status,

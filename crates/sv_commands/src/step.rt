@@ -4,7 +4,7 @@ use sv_base::{Items, Text};
 use sv_xmlcall::Call;
 
 /// How the value of an answer is shown.
-#[derive(Debug, Drop)]
+#[derive(Drop)]
 pub enum Show {
     /// `true`: the line that it was done.
     Done(Act),
@@ -25,7 +25,7 @@ pub enum Show {
 }
 
 /// How the answer of a call is shown.
-#[derive(Debug, Drop)]
+#[derive(Drop)]
 pub struct Line {
     /// What the call names, as the command gives it.
     pub name: Option<Text>,

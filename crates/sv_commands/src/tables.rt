@@ -21,7 +21,7 @@ use sv_base::{Bytes, Items, Text, split_name};
 use sv_xmlcall::Value;
 
 /// A process that the table may list.
-#[derive(Debug, Drop)]
+#[derive(Drop)]
 pub struct Process {
     pub group: Text,
     pub name: Text,

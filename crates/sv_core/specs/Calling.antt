@@ -24,7 +24,7 @@ use Rattle.sv_links.specs.LinkBook.{answered as replied_to, is_sent}
 use Rattle.sv_methods.specs.MethodTable.{planned}
 use Rattle.sv_methods.specs.Outcomes as planned_is
 use Rattle.sv_methods.specs.Scenes.{Scene}
-use Rattle.sv_methods.specs.Waits.{checked}
+use Rattle.sv_waits.specs.Waits.{checked}
 use Rattle.sv_methods.specs.declared.planned.Request.{Request}
 use Rattle.sv_methods.specs.declared.planned.Waiting.{Waiting}
 use Rattle.sv_multi.specs.Views.{PartTree, Calls, Refuses}

@@ -18,7 +18,7 @@ ghost use Rattle.sv_core.specs.World.{World};
 ghost use Rattle.sv_methods.specs.MethodTable.{planned};
 ghost use Rattle.sv_methods.specs.Outcomes.{outcome};
 ghost use Rattle.sv_methods.specs.Scenes.{scene};
-ghost use Rattle.sv_methods.specs.Waits.{checked};
+ghost use Rattle.sv_waits.specs.Waits.{checked};
 ghost use Rattle.sv_multi.specs.Views.{part_view};
 ghost use Rattle.sv_out.specs.declared.order.Order.{Order};
 ghost use Rattle.sv_xmlcall.specs.Trees.{Faults, call_view, reply_view};
@@ -34,9 +34,10 @@ use sv_base::ids::LinkId;
 use sv_base::items::Items;
 use sv_base::text::Text;
 use sv_calls::Answer;
-use sv_methods::{Planned, Request, Stand, Waiting, check, plan};
+use sv_methods::{Planned, Request, Stand, Waiting, plan};
 use sv_multi::Part;
 use sv_out::order::Order;
+use sv_waits::check;
 use sv_xmlcall::{Answered, Call};
 
 /// What became of a read.

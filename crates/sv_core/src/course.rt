@@ -2,7 +2,7 @@
 use sv_base::state::Mood;
 
 /// What the daemon is about: its mood, what it said of itself, and how far its groups are stopped.
-#[derive(Clone, Copy, Debug)]
+#[derive(Clone, Copy)]
 pub struct Course {
     pub mood: Mood,
     /// Whether it said that it runs.

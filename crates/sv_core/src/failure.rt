@@ -6,7 +6,7 @@ use sv_base::ids::{LinkId, Run};
 use sv_out::order::Order;
 
 /// What it means that an order couldn't be carried out.
-#[derive(Clone, Copy, Debug)]
+#[derive(Clone, Copy)]
 pub enum Failure {
     /// A report or the halt: nobody carries it out.
     NeverFails,

@@ -9,7 +9,7 @@ use sv_out::order::Order;
 
 /// The numbers that are given out, and what is kept of the orders that can still be named as failed: those since the
 /// last input that wasn't a failed order.
-#[derive(Debug, Drop)]
+#[derive(Drop)]
 pub struct Numbers {
     /// The number that the next run gets; above 4,294,967,295 none is left.
     pub(crate) next_run: u64,

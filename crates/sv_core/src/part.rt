@@ -17,7 +17,7 @@ use sv_out::input::Input;
 use sv_out::rising::RisingNames;
 
 /// What is asked of the world, and answered before the turn goes on.
-#[derive(Clone, Copy, Debug)]
+#[derive(Clone, Copy)]
 pub enum Question {
     /// Whether a process was started.
     Spawn,
@@ -28,7 +28,7 @@ pub enum Question {
 }
 
 /// The answer of a question.
-#[derive(Debug, Drop)]
+#[derive(Drop)]
 pub enum Reply {
     /// The process of a spawn has this number.
     Started(Pid),
@@ -86,7 +86,7 @@ pub(crate) fn refusal_of(asked: Option<Question>) -> Reply
 }
 
 /// What followed the input that began a turn.
-#[derive(Debug, Drop)]
+#[derive(Drop)]
 pub enum Followed {
     /// The question was answered.
     Answered(Reply),
@@ -95,7 +95,7 @@ pub enum Followed {
 }
 
 /// What begins a turn.
-#[derive(Debug, Drop)]
+#[derive(Drop)]
 pub enum Cause {
     /// The clock alone.
     Tick,
@@ -120,7 +120,7 @@ pub enum Cause {
 }
 
 /// What an input is to the machine.
-#[derive(Debug, Drop)]
+#[derive(Drop)]
 pub enum Part {
     /// It begins a turn at this moment.
     Begins(Moment, Cause),

@@ -11,21 +11,21 @@ use sv_base::text::Text;
 use sv_children::News;
 
 /// A spawn that was asked for: of a child, as this run.
-#[derive(Clone, Copy, Debug)]
+#[derive(Clone, Copy)]
 pub struct Asked {
     pub child: usize,
     pub run: Run,
 }
 
 /// Where a sweep was left at a question: it goes on in place `next`.
-#[derive(Clone, Copy, Debug)]
+#[derive(Clone, Copy)]
 pub struct Pause {
     pub next: usize,
     pub asked: Asked,
 }
 
 /// What is left of a sweep at a question: the places up to before `to`.
-#[derive(Debug, Drop)]
+#[derive(Drop)]
 pub struct Paused {
     pub news: News,
     pub to: usize,
@@ -33,7 +33,7 @@ pub struct Paused {
 }
 
 /// Where files that are cleared were left at the clear of this one: they go on in place `next`.
-#[derive(Debug, Drop)]
+#[derive(Drop)]
 pub struct Clearing {
     pub file: Text,
     pub files: Items<Text>,
@@ -41,7 +41,7 @@ pub struct Clearing {
 }
 
 /// A request of a call that asked a question.
-#[derive(Debug, Drop)]
+#[derive(Drop)]
 pub enum Wanting {
     /// For the start of a process.
     Start(Asked),
@@ -50,14 +50,14 @@ pub enum Wanting {
 }
 
 /// Where the requests of a call were left at a question, and how many of them are left after the one that asked.
-#[derive(Debug, Drop)]
+#[derive(Drop)]
 pub struct Acting {
     pub wanting: Wanting,
     pub left: usize,
 }
 
 /// A call that asked a question.
-#[derive(Debug, Drop)]
+#[derive(Drop)]
 pub enum Calling {
     /// For one of its requests.
     Act(Acting),
@@ -66,21 +66,21 @@ pub enum Calling {
 }
 
 /// Where several calls in one were left at a question, and how many of them are left after the one that asked; of one call none.
-#[derive(Debug, Drop)]
+#[derive(Drop)]
 pub struct Going {
     pub calling: Calling,
     pub left: usize,
 }
 
 /// Where the requests of a link were left at a question, and how many of them are left after the one that asked.
-#[derive(Debug, Drop)]
+#[derive(Drop)]
 pub struct Asking {
     pub going: Going,
     pub left: usize,
 }
 
 /// Where the links were left at a question of this link: they go on with it, and then in place `next`.
-#[derive(Debug, Drop)]
+#[derive(Drop)]
 pub struct Serving {
     pub links: Vec<LinkId>,
     pub next: usize,
@@ -89,7 +89,7 @@ pub struct Serving {
 }
 
 /// Where a turn was left at a question: in which of its steps, and where in it.
-#[derive(Debug, Drop)]
+#[derive(Drop)]
 pub enum Suspended {
     /// In step 2, the stimulus.
     Stimulus(Paused),

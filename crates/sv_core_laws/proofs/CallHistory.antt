@@ -53,7 +53,7 @@ use Rattle.sv_links.specs.LinkBook.{LinkRecord, has_room, more_is_due}
 use Rattle.sv_links.specs.LinkBook.Ending.{Closed, Ended, Failed}
 use Rattle.sv_links.specs.LinkDeeds.{Deed}
 use Rattle.sv_links.specs.LinkDeeds.Deed.{Open, Feed, End, Take, Answer, GiveMore}
-use Rattle.sv_methods.specs.Waits.{child_of, is_due, is_due_of, is_waited_for, waits}
+use Rattle.sv_waits.specs.Waits.{child_of, is_due, is_due_of, is_waited_for, waits}
 use Rattle.sv_methods.specs.declared.planned.Aim.{Aim}
 use Rattle.sv_methods.specs.declared.planned.Aim.TheVariants.{Started}
 use Rattle.sv_methods.specs.declared.planned.Asked.{Asked}

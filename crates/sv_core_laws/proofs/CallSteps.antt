@@ -37,7 +37,7 @@ use Rattle.sv_methods.specs.MethodTable.{planned}
 use Rattle.sv_methods.specs.Outcomes as planned_is
 use Rattle.sv_methods.specs.declared.planned.Request.{Request as Wish}
 use Rattle.sv_methods.specs.declared.planned.Request.TheVariants as wish
-use Rattle.sv_methods.specs.Waits.{answer, waits}
+use Rattle.sv_waits.specs.Waits.{answer, waits}
 use Rattle.sv_methods.specs.declared.planned.Waiting.{Waiting}
 use Rattle.sv_multi.specs.Views.{PartTree, Calls, Refuses}
 use Rattle.sv_out.specs.declared.order.Order.TheVariants as order

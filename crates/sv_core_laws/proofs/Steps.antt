@@ -53,7 +53,7 @@ use Rattle.sv_groups.specs.StartOrder.{span_of}
 use Rattle.sv_groups.specs.declared.order.Span.{Span}
 use Rattle.sv_http.specs.declared.guard.Guard.{Guard}
 use Rattle.sv_links.specs.LinkBook as link_book
-use Rattle.sv_methods.specs.Waits.{waits}
+use Rattle.sv_waits.specs.Waits.{waits}
 use Rattle.sv_methods.specs.declared.planned.Waiting.{Waiting}
 use Rattle.sv_xmlcall.specs.Trees.{Reply as CallReply}
 use Rattle.sv_links.specs.LinkBook.Ending.{Closed, Failed as Lost}

@@ -24,7 +24,7 @@ use Rattle.sv_cut_laws.proofs.Wishes.Quiet.{quiet, loud}
 use Rattle.sv_links.specs.LinkBook.{LinkRecord, answered as replied_to, is_sent}
 use Rattle.sv_methods.specs.MethodTable.{planned}
 use Rattle.sv_methods.specs.Outcomes as planned_is
-use Rattle.sv_methods.specs.Waits.{answer, waits}
+use Rattle.sv_waits.specs.Waits.{answer, waits}
 use Rattle.sv_methods.specs.declared.planned.Request.{Request as Wish}
 use Rattle.sv_methods.specs.declared.planned.Request.TheVariants as wish
 use Rattle.sv_methods.specs.declared.planned.Waiting.{Waiting}

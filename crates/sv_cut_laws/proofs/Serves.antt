@@ -21,7 +21,7 @@ use Rattle.sv_cut_laws.proofs.Turns.{IsLater, of_questions}
 use Rattle.sv_cut_laws.specs.IdleCut.{AreFit}
 use Rattle.sv_http.specs.declared.ask.Ask.{Ask as Request}
 use Rattle.sv_links.specs.LinkBook.{LinkRecord, ask_at, ask_of, asks, at_place, begins, changed_at, fed, gets_more, hears, holds_of, is_due, is_open, is_sent, left_at, left_of, link_at, longer, more_given, next_ask, sends, taken, takes, waiting}
-use Rattle.sv_methods.specs.Waits.{answer, waits}
+use Rattle.sv_waits.specs.Waits.{answer, waits}
 use Rattle.sv_multi.specs.Views.{PartTree}
 use Rattle.sv_out.specs.declared.order.Order.{Order}
 use Rattle.sv_xmlcall.specs.Trees.{Reply as Answer}

@@ -16,7 +16,7 @@ use sv_out::sink::{Sink, write_all};
 use sv_world::{NextFault, World};
 
 /// How the daemon ended.
-#[derive(Clone, Copy, Debug, PartialEq, Eq)]
+#[derive(Clone, Copy, PartialEq, Eq)]
 pub enum End {
     /// The machine halted, and all its orders were handed over.
     Halted,

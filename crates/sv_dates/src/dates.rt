@@ -13,7 +13,7 @@ const DAY: u64 = 86_400_000;
 const FIRST_DAY: u32 = 4_371_587;
 
 /// A day of the Gregorian calendar.
-#[derive(Clone, Copy, Debug, PartialEq, Eq)]
+#[derive(Clone, Copy, PartialEq, Eq)]
 pub struct Day {
     pub year: u16,
     /// From 1 for January on.

@@ -13,7 +13,7 @@ use sv_base::kind::Kind;
 use sv_base::words::kind_of;
 
 /// An event: its type, its number among all events of the daemon's life, and its body.
-#[derive(Debug, Drop)]
+#[derive(Drop)]
 pub struct Event {
     pub kind: Kind,
     pub serial: u64,

@@ -6,7 +6,7 @@ use std::marker::Model;
 use sv_base::moment::Moment;
 
 /// The clock's slices of 5, 60 and 3,600 seconds. Contracts see it as the last moment that it was told.
-#[derive(Debug, Drop)]
+#[derive(Drop)]
 pub struct Ticks {
     last: Moment,
 }

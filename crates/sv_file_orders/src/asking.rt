@@ -9,7 +9,7 @@ use sv_out::files::{Shelf, ShelfFault};
 use sv_out::rising::RisingNames;
 
 /// What an order that asks for something of a file came to.
-#[derive(Debug, Drop)]
+#[derive(Drop)]
 pub enum FileAnswer {
     /// These bytes of it.
     Read(Bytes),

@@ -16,7 +16,7 @@ use sv_logs::LogPlan;
 use sv_out::order::Order;
 
 /// The known sizes of files in bytes, by rising names, so that each name stands once.
-#[derive(Debug, Drop)]
+#[derive(Drop)]
 pub struct KnownSizes {
     sizes: Vec<(Text, u64)>,
 }

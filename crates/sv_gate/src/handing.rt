@@ -7,7 +7,7 @@ use crate::ready::Ready;
 use sv_outside::{Gate, Job};
 
 /// What became of an order.
-#[derive(Clone, Copy, Debug, PartialEq, Eq)]
+#[derive(Clone, Copy, PartialEq, Eq)]
 pub enum Handed {
     /// It was handed on, or what it is about is over, or never was.
     Done,

@@ -3,7 +3,7 @@ use sv_base::ids::Run;
 use sv_base::moment::Moment;
 
 /// An input of the run, with its moment.
-#[derive(Clone, Copy, Debug, PartialEq, Eq)]
+#[derive(Clone, Copy, PartialEq, Eq)]
 pub enum Draw {
     /// A clock moment.
     Tick(Moment),

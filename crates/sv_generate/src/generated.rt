@@ -13,7 +13,7 @@ pub const DRAW_LIMIT: u64 = 1_000_000;
 pub const PROGRAMS: u64 = 200;
 
 /// A run of so many inputs, of which some were drawn.
-#[derive(Debug, Drop)]
+#[derive(Drop)]
 pub struct Generated {
     /// How many inputs it has.
     number: u64,

@@ -6,7 +6,7 @@ use sv_out::order::Order;
 
 /// How many orders of three kinds a run gave. A run may give more signals and reports than 64 bits can count, for all
 /// that is known of the length of a step's list of orders.
-#[derive(Clone, Copy, Debug, PartialEq, Eq)]
+#[derive(Clone, Copy, PartialEq, Eq)]
 pub struct Counts {
     /// The spawns.
     pub spawns: u64,

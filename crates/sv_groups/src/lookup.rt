@@ -7,7 +7,7 @@ use crate::order::Roster;
 use sv_base::ids::ChildId;
 
 /// What a name of a command finds.
-#[derive(Clone, Copy, Debug, PartialEq, Eq)]
+#[derive(Clone, Copy, PartialEq, Eq)]
 pub enum Found {
     /// One process.
     One(ChildId),

@@ -19,7 +19,6 @@ use sv_base::spec::GroupSpec;
 use sv_base::text::Text;
 
 /// The names of a roster's groups and processes, each at its place in the start order.
-#[derive(Debug)]
 pub(crate) struct Names {
     groups: IndexSet<Text>,
     /// The name of the group of each process, and its own.

@@ -16,7 +16,6 @@ use sv_base::spec::{GroupSpec, Spec};
 /// The groups of a daemon: at most 256 groups of at most 1,024 processes together, groups and members in start
 /// order, no two groups of one name, and in no group two processes of one name. Contracts see it as the list of
 /// the groups.
-#[derive(Debug)]
 pub struct Roster {
     pub(crate) groups: Vec<GroupSpec>,
     /// Where each process is, in start order.
@@ -52,7 +51,7 @@ impl Model for Roster {
 }
 
 /// Processes side by side in the start order: from the one place to before the other, counted from 0.
-#[derive(Clone, Copy, Debug, PartialEq, Eq)]
+#[derive(Clone, Copy, PartialEq, Eq)]
 pub struct Span {
     pub from: usize,
     pub to: usize,

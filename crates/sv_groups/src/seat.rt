@@ -9,7 +9,7 @@ use std::alloc::{AllocError, Global};
 use sv_base::spec::GroupSpec;
 
 /// Where a process is.
-#[derive(Clone, Copy, Debug)]
+#[derive(Clone, Copy)]
 pub(crate) struct Seat {
     /// The place of its group in the start order of groups.
     pub(crate) group: usize,

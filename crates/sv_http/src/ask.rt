@@ -3,7 +3,7 @@ use crate::status::Refusal;
 use sv_base::bytes::Bytes;
 
 /// What a request asks.
-#[derive(Debug, Drop)]
+#[derive(Drop)]
 pub enum Ask {
     /// A call with this body. Where `close` is set, the link closes after the reply.
     Call { body: Bytes, close: bool },

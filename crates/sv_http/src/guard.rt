@@ -10,7 +10,7 @@ use sv_base::config::Password;
 use sv_base::text::Text;
 
 /// Who is let in.
-#[derive(Debug, Drop)]
+#[derive(Drop)]
 pub struct Guard {
     /// Empty where none is asked for.
     pub username: Text,

@@ -13,7 +13,7 @@ use std::alloc::{AllocError, Global};
 const FIELD_LIMIT: usize = 64;
 
 /// What a head decides.
-#[derive(Clone, Copy, Debug, PartialEq, Eq)]
+#[derive(Clone, Copy, PartialEq, Eq)]
 pub(crate) enum Ruling {
     Refused(Refusal),
     /// A body of so many bytes follows.

@@ -3,7 +3,7 @@ ghost use Rattle.std.specs.Prelude.{◌≡◌, ◌≤◌, ◌<◌, ◌++◌, Lis
 ghost use Rattle.sv_http.specs.ReaderPlaces.{after, IsSearched, IsFound};
 
 /// How the bytes of a head end that were looked at.
-#[derive(Clone, Copy, Debug, PartialEq, Eq)]
+#[derive(Clone, Copy, PartialEq, Eq)]
 pub(crate) enum Line {
     /// In a line, or before the first.
     Text,

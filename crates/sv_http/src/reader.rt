@@ -18,14 +18,14 @@ use sv_base::bytes::Bytes;
 const HEAD_LIMIT: usize = 16_384;
 
 /// How many bytes a request has.
-#[derive(Clone, Copy, Debug)]
+#[derive(Clone, Copy)]
 struct Size {
     head: usize,
     body: usize,
 }
 
 /// How far a stream has come.
-#[derive(Clone, Copy, Debug)]
+#[derive(Clone, Copy)]
 enum StreamProgress {
     /// Before a head, or in one whose bytes end so.
     Head { line: Line },
@@ -39,7 +39,6 @@ enum StreamProgress {
 
 /// A link's stream, of which only the undecided bytes of a request are kept: of its head, and then of its body; of the
 /// whole head only the count.
-#[derive(Debug)]
 pub struct HttpReader {
     guard: Guard,
     place: StreamProgress,

@@ -11,7 +11,7 @@ use thiserror::Error;
 const HEAD_LIMIT: usize = 16_384;
 
 /// A whole reply.
-#[derive(Debug, Drop)]
+#[derive(Drop)]
 pub struct Replied {
     pub status: u16,
     pub body: Bytes,
@@ -38,7 +38,7 @@ impl From<AllocError> for ReplyFault {
 }
 
 /// How far a stream has come.
-#[derive(Clone, Copy, Debug)]
+#[derive(Clone, Copy)]
 enum ReplyPlace {
     /// In the head.
     Head,
@@ -51,7 +51,7 @@ enum ReplyPlace {
 }
 
 /// A stream that is to be a reply: what came of its head, and then of its body. Its memory grows with what has come.
-#[derive(Debug, Drop)]
+#[derive(Drop)]
 pub struct ReplyReader {
     place: ReplyPlace,
     held: Vec<u8>,

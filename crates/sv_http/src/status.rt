@@ -23,7 +23,7 @@ pub enum Refusal {
 }
 
 /// The status of a reply.
-#[derive(Clone, Copy, Debug, PartialEq, Eq)]
+#[derive(Clone, Copy, PartialEq, Eq)]
 pub enum Status {
     Ok,
     Bad(Refusal),

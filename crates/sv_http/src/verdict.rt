@@ -14,7 +14,7 @@ const HEAD_LIMIT: usize = 16_384;
 const FIELD_LIMIT: usize = 64;
 
 /// What the first bytes of a stream are.
-#[derive(Clone, Copy, Debug)]
+#[derive(Clone, Copy)]
 pub(crate) enum Verdict {
     /// A head that isn't whole, and may become one.
     Unfinished,

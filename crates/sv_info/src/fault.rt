@@ -9,7 +9,7 @@ use std::alloc::{AllocError, Global};
 use sv_base::text::Text;
 
 /// A fault of the manual's chapter on its XML-RPC interface.
-#[derive(Clone, Copy, Debug, PartialEq, Eq)]
+#[derive(Clone, Copy, PartialEq, Eq)]
 pub enum Fault {
     UnknownMethod,
     IncorrectParameters,

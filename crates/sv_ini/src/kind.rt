@@ -10,7 +10,7 @@ ghost use Rattle.sv_ini.specs.Kinds.{seen};
 use crate::cuts;
 
 /// What a line of a configuration text is.
-#[derive(Debug, Drop)]
+#[derive(Drop)]
 pub enum LineKind<'a> {
     Blank,
     Comment,

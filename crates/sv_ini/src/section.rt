@@ -4,7 +4,7 @@ use sv_base::items::Items;
 use sv_base::text::Text;
 
 /// A section of a configuration text.
-#[derive(Debug, Drop)]
+#[derive(Drop)]
 pub struct Section {
     /// The name between the brackets, as it stands there.
     pub name: Text,

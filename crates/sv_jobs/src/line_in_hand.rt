@@ -8,7 +8,7 @@ use std::alloc::{AllocError, Global};
 const KEPT: usize = 4_097;
 
 /// The bytes of a line that isn't ended yet, as far as they count.
-#[derive(Debug, Drop)]
+#[derive(Drop)]
 pub(crate) struct LineInHand {
     bytes: Vec<u8>,
     ghost within: { length bytes.items ≤ kept_limit },

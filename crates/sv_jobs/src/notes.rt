@@ -3,7 +3,7 @@
 use sv_base::{Bytes, DaemonSignal, How, LinkId, Piece, Run, Side, Stream, Text};
 
 /// What a job tells the loop.
-#[derive(Debug, Drop)]
+#[derive(Drop)]
 pub enum Note {
     /// A second passed.
     Tick,
@@ -36,7 +36,7 @@ pub enum Note {
 }
 
 /// What the loop tells the job of a link.
-#[derive(Debug, Drop)]
+#[derive(Drop)]
 pub enum LinkWord {
     /// Writes these bytes over the link.
     Send(Bytes),
@@ -47,7 +47,7 @@ pub enum LinkWord {
 }
 
 /// What the loop tells the job of a run's standard input.
-#[derive(Debug, Drop)]
+#[derive(Drop)]
 pub enum StdinWord {
     /// Writes these bytes.
     Write(Bytes),

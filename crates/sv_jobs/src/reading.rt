@@ -11,7 +11,7 @@ use sv_out::Link;
 use sv_out::source::Source;
 
 /// What came of a read.
-#[derive(Debug, Drop)]
+#[derive(Drop)]
 pub(crate) enum ReadResult {
     Piece(Piece),
     /// The end; nothing was read.

@@ -9,7 +9,7 @@ const FIRST_ROOM: usize = 4_096;
 
 /// The room for the next piece of a job: 4,096 bytes at first. It doubles up to the most bytes of a piece while reads
 /// fill it, and a read that doesn't fill it brings it back: so a busy pipe takes few notes, and an idle one little memory.
-#[derive(Debug, Drop)]
+#[derive(Drop)]
 pub(crate) struct Room {
     bytes: usize,
     ghost least: { 1 ≤ bytes },

@@ -5,7 +5,7 @@ use std::marker::Model;
 use sv_base::items::Items;
 
 /// Exit codes, at least one, which contracts see as the list of the codes.
-#[derive(Debug, Drop)]
+#[derive(Drop)]
 pub struct ExitCodes {
     codes: Items<u8>,
 }

@@ -12,7 +12,7 @@ use sv_base::text::Text;
 pub type Version = Within<0, 1>;
 
 /// One line of a journal's header.
-#[derive(Debug, Drop)]
+#[derive(Drop)]
 pub enum Header {
     /// The first line, with the version of the journal.
     Journal(Version),
@@ -37,7 +37,7 @@ pub enum Header {
 }
 
 /// A program of a short header, whose command is its name; every other key has its default.
-#[derive(Debug, Drop)]
+#[derive(Drop)]
 pub struct Program {
     pub name: ProgramName,
     /// How long a start has to stay up to count.

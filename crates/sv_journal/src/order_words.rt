@@ -7,7 +7,7 @@ use crate::word::Spelled;
 use sv_base::state::State;
 
 /// The first word of an order line.
-#[derive(Clone, Copy, Debug)]
+#[derive(Clone, Copy)]
 pub enum OrderWord {
     State,
     Dropped,
@@ -28,7 +28,7 @@ pub enum OrderWord {
 }
 
 /// Who is sent a signal: a process, or its group.
-#[derive(Clone, Copy, Debug)]
+#[derive(Clone, Copy)]
 pub enum Receiver {
     Child,
     Group,

@@ -8,7 +8,7 @@ use std::marker::Model;
 use sv_base::text::Text;
 
 /// The name of a program: a text that isn't empty, without space, control character, colon, slash and asterisk.
-#[derive(Debug, Drop)]
+#[derive(Drop)]
 pub struct ProgramName {
     text: Text,
 }

@@ -7,7 +7,7 @@ use std::alloc::{AllocError, AllocFailed};
 use sv_letters::BadByte;
 
 /// Why reading stopped within a line.
-#[derive(Clone, Copy, Debug, PartialEq, Eq)]
+#[derive(Clone, Copy, PartialEq, Eq)]
 pub enum Stop {
     /// At the first byte that no line of a journal has there: the number of bytes from it to the line's end.
     At(usize),

@@ -9,7 +9,7 @@ use crate::token::{hex_value, stands_for_itself};
 use sv_letters::{Awaits, BadByte, Letters};
 
 /// Which byte of a text may come: one that fits at this place and isn't below `least`.
-#[derive(Clone, Copy, Debug)]
+#[derive(Clone, Copy)]
 pub struct TextByte {
     pub least: u8,
     pub awaits: Awaits,

@@ -10,7 +10,7 @@ use sv_base::signal::{DaemonSignal, Signal};
 use sv_base::state::{Autorestart, Side};
 
 /// What happened, after the moment of an input line.
-#[derive(Clone, Copy, Debug)]
+#[derive(Clone, Copy)]
 pub enum Verb {
     Tick,
     Exit,
@@ -27,7 +27,7 @@ pub enum Verb {
 }
 
 /// A signal that the daemon was sent.
-#[derive(Clone, Copy, Debug)]
+#[derive(Clone, Copy)]
 pub enum Told {
     Term,
     Int,
@@ -38,14 +38,14 @@ pub enum Told {
 }
 
 /// How a process ended.
-#[derive(Clone, Copy, Debug)]
+#[derive(Clone, Copy)]
 pub enum Ending {
     Code,
     Signal,
 }
 
 /// The first word of an input line that has no moment.
-#[derive(Clone, Copy, Debug)]
+#[derive(Clone, Copy)]
 pub enum Answer {
     Pid,
     NoFile,
@@ -60,7 +60,7 @@ pub enum Answer {
 }
 
 /// How a header line begins: the title of a journal of each version, or a first word.
-#[derive(Clone, Copy, Debug)]
+#[derive(Clone, Copy)]
 pub enum Opening {
     Short,
     Long,

@@ -45,7 +45,7 @@ pub enum JournalProgress {
 }
 
 /// Why a line doesn't stand at its place.
-#[derive(Debug, Drop)]
+#[derive(Drop)]
 pub enum Refused {
     /// It is outside the grammar of its place.
     BadLine,

@@ -22,7 +22,7 @@ use sv_journal::header::Header;
 use sv_sections::fault::ConfFault;
 
 /// How far a long header is read.
-#[derive(Debug, Drop)]
+#[derive(Drop)]
 pub enum LongPlace {
     /// After the title.
     Titled,

@@ -8,7 +8,7 @@ use std::marker::Model;
 use sv_base::text::Text;
 
 /// The known sizes of log files in bytes, by rising names.
-#[derive(Debug, Drop)]
+#[derive(Drop)]
 pub struct Sizes {
     sizes: Vec<(Text, u64)>,
 }

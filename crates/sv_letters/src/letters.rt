@@ -7,7 +7,7 @@ ghost use Rattle.sv_letters.specs.Letters.{allows, after_lead, after};
 
 /// Which characters may stand: those of any text, only those of a program's name, any bytes, or only those that XML
 /// allows.
-#[derive(Clone, Copy, Debug, PartialEq, Eq)]
+#[derive(Clone, Copy, PartialEq, Eq)]
 pub enum Letters {
     OfText,
     OfName,
@@ -18,7 +18,7 @@ pub enum Letters {
 /// What bytes go on with (RFC 3629, section 4): a character, or a byte within a character, from `low` to `high`, and so
 /// many more bytes after it. `Private` is the second byte after 239, where XML leaves out the two characters U+FFFE and
 /// U+FFFF.
-#[derive(Clone, Copy, Debug, PartialEq, Eq)]
+#[derive(Clone, Copy, PartialEq, Eq)]
 pub enum Awaits {
     Character,
     Private,

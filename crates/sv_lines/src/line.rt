@@ -12,7 +12,7 @@ use sv_base::text::Text;
 use sv_logs::main_line;
 
 /// A line of the main log, without its moment.
-#[derive(Debug, Drop)]
+#[derive(Drop)]
 pub struct Line {
     pub level: Level,
     pub text: Text,

@@ -9,7 +9,6 @@ use std::alloc::{AllocError, Global};
 use sv_http::{Ask, Guard};
 
 /// A link that is open, or has a request in hand.
-#[derive(Debug)]
 pub struct KeptLink {
     /// What is read of it, until it is over.
     pub(crate) reading: Option<OpenLink>,

@@ -21,7 +21,7 @@ pub const LINK_LIMIT: usize = 64;
 /// The links, each from its opening until it is over and its request in hand is answered.
 ///
 /// After out of memory it stands for nothing.
-#[derive(Debug, Drop)]
+#[derive(Drop)]
 pub struct Links {
     /// By their numbers.
     pub(crate) kept: BTreeMap<u32, KeptLink>,

@@ -9,7 +9,6 @@ use std::collections::VecDeque;
 use sv_http::{Ask, Guard, HttpReader};
 
 /// A link that is open.
-#[derive(Debug)]
 pub struct OpenLink {
     /// Who may ask, and the undecided bytes.
     pub(crate) reader: HttpReader,

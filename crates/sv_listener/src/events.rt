@@ -4,7 +4,7 @@ use sv_base::bytes::Bytes;
 use sv_base::text::Text;
 
 /// An event as a listener gets it.
-#[derive(Debug, Drop)]
+#[derive(Drop)]
 pub struct Heard {
     /// The name of the event's type, as `TICK_5`.
     pub eventname: Text,
@@ -18,7 +18,7 @@ pub struct Heard {
 }
 
 /// Why no further event is heard.
-#[derive(Clone, Copy, Debug, PartialEq, Eq)]
+#[derive(Clone, Copy, PartialEq, Eq)]
 pub enum HeardFault {
     /// A header line that isn't one of the protocol's, or one of more than 4,096 bytes.
     BadHeader,

@@ -13,7 +13,7 @@ use crate::header::{after, small_number, text};
 use sv_base::state::State;
 
 /// An exit, as the body of its event tells it.
-#[derive(Clone, Copy, Debug)]
+#[derive(Clone, Copy)]
 pub(crate) struct Exit<'a> {
     pub(crate) name: &'a str,
     pub(crate) group: &'a str,

@@ -18,7 +18,7 @@ const HEADER_LIMIT: usize = 4_096;
 const BODY_LIMIT: u64 = 33_554_432;
 
 /// What stands first.
-#[derive(Debug, Drop)]
+#[derive(Drop)]
 pub(crate) enum First {
     /// Part of an event, or nothing.
     Open,

@@ -7,7 +7,7 @@ use crate::events::Heard;
 use std::alloc::AllocError;
 
 /// What a handler makes of an event.
-#[derive(Clone, Copy, Debug, PartialEq, Eq)]
+#[derive(Clone, Copy, PartialEq, Eq)]
 pub enum Verdict {
     /// The event is done with.
     Ok,
@@ -30,7 +30,7 @@ impl Verdict {
 }
 
 /// Why there is no verdict on an event.
-#[derive(Clone, Copy, Debug, PartialEq, Eq)]
+#[derive(Clone, Copy, PartialEq, Eq)]
 pub enum HandleFault {
     /// The handler failed; its count of faults rose in this call.
     Failed,

@@ -17,7 +17,7 @@ use sv_base::kind::Kind;
 use sv_base::words::kind_of;
 
 /// How many bytes a body has, as a header line says it.
-#[derive(Clone, Copy, Debug)]
+#[derive(Clone, Copy)]
 pub(crate) enum Size {
     Bytes(u64),
     /// 2^64 or more.
@@ -25,7 +25,7 @@ pub(crate) enum Size {
 }
 
 /// What a header line says of an event; the server's name isn't kept.
-#[derive(Clone, Copy, Debug)]
+#[derive(Clone, Copy)]
 pub(crate) struct Header<'a> {
     pub(crate) pool: &'a str,
     pub(crate) serial: u64,

@@ -24,7 +24,7 @@ const PIECE: usize = 16_384;
 const MOST_TAKEN: u64 = 9_223_372_036_854_775_808;
 
 /// How a listener's loop ended.
-#[derive(Clone, Copy, Debug, PartialEq, Eq)]
+#[derive(Clone, Copy, PartialEq, Eq)]
 pub enum ListenEnd {
     /// The input ended between two events.
     Ended,

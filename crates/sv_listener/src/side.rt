@@ -12,7 +12,7 @@ use std::mem;
 const MOST_KEPT: usize = 65_536;
 
 /// What a listener got so far, of which only the bytes of an event that isn't whole are kept.
-#[derive(Debug, Drop)]
+#[derive(Drop)]
 pub struct ListenerSide {
     held: Vec<u8>,
     fault: Option<HeardFault>,
@@ -99,7 +99,7 @@ impl ListenerSide {
 }
 
 /// How many bytes are done with, and the fault at which they end.
-#[derive(Clone, Copy, Debug)]
+#[derive(Clone, Copy)]
 struct Taken {
     count: usize,
     fault: Option<HeardFault>,

@@ -15,7 +15,7 @@ use sv_out::Shelf;
 use sv_sections::includes::includes;
 
 /// A configuration with the texts that it was read from.
-#[derive(Debug, Drop)]
+#[derive(Drop)]
 pub struct Loaded {
     /// The text of the main file.
     pub main: Bytes,

@@ -10,7 +10,7 @@ use sv_base::number::Backups;
 use sv_base::text::Text;
 
 /// How a log is kept, and how far its file has grown.
-#[derive(Debug, Drop)]
+#[derive(Drop)]
 pub struct LogPlan {
     /// The file's name.
     pub file: Text,

@@ -7,7 +7,7 @@ ghost use Rattle.sv_logs.specs.Spans.{has_missed, tail_part};
 pub const SPAN_LIMIT: u64 = 1_048_576;
 
 /// A part of a file: where it begins, and how many bytes it has, at most 1,048,576. It lies within the file.
-#[derive(Clone, Copy, Debug, PartialEq, Eq)]
+#[derive(Clone, Copy, PartialEq, Eq)]
 pub struct Span {
     pub start: u64,
     pub length: u64,
@@ -15,7 +15,7 @@ pub struct Span {
 
 /// A read with a negative length, or with a negative offset and a length other than 0: the fault
 /// `BAD_ARGUMENTS` of the manual's chapter on its XML-RPC interface.
-#[derive(Clone, Copy, Debug, PartialEq, Eq)]
+#[derive(Clone, Copy, PartialEq, Eq)]
 pub struct BadArguments;
 
 /// The part of a file of this size that a read asks for. From an offset of 0 or more on it is so many bytes, or

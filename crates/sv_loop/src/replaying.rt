@@ -31,7 +31,7 @@ pub const JOURNAL_LIMIT: usize = 67_108_864;
 const PIECE: usize = 16_384;
 
 /// What a replay came to.
-#[derive(Clone, Copy, Debug, PartialEq, Eq)]
+#[derive(Clone, Copy, PartialEq, Eq)]
 pub enum Status {
     Done,
     SourceFailed,
@@ -64,7 +64,7 @@ impl Status {
 }
 
 /// How the reading of a journal ended.
-#[derive(Debug, Drop)]
+#[derive(Drop)]
 pub enum Ending {
     /// The source is at its end.
     Whole,

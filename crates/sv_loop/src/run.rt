@@ -19,7 +19,7 @@ use sv_out::sink::Sink;
 use sv_sections::fault::ConfFault;
 
 /// Why the reading of a journal stopped at a line.
-#[derive(Debug, Drop)]
+#[derive(Drop)]
 pub enum End {
     /// The line is outside the grammar of its place.
     BadLine,

@@ -3,7 +3,7 @@
 use std::alloc::{AllocError, Global};
 
 /// How a case is given.
-#[derive(Clone, Copy, Debug, PartialEq, Eq)]
+#[derive(Clone, Copy, PartialEq, Eq)]
 pub(crate) enum Form {
     /// A journal, and what its replay gives.
     Journal,

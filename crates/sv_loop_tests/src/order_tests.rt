@@ -11,7 +11,7 @@ use sv_out::sink::Sink;
 use sv_out::source::Source;
 
 /// A line of a journal, and how many bytes of orders are written once it was taken.
-#[derive(Clone, Copy, Debug)]
+#[derive(Clone, Copy)]
 struct Step {
     line: &'static str,
     written: u64,

@@ -7,4 +7,3 @@ pub mod Params
 pub mod Processes
 pub mod Scenes
 pub mod Spellings
-pub mod Waits

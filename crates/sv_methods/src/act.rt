@@ -25,7 +25,7 @@ use sv_groups::{Found, Roster};
 use sv_info::fault::Fault;
 
 /// What processes are asked for.
-#[derive(Clone, Copy, Debug, PartialEq, Eq)]
+#[derive(Clone, Copy, PartialEq, Eq)]
 pub enum Act {
     Start,
     Stop,

@@ -1,5 +1,5 @@
 //! The methods of the manual's chapter on its XML-RPC interface: what each call is answered, asks for or waits for.
-//! `specs/MethodTable.antt` is the table, one row for each method; `specs/Waits.antt` says what ends a wait.
+//! `specs/MethodTable.antt` is the table, one row for each method.
 #![tactic(auto)]
 
 mod act;
@@ -12,9 +12,7 @@ mod planning;
 mod rows;
 mod signals;
 pub mod stand;
-mod waits;
 
 pub use crate::planned::{Aim, Asked, Planned, ReadShape, Request, Waiting};
 pub use crate::planning::plan;
 pub use crate::stand::Stand;
-pub use crate::waits::check;

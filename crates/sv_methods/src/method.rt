@@ -5,7 +5,7 @@ ghost use Rattle.sv_methods.specs.MethodNames.{all_methods, answer_type, is_alwa
 ghost use Rattle.sv_methods.specs.MethodNames.{method_named, spelling};
 
 /// Methods that take nothing.
-#[derive(Clone, Copy, Debug, PartialEq, Eq)]
+#[derive(Clone, Copy, PartialEq, Eq)]
 pub enum PlainMethod {
     ClearAllProcessLogs,
     ClearLog,
@@ -20,7 +20,7 @@ pub enum PlainMethod {
 }
 
 /// Methods that take a text.
-#[derive(Clone, Copy, Debug, PartialEq, Eq)]
+#[derive(Clone, Copy, PartialEq, Eq)]
 pub enum TextMethod {
     ClearProcessLogs,
     GetProcessInfo,
@@ -29,14 +29,14 @@ pub enum TextMethod {
 }
 
 /// Methods that take whether to wait, which may be left out and is then true.
-#[derive(Clone, Copy, Debug, PartialEq, Eq)]
+#[derive(Clone, Copy, PartialEq, Eq)]
 pub enum WaitMethod {
     StartAllProcesses,
     StopAllProcesses,
 }
 
 /// Methods that take a text and whether to wait, which may be left out and is then true.
-#[derive(Clone, Copy, Debug, PartialEq, Eq)]
+#[derive(Clone, Copy, PartialEq, Eq)]
 pub enum TextWaitMethod {
     StartProcess,
     StartProcessGroup,
@@ -45,7 +45,7 @@ pub enum TextWaitMethod {
 }
 
 /// Methods that take two texts.
-#[derive(Clone, Copy, Debug, PartialEq, Eq)]
+#[derive(Clone, Copy, PartialEq, Eq)]
 pub enum TextsMethod {
     SendProcessStdin,
     SendRemoteCommEvent,
@@ -54,7 +54,7 @@ pub enum TextsMethod {
 }
 
 /// Methods that take a name, an offset and a length, and give a part of a log of a process.
-#[derive(Clone, Copy, Debug, PartialEq, Eq)]
+#[derive(Clone, Copy, PartialEq, Eq)]
 pub enum LogMethod {
     ReadStderr,
     ReadStdout,
@@ -63,7 +63,7 @@ pub enum LogMethod {
 }
 
 /// A method of the manual's chapter on its XML-RPC interface.
-#[derive(Clone, Copy, Debug, PartialEq, Eq)]
+#[derive(Clone, Copy, PartialEq, Eq)]
 pub enum Method {
     Plain(PlainMethod),
     OfText(TextMethod),

@@ -29,14 +29,14 @@ pub enum Request {
 }
 
 /// How the bytes of a read are given: as a text; or with the next offset, and whether bytes were missed.
-#[derive(Clone, Copy, Debug, PartialEq, Eq)]
+#[derive(Clone, Copy, PartialEq, Eq)]
 pub enum ReadShape {
     Plain,
     Tail(u64, bool),
 }
 
 /// What a child was asked for.
-#[derive(Clone, Copy, Debug, PartialEq, Eq)]
+#[derive(Clone, Copy, PartialEq, Eq)]
 pub enum Aim {
     Started,
     Stopped,
@@ -45,7 +45,7 @@ pub enum Aim {
 }
 
 /// A child asked for, or the main log where there is none; the number of the fault of its request, where that had one.
-#[derive(Clone, Copy, Debug, PartialEq, Eq)]
+#[derive(Clone, Copy, PartialEq, Eq)]
 pub struct Asked {
     pub child: Option<ChildId>,
     pub aim: Aim,

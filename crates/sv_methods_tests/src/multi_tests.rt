@@ -7,14 +7,15 @@ use std::alloc::Global;
 use std::process::Abort;
 use sv_base::bytes::Bytes;
 use sv_base::text::Text;
-use sv_methods::{Planned, Waiting, check};
+use sv_methods::{Planned, Waiting};
 use sv_multi::gather::Gather;
 use sv_multi::part::Part;
 use sv_multi::parts::parts;
+use sv_waits::check;
 use sv_xmlcall::call::{Answered, Call};
-use sv_xmlcall::read::read_call;
 use sv_xmlcall::value::Value;
 use sv_xmlcall::write::write_reply;
+use sv_xmlread::read_call;
 
 /// A process is started, the mood asked for, several calls are asked for in turn, and a method that is none.
 const ASKED: &str =

@@ -12,7 +12,7 @@ use std::alloc::{AllocError, Global};
 use sv_base::Text;
 
 /// The values of the client's options.
-#[derive(Debug, Drop)]
+#[derive(Drop)]
 pub struct Options {
     /// The configuration file, `-c`.
     pub file: Option<Text>,

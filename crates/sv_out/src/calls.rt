@@ -5,7 +5,7 @@ ghost use Rattle.sv_out.specs.Faults.{Rose, counted};
 ghost use Rattle.sv_out.specs.Plans.{call_plan, called, is_to_fail, none_made};
 
 /// The numbers of the calls that are to fail, the first call being 1; the calls so far; the faults among them.
-#[derive(Debug, Drop)]
+#[derive(Drop)]
 pub(crate) struct Calls {
     failing: Vec<u64>,
     calls: u64,

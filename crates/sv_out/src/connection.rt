@@ -10,7 +10,6 @@ use sv_base::{Bytes, Place};
 
 /// What went over one connection: where it led, the bytes that were written, the bytes that were read, and whether a
 /// read gave the end.
-#[derive(Debug)]
 pub struct Exchange {
     pub place: Place,
     pub sent: Bytes,

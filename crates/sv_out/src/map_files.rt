@@ -14,7 +14,6 @@ use std::collections::BTreeMap;
 use sv_base::{Bytes, Text};
 
 /// A shelf in memory, which tells its files and fails at the calls that it was made to fail at, the first call being 1.
-#[derive(Debug)]
 pub struct MapShelf {
     files: BTreeMap<Text, Bytes>,
     calls: Calls,

@@ -8,7 +8,6 @@ use sv_base::state::State;
 use sv_base::text::Text;
 
 /// All that is needed to start one process.
-#[derive(Debug)]
 pub struct SpawnOrder {
     pub run: Run,
     /// The name of the child's group.

@@ -9,7 +9,7 @@ use sv_base::items::Items;
 use sv_base::text::Text;
 
 /// Names that rise by bytes, each once, which contracts see as the list of the names.
-#[derive(Debug, Drop)]
+#[derive(Drop)]
 pub struct RisingNames {
     names: Items<Text>,
 }

@@ -13,7 +13,7 @@ use sv_base::{Bytes, Place};
 
 /// What a connection in memory is made of: the bytes that it gives, how many of them at most in each read and of what
 /// is written in each write, and the calls of it that are to fail, the first one being 1.
-#[derive(Debug, Drop)]
+#[derive(Drop)]
 pub struct Script {
     bytes: Vec<u8>,
     most: usize,
@@ -38,7 +38,6 @@ impl Script {
 }
 
 /// A connection in memory, which tells its exchange.
-#[derive(Debug)]
 pub struct ScriptLink {
     place: Place,
     bytes: Vec<u8>,
@@ -180,7 +179,6 @@ impl Link for ScriptLink {
 
 /// A dial in memory, which tells the exchanges of the links that it took back. Each connection reads the next script,
 /// and one past the scripts is at its end at once.
-#[derive(Debug)]
 pub struct ScriptDial {
     scripts: VecDeque<Script>,
     exchanges: Vec<Exchange>,

@@ -42,7 +42,6 @@ pub fn write_all<K: Sink>(sink: &mut K, text: &[u8]) -> Result<(), Failed>
 
 /// A sink in memory: it keeps what was written, takes so many bytes at a time at most, and fails at the calls that it
 /// was told to fail at, the first call being 1, and where no memory is left.
-#[derive(Debug)]
 pub struct ListSink {
     written: Vec<u8>,
     most: usize,

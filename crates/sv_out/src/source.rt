@@ -24,7 +24,6 @@ pub trait Source {
 
 /// A source in memory: it gives the bytes of a list, so many at a time at most, and fails at the calls that it was told
 /// to fail at, the first call being 1.
-#[derive(Debug)]
 pub struct ListSource {
     bytes: Vec<u8>,
     at: usize,

@@ -7,7 +7,7 @@ use sv_base::Text;
 use sv_out::sink::{Sink, write_all};
 
 /// What became of a daemon.
-#[derive(Debug, Drop)]
+#[derive(Drop)]
 pub enum Outcome {
     /// The words are refused.
     Usage,

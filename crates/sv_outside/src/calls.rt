@@ -6,7 +6,7 @@ ghost use Rattle.sv_out.specs.Plans.{called, is_to_fail, none_made};
 ghost use Rattle.sv_outside.specs.Plans.{call_plan};
 
 /// The numbers of the calls that are to fail, the first call being 1; the calls so far; the faults among them.
-#[derive(Debug, Drop)]
+#[derive(Drop)]
 pub(crate) struct Calls {
     failing: Vec<u64>,
     calls: u64,

@@ -27,7 +27,7 @@ pub trait Clock {
 }
 
 /// A clock in memory: it gives the moments of a list in turn, and then its last one again. It doesn't wait in a pause.
-#[derive(Debug, Drop)]
+#[derive(Drop)]
 pub struct FixedClock {
     next: Moment,
     later: VecDeque<Moment>,

@@ -5,7 +5,7 @@ use std::sync::Wait;
 use sv_base::{LinkId, Run, Side, Stream};
 
 /// What a job is about.
-#[derive(Clone, Copy, Debug, PartialEq, Eq)]
+#[derive(Clone, Copy, PartialEq, Eq)]
 pub enum JobWord {
     /// Reads one of the output streams of a run.
     Pump(Run, Stream),
@@ -26,7 +26,7 @@ pub enum JobWord {
 }
 
 /// How a job's work came to its end.
-#[derive(Clone, Copy, Debug, PartialEq, Eq)]
+#[derive(Clone, Copy, PartialEq, Eq)]
 pub enum PumpEnd {
     /// All was done: the input is at its end, a Close was taken, or the turns are used up.
     Ended,

@@ -25,7 +25,7 @@ pub trait Listen {
 
 /// In memory: it gives the links of a list in turn, and fails at the calls that it was made to fail at, the first call
 /// being 1, and once the list is used up.
-#[derive(Debug, Drop)]
+#[derive(Drop)]
 pub struct ScriptListen {
     links: VecDeque<ScriptLink>,
     asked: u64,

@@ -12,7 +12,7 @@ use sv_out::sink::ListSink;
 use sv_out::source::ListSource;
 
 /// What a started program is in memory: what takes its standard input, what gives its two outputs, and how it ends.
-#[derive(Debug, Drop)]
+#[derive(Drop)]
 pub struct Program {
     pub stdin: ListSink,
     pub stdout: ListSource,
@@ -36,7 +36,6 @@ impl Program {
 /// past the list a silent one; the processes are numbered from 1. It fails at the calls that it was made to fail at,
 /// the first call being 1 and spawns and kills being counted together; a program is then refused for the next reason of
 /// its list, and past the list for want of a file.
-#[derive(Debug)]
 pub struct ScriptSpawner {
     programs: VecDeque<Program>,
     refusals: VecDeque<Refusal>,

@@ -12,7 +12,7 @@ use sv_out::source::Source;
 use thiserror::Error;
 
 /// A program that was started: its process, the ends of its three pipes, and what waits for its end.
-#[derive(Debug, Drop)]
+#[derive(Drop)]
 pub struct Started<I, O, E, W> {
     pub pid: Pid,
     pub stdin: I,
@@ -85,7 +85,7 @@ impl From<AllocError> for KillFault {
 }
 
 /// One thing that a spawner was asked for, and what it answered.
-#[derive(Debug, Drop)]
+#[derive(Drop)]
 pub enum Asked {
     /// A program: its process, or why it was refused.
     Spawn {

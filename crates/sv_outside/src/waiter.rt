@@ -23,7 +23,7 @@ pub trait Waiter {
 
 /// A waiter in memory: it answers the same end in each call, and fails at the calls that it was made to fail at, the
 /// first call being 1.
-#[derive(Debug, Drop)]
+#[derive(Drop)]
 pub struct ScriptWaiter {
     how: How,
     calls: Calls,

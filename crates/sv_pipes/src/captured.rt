@@ -22,7 +22,7 @@ const END: &[u8] = b"<!--XSUPERVISOR:END-->";
 
 /// A captured stream, of which only undecided bytes are kept: the last bytes of a message that is open, and how many
 /// bytes of the awaited mark came.
-#[derive(Debug, Drop)]
+#[derive(Drop)]
 pub struct Capture {
     /// The most bytes of a message.
     limit: u64,

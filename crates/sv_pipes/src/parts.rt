@@ -3,7 +3,7 @@
 use sv_base::bytes::Bytes;
 
 /// What a piece of a captured stream decides.
-#[derive(Debug, Drop)]
+#[derive(Drop)]
 pub enum Part {
     /// Bytes for the log, at least one.
     Logged(Bytes),
@@ -12,7 +12,7 @@ pub enum Part {
 }
 
 /// Where a captured stream is: outside the marks, or between BEGIN and END.
-#[derive(Clone, Copy, Debug, PartialEq, Eq)]
+#[derive(Clone, Copy, PartialEq, Eq)]
 pub enum Side {
     Outside,
     Inside,

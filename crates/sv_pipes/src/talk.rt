@@ -23,7 +23,7 @@ const RESULT_LIMIT: u64 = 1_048_576;
 const MOST_DIGITS: u8 = 7;
 
 /// How far a talk has come.
-#[derive(Clone, Copy, Debug)]
+#[derive(Clone, Copy)]
 enum TalkProgress {
     /// So many bytes of `READY` and a line feed were said.
     Greeting { count: usize },
@@ -42,7 +42,7 @@ enum TalkProgress {
 }
 
 /// What a listener said so far, of which only the undecided bytes of a result are kept.
-#[derive(Debug, Drop)]
+#[derive(Drop)]
 pub struct ListenerTalk {
     place: TalkProgress,
     /// The bytes of a result so far.

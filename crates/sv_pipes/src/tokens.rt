@@ -3,7 +3,7 @@
 use sv_base::bytes::Bytes;
 
 /// What a listener says (the manual's chapter on events, "Event Notification Protocol").
-#[derive(Debug, Drop)]
+#[derive(Drop)]
 pub enum Token {
     /// `READY` and a line feed.
     Ready,
@@ -14,7 +14,7 @@ pub enum Token {
 }
 
 /// The state of a listener (the manual's chapter on events, "Event Listener States").
-#[derive(Clone, Copy, Debug, PartialEq, Eq)]
+#[derive(Clone, Copy, PartialEq, Eq)]
 pub enum TalkState {
     /// Its last result was taken, or it said nothing yet.
     Acknowledged,

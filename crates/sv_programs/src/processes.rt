@@ -1,6 +1,7 @@
 //! The processes of a section in a group.
 
 ghost use Rattle.std.specs.Prelude.{◌≡◌, ◌≤◌, ◌+◌, [], Ok, IfOk, IfErr, ◌++◌, ◌∷◌, codes, length};
+ghost use Rattle.sv_keys.specs.Environments.{environment_of, server_url};
 ghost use Rattle.sv_keys.specs.Judged.{IsFault};
 ghost use Rattle.sv_keys.specs.KeyTable.{or_default, numprocs, numprocs_start, settings_of};
 ghost use Rattle.sv_keys.specs.KeyTable.{draft_of};
@@ -25,7 +26,7 @@ use sv_keys::judged::{Judged, KeyFault, Unread, earlier, joined};
 use sv_keys::key::Key;
 use sv_keys::names;
 use sv_keys::table::{
-    Count, Draft, Log, Settings, Start, draft_of, numprocs, numprocs_start, settings_of,
+    Around, Count, Draft, Log, Settings, Start, draft_of, numprocs, numprocs_start, settings_of,
 };
 use sv_keys::values::LogFile;
 use sv_sections::server::Common;
@@ -96,6 +97,45 @@ fn without_capture(listener: bool, log: Log) -> Log
     }
 }
 
+/// What of a process isn't in its keys as they stand: its group, its logs and its variables.
+#[derive(Drop)]
+struct Added {
+    group: Text,
+    stdout: LogSpec,
+    stderr: LogSpec,
+    environment: Items<(Text, Text)>,
+}
+
+fn make_added(
+    alloc: Global,
+    common: &Common,
+    group: &str,
+    name: &str,
+    stdout: Log,
+    stderr: Log,
+    around: &Around,
+) -> Result<Added, AllocError>
+    ensures group { IfOk result (λ added. added.group ≡ group.now) }
+    ensures stdout { IfOk result (λ added. added.stdout
+        ≡ log_spec stdout common.now.childlogdir group.now name.now (codes "stdout")) }
+    ensures stderr { IfOk result (λ added. added.stderr
+        ≡ log_spec stderr common.now.childlogdir group.now name.now (codes "stderr")) }
+    ensures environment { IfOk result (λ added. added.environment
+        ≡ environment_of group.now name.now (server_url around.now.serverurl common.now.url)
+        common.now.environment around.now.environment) }
+{
+    let directory = common.childlogdir.as_str();
+    let url = server_url(&around.serverurl, &common.url)?;
+    let of_daemon = common.environment.as_slice();
+    let own = around.environment.as_slice();
+    Ok(Added {
+        environment: environment_of(alloc, group, name, url, of_daemon, own)?,
+        stdout: log_spec(alloc, stdout, directory, group, name, "stdout")?,
+        stderr: log_spec(alloc, stderr, directory, group, name, "stderr")?,
+        group: Text::from_str(alloc, group)?,
+    })
+}
+
 /// The process that these keys tell.
 #[tactic(auto, unfolding(crate::specs::Processes::spec_of))]
 fn spec_of(
@@ -115,12 +155,12 @@ fn spec_of(
         stderr,
         around,
     } = draft;
-    let name = running.name;
-    let directory = common.childlogdir.as_str();
-    let url = server_url(&around.serverurl, &common.url)?;
     let stdout = without_capture(listener, stdout);
+    let name = running.name.as_str();
+    let added = make_added(alloc, common, group, name, stdout, stderr, &around)?;
     Ok(Spec {
-        group: Text::from_str(alloc, group)?,
+        group: added.group,
+        name: running.name,
         words: running.words,
         priority,
         autostart: running.autostart,
@@ -133,20 +173,12 @@ fn spec_of(
         stopasgroup: stopping.stopasgroup,
         killasgroup: stopping.killasgroup,
         redirect_stderr: stopping.redirect_stderr,
-        stdout: log_spec(alloc, stdout, directory, group, name.as_str(), "stdout")?,
-        stderr: log_spec(alloc, stderr, directory, group, name.as_str(), "stderr")?,
-        environment: environment_of(
-            alloc,
-            group,
-            name.as_str(),
-            url,
-            common.environment.as_slice(),
-            around.environment.as_slice(),
-        )?,
+        stdout: added.stdout,
+        stderr: added.stderr,
+        environment: added.environment,
         directory: around.directory,
         umask: around.umask,
         user: around.user,
-        name,
     })
 }
 

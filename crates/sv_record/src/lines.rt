@@ -14,7 +14,7 @@ use sv_out::order::Order;
 use sv_out::sink::{Sink, write_all};
 
 /// Whether a journal is kept of what the daemon takes and gives.
-#[derive(Clone, Copy, Debug, PartialEq, Eq)]
+#[derive(Clone, Copy, PartialEq, Eq)]
 pub enum JournalLines {
     /// Each input has its line, and each order one after the mark `> `.
     Kept,
@@ -50,7 +50,7 @@ impl Lines for JournalLines {
 }
 
 /// Why a journal has no whole header.
-#[derive(Clone, Copy, Debug, PartialEq, Eq)]
+#[derive(Clone, Copy, PartialEq, Eq)]
 pub enum HeaderFault {
     /// It couldn't be written; the journal's count of faults rose, and a prefix was written.
     Unwritten,

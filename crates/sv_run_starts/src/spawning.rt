@@ -22,7 +22,7 @@ use sv_outside::{Clock, Gate, Job, KillFault, Listen, Refusal, SpawnFault, Spawn
 use sv_run_orders::{Life, LiveRuns, close, stdin_lane};
 
 /// What a program that was asked for came to.
-#[derive(Debug, Drop)]
+#[derive(Drop)]
 pub enum SpawnAnswer {
     /// It was started: its process.
     Pid(Pid),

@@ -8,7 +8,7 @@ use sv_base::state::Stream;
 use sv_pipes::{ListenerTalk, TalkState, Token};
 
 /// A run that isn't over.
-#[derive(Debug, Drop)]
+#[derive(Drop)]
 pub struct OpenRun {
     /// The place of its process in the start order.
     pub(crate) child: usize,

@@ -13,7 +13,7 @@ use sv_pipes::Token;
 
 /// The runs of processes, each from its start until its process and both its pipes ended, and of each child whether the
 /// stdin of its present run is closed. After out of memory it stands for nothing.
-#[derive(Debug, Drop)]
+#[derive(Drop)]
 pub struct Runs {
     /// By their numbers.
     pub(crate) runs: BTreeMap<u32, OpenRun>,

@@ -8,7 +8,7 @@ use sv_base::bytes::Bytes;
 use sv_pipes::{Capture, Part};
 
 /// What is kept of a channel: its undecided bytes where it is captured, and nothing elsewhere.
-#[derive(Debug, Drop)]
+#[derive(Drop)]
 pub struct Channel {
     capture: Option<Capture>,
 }

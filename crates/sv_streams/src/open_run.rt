@@ -11,7 +11,7 @@ use sv_base::state::Stream;
 use sv_pipes::Part;
 
 /// A run of which a pipe is open.
-#[derive(Debug, Drop)]
+#[derive(Drop)]
 pub struct OpenRun {
     pub(crate) owner: Owner,
     /// Whether what comes on its standard error counts as its standard output.

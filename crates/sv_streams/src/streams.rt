@@ -13,7 +13,7 @@ use sv_pipes::Part;
 
 /// The output of runs, each from its start until both its pipes ended, whatever its process does. Of a captured channel the
 /// undecided bytes are kept, of any other none. After out of memory it stands for nothing.
-#[derive(Debug, Drop)]
+#[derive(Drop)]
 pub struct Streams {
     /// By the numbers of their runs.
     pub(crate) open: BTreeMap<u32, OpenRun>,

@@ -6,9 +6,9 @@ use sv_base::text::Text;
 use sv_multi::parts::parts;
 use sv_multi::{Gather, MultiFault, Part};
 use sv_xmlcall::call::{Answered, Call};
-use sv_xmlcall::read::{read_call, read_reply};
 use sv_xmlcall::value::Value;
 use sv_xmlcall::write::{write_call, write_reply};
+use sv_xmlread::{read_call, read_reply};
 
 // Each pair is the members of a struct, and the part that it is: the written call after its declaration, or the fault. In both
 // `M` stands for `<member><name>methodName</name><value>`, `P` for `<member><name>params</name><value>`, `E` for

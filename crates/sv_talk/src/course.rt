@@ -5,7 +5,7 @@ ghost use Rattle.sv_talk.specs.Courses.{number, settled};
 use sv_commands::Status;
 
 /// How a conversation goes on from some place.
-#[derive(Clone, Copy, Debug, PartialEq, Eq)]
+#[derive(Clone, Copy, PartialEq, Eq)]
 pub enum Course {
     /// It goes on; the status so far.
     On(Status),

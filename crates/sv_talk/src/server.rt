@@ -2,7 +2,6 @@
 use sv_base::{ClientSpec, Place};
 
 /// The server that is asked: where it is, and its URL with the username and the password.
-#[derive(Debug)]
 pub struct Server {
     pub place: Place,
     pub client: ClientSpec,

@@ -17,7 +17,7 @@ use sv_commands::{Line, Shown, Status, reply_shown};
 use sv_xmlcall::Answered;
 
 /// A text that is to be printed, and how the conversation goes on then.
-#[derive(Debug, Drop)]
+#[derive(Drop)]
 pub struct Told {
     pub text: Bytes,
     pub course: Course,

@@ -13,7 +13,7 @@ use sv_outside::Refusal;
 use sv_run_starts::SpawnAnswer;
 
 /// The answer to a question.
-#[derive(Debug, Drop)]
+#[derive(Drop)]
 pub(crate) enum Answer {
     Pid(Pid),
     NoFile,

@@ -11,7 +11,7 @@ use std::marker::Model;
 use sv_base::{ChildId, Deadline, Moment};
 
 /// Who is next.
-#[derive(Clone, Copy, Debug)]
+#[derive(Clone, Copy)]
 pub struct Next {
     /// The first child from the place on that is due, if there is one.
     pub child: Option<ChildId>,
@@ -21,7 +21,6 @@ pub struct Next {
 
 /// The deadlines of children, at most one each, which contracts see as a list. Those that are due are told one after the
 /// other in start order, from one settle; only where a deadline changed that comes later is there another settle.
-#[derive(Debug)]
 pub struct Agenda {
     due: Due,
     list: DueList,

@@ -12,7 +12,7 @@ use sv_base::{ChildId, Deadline, Moment};
 
 /// The deadlines of children, at most one each, which contracts see as a list: at the place of each child its deadline,
 /// or none.
-#[derive(Debug, Drop)]
+#[derive(Drop)]
 pub struct Due {
     tree: Option<Tree>,
 }

@@ -10,14 +10,14 @@ use std::alloc::{AllocError, Global};
 use sv_base::{ChildId, Moment};
 
 /// What is left of a list: who was due at this moment, from this place on.
-#[derive(Clone, Copy, Debug)]
+#[derive(Clone, Copy)]
 pub(crate) struct Rest {
     pub(crate) from: usize,
     pub(crate) at: Moment,
 }
 
 /// The children that were due when it was settled.
-#[derive(Debug, Drop)]
+#[derive(Drop)]
 pub(crate) struct DueList {
     /// Whom the last settle looked at.
     pub(crate) looked: Looked,

@@ -6,7 +6,7 @@ use std::alloc::{AllocError, Global};
 use sv_base::ChildId;
 
 /// The children that were looked at, in their order, as many as there is room for; and how often one was looked at.
-#[derive(Debug, Drop)]
+#[derive(Drop)]
 pub struct Looked {
     children: Vec<ChildId>,
     room: usize,

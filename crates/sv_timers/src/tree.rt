@@ -10,7 +10,7 @@ use std::alloc::{AllocError, Global};
 use sv_base::{ChildId, Deadline, Moment};
 
 /// The deadlines of one child or of several in a row.
-#[derive(Debug, Drop)]
+#[derive(Drop)]
 pub(crate) enum Tree {
     Leaf(Option<Deadline>),
     Fork {

@@ -7,8 +7,8 @@ mod WriteLaws
 mod Frames
 mod TextLaws
 mod StageLaws
-mod DocumentLaws
-mod ReplyEnds
+pub mod DocumentLaws
+pub mod ReplyEnds
 mod LogLaws
 mod HeldLaws
 -- from a layout to what is read of it
@@ -16,7 +16,7 @@ mod Passing
 mod ValuePassing
 mod DocumentPassing
 mod DeepLaws
-mod SpelledLaws
+pub mod SpelledLaws
 mod WrittenLaws
 -- from what is read back to a layout
 mod TagsBack
@@ -24,7 +24,7 @@ mod TextsBack
 mod ValuesBack
 mod NestedBack
 mod DocumentsBack
-mod CallsBack
+pub mod CallsBack
 mod RefusedLaws
 -- the longest valid prefix
 mod Fronts
@@ -45,5 +45,5 @@ mod MeasuredPlaces
 mod MeasuredSteps
 mod MeasuredDocuments
 -- what is answered
-mod JudgedLaws
-mod CalledLaws
+pub mod JudgedLaws
+pub mod CalledLaws

@@ -101,6 +101,18 @@ number_at t bs = do
   r ← integer_at t bs
   Ok (On (Formed (integer r.0)), r.1)
 
+-- a boolean and its closing tag
+abbrev pub boolean_at : List ℕ → Result (Turning × List ℕ) ℕ
+boolean_at bs = truth_at bs >>= (λ r. Ok (On (Formed (truth r.0)), r.1))
+
+-- a string and its closing tag
+abbrev pub string_at : List ℕ → Result (Turning × List ℕ) ℕ
+string_at bs = content_at tag.EndString bs >>= (λ r. Ok (On (Formed (text r.0)), r.1))
+
+-- the end of the closing tag of a value whose text is this white space
+abbrev pub only_white_at : List ℕ → List ℕ → Result (Turning × List ℕ) ℕ
+only_white_at white bs = close_at bs >>= (λ rest. Ok (Whole (text white), rest))
+
 -- the tags that may stand after `<value>`
 abbrev pub forms : List Tag
 forms =
@@ -112,9 +124,8 @@ forms =
 abbrev pub form_of : List ℕ → Tag → List ℕ → Result (Turning × List ℕ) ℕ
 form_of white tag.I4 bs = number_at tag.EndI4 bs
 form_of white tag.Int bs = number_at tag.EndInt bs
-form_of white tag.Boolean bs = truth_at bs >>= (λ r. Ok (On (Formed (truth r.0)), r.1))
-form_of white tag.String bs =
-    content_at tag.EndString bs >>= (λ r. Ok (On (Formed (text r.0)), r.1))
+form_of white tag.Boolean bs = boolean_at bs
+form_of white tag.String bs = string_at bs
 form_of white tag.NoString bs = Ok (On (Formed (text [])), bs)
 form_of white tag.Double bs = other_at (codes "double") tag.EndDouble bs
 form_of white tag.DateTime bs = other_at (codes "dateTime.iso8601") tag.EndDateTime bs
@@ -122,7 +133,7 @@ form_of white tag.Base64 bs = other_at (codes "base64") tag.EndBase64 bs
 form_of white tag.Struct bs = Ok (On (Further no_member), bs)
 form_of white tag.NoMembers bs = Ok (On (Formed (structure no_member)), bs)
 form_of white tag.Array bs = Ok (On Data, bs)
-form_of white t bs = close_at bs >>= (λ rest. Ok (Whole (text white), rest))
+form_of white t bs = only_white_at white bs
 
 -- a form, or the closing tag after this white space
 abbrev pub typed_at : List ℕ → List ℕ → Result (Turning × List ℕ) ℕ

@@ -5,24 +5,22 @@
 //! anything is built beyond them.
 #![tactic(auto)]
 
-mod atoms;
+pub mod atoms;
 pub mod call;
 mod content;
-mod document;
+pub mod document;
 mod integer;
 pub mod laws;
 pub mod log;
-mod nested;
-pub mod read;
+pub mod nested;
 mod room;
 mod simple;
-mod stop;
-mod tag;
+pub mod stop;
+pub mod tag;
 pub mod value;
 pub mod write;
 
 pub use crate::call::{Answered, Call, CallFault};
 pub use crate::log::text_of_log;
-pub use crate::read::{read_call, read_reply};
 pub use crate::value::Value;
 pub use crate::write::{write_call, write_fault, write_reply};

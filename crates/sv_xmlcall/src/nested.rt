@@ -5,7 +5,7 @@ ghost use Rattle.sv_letters.specs.Letters.{are_letters};
 ghost use Rattle.sv_letters.specs.declared.letters.Letters.TheVariants.{OfXml};
 ghost use Rattle.sv_letters.specs.declared.letters.Awaits.{Awaits};
 ghost use Rattle.sv_xmlcall.specs.Trees.{view, trees_view, members_view};
-ghost use Rattle.sv_xmlcall.specs.Outcome.{Gives, GivesAlways};
+ghost use Rattle.sv_xmlcall.specs.Outcome.{Gives};
 ghost use Rattle.sv_xmlcall.specs.Atoms.{skip_white};
 ghost use Rattle.sv_xmlcall.specs.Machine.{Frame, Go, the_limits, kept, kept_member, after_value};
 ghost use Rattle.sv_xmlcall.specs.Machine.{counted};
@@ -13,7 +13,8 @@ ghost use Rattle.sv_xmlcall.specs.Turns.{Settles, opening_of, opened_of, turned,
 ghost use Rattle.sv_xmlcall.specs.Turns.{ReadsValue};
 ghost use Rattle.sv_xmlcall.specs.Stages.{turn_view, stage_view, held_view, frames_on, before_at};
 ghost use Rattle.sv_xmlcall.specs.Stages.{white_of, opened_at, behind_white, begins_tag, typed_at};
-ghost use Rattle.sv_xmlcall.specs.Stages.{form_of, number_at, other_at, bare_at, formed_at};
+ghost use Rattle.sv_xmlcall.specs.Stages.{form_of, number_at, boolean_at, string_at, other_at};
+ghost use Rattle.sv_xmlcall.specs.Stages.{only_white_at, bare_at, formed_at};
 ghost use Rattle.sv_xmlcall.specs.Stages.{array_end_at, data_at, items_at, members_at, ended_at};
 ghost use Rattle.sv_xmlcall.specs.Stages.{stage_at};
 
@@ -25,7 +26,6 @@ use crate::tag::{Tag, next_tag};
 use crate::value::Value;
 use std::alloc::{AllocError, Global};
 use sv_base::text::Text;
-use sv_letters::BadByte;
 
 /// The most values that may stand one inside the other.
 const NESTING: usize = 32;
@@ -229,18 +229,18 @@ fn read_stage(alloc: Global, stage: Stage, bytes: &[u8]) -> Result<(Turn, &[u8])
     ensures shorter { IfOk result (λ x. length x.1.now < length bytes.now) }
 {
     match stage {
-        Stage::Before => Ok(before(bytes)?),
+        Stage::Before => before(bytes),
         Stage::Opened => opened(alloc, bytes),
-        Stage::Formed(value) => Ok(formed(value, bytes)?),
+        Stage::Formed(value) => formed(value, bytes),
         Stage::Data => data(alloc, bytes),
-        Stage::Items(items) => Ok(further_item(items, bytes)?),
+        Stage::Items(items) => further_item(items, bytes),
         Stage::Further(members) => further_member(alloc, members, bytes),
-        Stage::Ended(members) => Ok(ended(members, bytes)?),
+        Stage::Ended(members) => ended(members, bytes),
     }
 }
 
-fn before(bytes: &[u8]) -> Result<(Turn, &[u8]), BadByte>
-    ensures value { GivesAlways (λ x. (turn_view x.0, x.1.now)) result (before_at bytes.now) }
+fn before(bytes: &[u8]) -> Result<(Turn, &[u8]), Stop>
+    ensures value { Gives (λ x. (turn_view x.0, x.1.now)) result (before_at bytes.now) }
     ensures shorter { IfOk result (λ x. length x.1.now < length bytes.now) }
 {
     let (tag, rest) = tag_behind(&[Tag::Value, Tag::NoValue], bytes)?;
@@ -250,8 +250,8 @@ fn before(bytes: &[u8]) -> Result<(Turn, &[u8]), BadByte>
     }
 }
 
-fn formed(value: Value, bytes: &[u8]) -> Result<(Turn, &[u8]), BadByte>
-    ensures value { GivesAlways (λ x. (turn_view x.0, x.1.now)) result
+fn formed(value: Value, bytes: &[u8]) -> Result<(Turn, &[u8]), Stop>
+    ensures value { Gives (λ x. (turn_view x.0, x.1.now)) result
         (formed_at (view value) bytes.now) }
     ensures shorter { IfOk result (λ x. length x.1.now < length bytes.now) }
 {
@@ -259,8 +259,8 @@ fn formed(value: Value, bytes: &[u8]) -> Result<(Turn, &[u8]), BadByte>
     Ok((Turn::Whole(value), rest))
 }
 
-fn array_end(items: Vec<Value>, bytes: &[u8]) -> Result<(Turn, &[u8]), BadByte>
-    ensures value { GivesAlways (λ x. (turn_view x.0, x.1.now)) result
+fn array_end(items: Vec<Value>, bytes: &[u8]) -> Result<(Turn, &[u8]), Stop>
+    ensures value { Gives (λ x. (turn_view x.0, x.1.now)) result
         (array_end_at (trees_view items.items) bytes.now) }
     ensures shorter { IfOk result (λ x. length x.1.now < length bytes.now) }
 {
@@ -275,12 +275,12 @@ fn data(alloc: Global, bytes: &[u8]) -> Result<(Turn, &[u8]), Stop>
     let (tag, rest) = tag_behind(&[Tag::Data, Tag::NoData], bytes)?;
     match tag {
         Tag::Data => Ok((Turn::On(Stage::Items(Vec::new(alloc))), rest)),
-        _ => Ok(array_end(Vec::new(alloc), rest)?),
+        _ => array_end(Vec::new(alloc), rest),
     }
 }
 
-fn further_item(items: Vec<Value>, bytes: &[u8]) -> Result<(Turn, &[u8]), BadByte>
-    ensures value { GivesAlways (λ x. (turn_view x.0, x.1.now)) result
+fn further_item(items: Vec<Value>, bytes: &[u8]) -> Result<(Turn, &[u8]), Stop>
+    ensures value { Gives (λ x. (turn_view x.0, x.1.now)) result
         (items_at (trees_view items.items) bytes.now) }
     ensures shorter { IfOk result (λ x. length x.1.now < length bytes.now) }
 {
@@ -318,8 +318,8 @@ fn further_member(
     }
 }
 
-fn ended(members: Vec<(Text, Value)>, bytes: &[u8]) -> Result<(Turn, &[u8]), BadByte>
-    ensures value { GivesAlways (λ x. (turn_view x.0, x.1.now)) result
+fn ended(members: Vec<(Text, Value)>, bytes: &[u8]) -> Result<(Turn, &[u8]), Stop>
+    ensures value { Gives (λ x. (turn_view x.0, x.1.now)) result
         (ended_at (members_view members.items) bytes.now) }
     ensures shorter { IfOk result (λ x. length x.1.now < length bytes.now) }
 {
@@ -350,13 +350,13 @@ fn opened(alloc: Global, bytes: &[u8]) -> Result<(Turn, &[u8]), Stop>
     ensures shorter { IfOk result (λ x. length x.1.now < length bytes.now) }
 {
     let white = white_text(alloc, bytes)?;
-    behind_white(alloc, white, skip_white(bytes))
+    behind_white(alloc, white.as_slice(), skip_white(bytes))
 }
 
-fn behind_white(alloc: Global, white: Vec<u8>, bytes: &[u8]) -> Result<(Turn, &[u8]), Stop>
-    requires { IsTrue (are_letters OfXml Awaits.Character white.items) }
+fn behind_white<'a>(alloc: Global, white: &[u8], bytes: &'a [u8]) -> Result<(Turn, &'a [u8]), Stop>
+    requires { IsTrue (are_letters OfXml Awaits.Character white.now) }
     ensures value { Gives (λ x. (turn_view x.0, x.1.now)) result
-        (behind_white white.items bytes.now) }
+        (behind_white white.now bytes.now) }
     ensures shorter { IfOk result (λ x. length x.1.now < length bytes.now) }
 {
     if begins_tag(bytes) {
@@ -377,30 +377,58 @@ fn begins_tag(bytes: &[u8]) -> bool
 }
 
 /// Reads a bare text after its white space.
-fn bare(alloc: Global, white: Vec<u8>, bytes: &[u8]) -> Result<(Turn, &[u8]), Stop>
-    requires { IsTrue (are_letters OfXml Awaits.Character white.items) }
-    ensures value { Gives (λ x. (turn_view x.0, x.1.now)) result (bare_at white.items bytes.now) }
+fn bare<'a>(alloc: Global, white: &[u8], bytes: &'a [u8]) -> Result<(Turn, &'a [u8]), Stop>
+    requires { IsTrue (are_letters OfXml Awaits.Character white.now) }
+    ensures value { Gives (λ x. (turn_view x.0, x.1.now)) result (bare_at white.now bytes.now) }
     ensures shorter { IfOk result (λ x. length x.1.now < length bytes.now) }
 {
-    let (text, rest) = characters(alloc, white.as_slice(), bytes)?;
+    let (text, rest) = characters(alloc, white, bytes)?;
     let rest = shut(Tag::EndValue, rest)?;
     Ok((Turn::Whole(Value::Text(text)), rest))
 }
 
 #[inline(always)]
-fn number(end: Tag, bytes: &[u8]) -> Result<(Turn, &[u8]), BadByte>
-    ensures value { GivesAlways (λ x. (turn_view x.0, x.1.now)) result (number_at end bytes.now) }
+fn number(end: Tag, bytes: &[u8]) -> Result<(Turn, &[u8]), Stop>
+    ensures value { Gives (λ x. (turn_view x.0, x.1.now)) result (number_at end bytes.now) }
     ensures shorter { IfOk result (λ x. length x.1.now < length bytes.now) }
 {
     let (number, rest) = integer(end, bytes)?;
     Ok((Turn::On(Stage::Formed(Value::Int(number))), rest))
 }
 
-/// Reads a form, or the closing tag of a value whose text is this white space.
+fn boolean(bytes: &[u8]) -> Result<(Turn, &[u8]), Stop>
+    ensures value { Gives (λ x. (turn_view x.0, x.1.now)) result (boolean_at bytes.now) }
+    ensures shorter { IfOk result (λ x. length x.1.now < length bytes.now) }
+{
+    let (truth, rest) = truth(bytes)?;
+    Ok((Turn::On(Stage::Formed(Value::Truth(truth))), rest))
+}
+
+fn string(alloc: Global, bytes: &[u8]) -> Result<(Turn, &[u8]), Stop>
+    ensures value { Gives (λ x. (turn_view x.0, x.1.now)) result (string_at bytes.now) }
+    ensures shorter { IfOk result (λ x. length x.1.now < length bytes.now) }
+{
+    let (text, rest) = content(alloc, Tag::EndString, bytes)?;
+    Ok((Turn::On(Stage::Formed(Value::Text(text))), rest))
+}
+
+/// Reads the end of the closing tag of a value whose text is this white space.
 #[tactic(auto, using(crate::proofs::Texts::xml_utf8))]
-fn typed(alloc: Global, white: Vec<u8>, bytes: &[u8]) -> Result<(Turn, &[u8]), Stop>
-    requires { IsTrue (are_letters OfXml Awaits.Character white.items) }
-    ensures value { Gives (λ x. (turn_view x.0, x.1.now)) result (typed_at white.items bytes.now) }
+fn only_white<'a>(alloc: Global, white: &[u8], bytes: &'a [u8]) -> Result<(Turn, &'a [u8]), Stop>
+    requires { IsTrue (are_letters OfXml Awaits.Character white.now) }
+    ensures value { Gives (λ x. (turn_view x.0, x.1.now)) result
+        (only_white_at white.now bytes.now) }
+    ensures shorter { IfOk result (λ x. length x.1.now < length bytes.now) }
+{
+    let rest = close(bytes)?;
+    let text = text_of(Vec::from_slice(alloc, white)?);
+    Ok((Turn::Whole(Value::Text(text)), rest))
+}
+
+/// Reads a form, or the closing tag of a value whose text is this white space.
+fn typed<'a>(alloc: Global, white: &[u8], bytes: &'a [u8]) -> Result<(Turn, &'a [u8]), Stop>
+    requires { IsTrue (are_letters OfXml Awaits.Character white.now) }
+    ensures value { Gives (λ x. (turn_view x.0, x.1.now)) result (typed_at white.now bytes.now) }
     ensures shorter { IfOk result (λ x. length x.1.now < length bytes.now) }
 {
     let (tag, rest) = next_tag(
@@ -424,51 +452,49 @@ fn typed(alloc: Global, white: Vec<u8>, bytes: &[u8]) -> Result<(Turn, &[u8]), S
 }
 
 /// Reads the form of this tag, or the end of a closing tag after this white space.
-#[tactic(auto, using(crate::proofs::Texts::xml_utf8))]
-fn form(alloc: Global, white: Vec<u8>, tag: Tag, bytes: &[u8]) -> Result<(Turn, &[u8]), Stop>
-    requires { IsTrue (are_letters OfXml Awaits.Character white.items) }
+fn form<'a>(
+    alloc: Global,
+    white: &[u8],
+    tag: Tag,
+    bytes: &'a [u8],
+) -> Result<(Turn, &'a [u8]), Stop>
+    requires { IsTrue (are_letters OfXml Awaits.Character white.now) }
     ensures value { Gives (λ x. (turn_view x.0, x.1.now)) result
-        (form_of white.items tag bytes.now) }
+        (form_of white.now tag bytes.now) }
     ensures shorter { IfOk result (λ x. length x.1.now ≤ length bytes.now) }
 {
     match tag {
-        Tag::I4 => Ok(number(Tag::EndI4, bytes)?),
-        Tag::Int => Ok(number(Tag::EndInt, bytes)?),
-        Tag::Boolean => {
-            let (truth, rest) = truth(bytes)?;
-            Ok((Turn::On(Stage::Formed(Value::Truth(truth))), rest))
-        }
-        Tag::String => {
-            let (text, rest) = content(alloc, Tag::EndString, bytes)?;
-            Ok((Turn::On(Stage::Formed(Value::Text(text))), rest))
-        }
+        Tag::I4 => number(Tag::EndI4, bytes),
+        Tag::Int => number(Tag::EndInt, bytes),
+        Tag::Boolean => boolean(bytes),
+        Tag::String => string(alloc, bytes),
         Tag::NoString => Ok((Turn::On(Stage::Formed(Value::Text(Text::fixed("")))), bytes)),
-        Tag::Double => other(alloc, Text::fixed("double"), Tag::EndDouble, bytes),
-        Tag::DateTime => other(
-            alloc,
-            Text::fixed("dateTime.iso8601"),
-            Tag::EndDateTime,
-            bytes,
-        ),
-        Tag::Base64 => other(alloc, Text::fixed("base64"), Tag::EndBase64, bytes),
+        Tag::Double => other(alloc, "double", Tag::EndDouble, bytes),
+        Tag::DateTime => other(alloc, "dateTime.iso8601", Tag::EndDateTime, bytes),
+        Tag::Base64 => other(alloc, "base64", Tag::EndBase64, bytes),
         Tag::Struct => Ok((Turn::On(Stage::Further(Vec::new(alloc))), bytes)),
         Tag::NoMembers => Ok((
             Turn::On(Stage::Formed(Value::Struct(Vec::new(alloc)))),
             bytes,
         )),
         Tag::Array => Ok((Turn::On(Stage::Data), bytes)),
-        _ => {
-            let rest = close(bytes)?;
-            Ok((Turn::Whole(Value::Text(text_of(white))), rest))
-        }
+        _ => only_white(alloc, white, bytes),
     }
 }
 
 /// Reads a form whose text is kept as it stands.
-fn other(alloc: Global, form: Text, end: Tag, bytes: &[u8]) -> Result<(Turn, &[u8]), Stop>
-    ensures value { Gives (λ x. (turn_view x.0, x.1.now)) result (other_at form end bytes.now) }
+fn other<'a>(
+    alloc: Global,
+    form: &'static str,
+    end: Tag,
+    bytes: &'a [u8],
+) -> Result<(Turn, &'a [u8]), Stop>
+    ensures value { Gives (λ x. (turn_view x.0, x.1.now)) result (other_at form.now end bytes.now) }
     ensures shorter { IfOk result (λ x. length x.1.now < length bytes.now) }
 {
     let (text, rest) = content(alloc, end, bytes)?;
-    Ok((Turn::On(Stage::Formed(Value::Other(form, text))), rest))
+    Ok((
+        Turn::On(Stage::Formed(Value::Other(Text::fixed(form), text))),
+        rest,
+    ))
 }

@@ -7,7 +7,7 @@ use std::alloc::{AllocError, AllocFailed};
 use sv_letters::BadByte;
 
 /// Why reading stops within a text.
-#[derive(Clone, Copy, Debug, PartialEq, Eq)]
+#[derive(Clone, Copy, PartialEq, Eq)]
 pub enum Stop {
     /// At the first byte with which no text goes on: the number of bytes from it to the end.
     At(usize),

@@ -7,7 +7,7 @@ use sv_letters::BadByte;
 
 /// What a text of XML-RPC is made of beside its characters: the tags, those of closing tags without the `>` at their
 /// end, the beginning of the declaration, and the entities, those by number without their number.
-#[derive(Clone, Copy, Debug, PartialEq, Eq)]
+#[derive(Clone, Copy, PartialEq, Eq)]
 pub enum Tag {
     Declaration,
     MethodCall,

@@ -2,7 +2,8 @@
 
 use std::alloc::Global;
 use std::process::Abort;
-use sv_xmlcall::{Answered, Value, read_call, read_reply, text_of_log, write_call, write_reply};
+use sv_xmlcall::{Answered, Value, text_of_log, write_call, write_reply};
+use sv_xmlread::{read_call, read_reply};
 
 /// The most bytes of a log's part.
 const MOST: usize = 1_048_576;

@@ -7,9 +7,9 @@ use std::alloc::Global;
 use std::process::Abort;
 use sv_xmlcall::call::{Answered, Call, CallFault};
 use sv_xmlcall::log::text_of_log;
-use sv_xmlcall::read::{read_call, read_reply};
 use sv_xmlcall::value::Value;
 use sv_xmlcall::write::{write_call, write_fault, write_reply};
+use sv_xmlread::{read_call, read_reply};
 
 const BEFORE_VALUE: &str = "<methodCall><methodName>m</methodName><params><param>";
 
