@@ -1,5 +1,6 @@
 //! Reports, reads and tickets that were worked out by hand.
 
+use crate::checks::check;
 use std::alloc::AllocError;
 use std::sync::Wait;
 use std::thread;
@@ -29,8 +30,8 @@ fn a_read_after_its_ticket(rt: HostRuntime) -> Result<(), AllocError> {
         let ticket = writer.report(&report("x", State::Running))?;
         reader.learn(ticket);
         let rows = reader.read(&rt)?;
-        assert_eq!(rt; rows.len(), 1);
-        assert!(rt; rows.iter().all(|row| is_row(row, "x", State::Running)));
+        check(&rt, rows.len() == 1);
+        check(&rt, rows.iter().all(|row| is_row(row, "x", State::Running)));
     }
     Ok(())
 }
@@ -38,9 +39,9 @@ fn a_read_after_its_ticket(rt: HostRuntime) -> Result<(), AllocError> {
 #[test]
 fn a_read_before_any_report(rt: HostRuntime) -> Result<(), AllocError> {
     let (_writer, readers) = board(rt.alloc(), &rt, 64)?;
-    assert_eq!(rt; readers.len(), 64);
+    check(&rt, readers.len() == 64);
     for mut reader in readers {
-        assert!(rt; reader.read(&rt)?.is_empty());
+        check(&rt, reader.read(&rt)?.is_empty());
     }
     Ok(())
 }
@@ -63,8 +64,8 @@ fn rows_in_the_order_of_first_reports(rt: HostRuntime) -> Result<(), AllocError>
             rows.get(2)
                 .is_some_and(|row| is_row(row, "z", State::Stopped)),
         ];
-        assert_eq!(rt; told, [true; 3]);
-        assert_eq!(rt; rows.len(), 3);
+        check(&rt, told == [true; 3]);
+        check(&rt, rows.len() == 3);
     }
     Ok(())
 }
@@ -89,7 +90,7 @@ fn a_reader_in_a_thread_of_its_own(rt: HostRuntime) -> Result<(), AllocError> {
         let thread = thread::spawn(&rt, move || read_until_running(&rt, reader))?;
         writer.report(&report("x", State::Starting))?;
         writer.report(&report("x", State::Running))?;
-        assert_eq!(rt; thread.join(&rt), 1);
+        check(&rt, thread.join(&rt) == 1);
     }
     Ok(())
 }

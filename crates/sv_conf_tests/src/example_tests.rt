@@ -1,5 +1,6 @@
 //! Examples of whole configurations, and what they tell.
 
+use crate::checks::same;
 use crate::tests::{fault_said, host, included, order_said, put_ended, words_said};
 use std::alloc::Global;
 use std::process::Abort;
@@ -240,17 +241,17 @@ fn example_row(rt: &impl Abort, alloc: Global, host: &Host, example: &Example) {
 
 fn example_patterns(rt: &impl Abort, alloc: Global, host: &Host, example: &Example) {
     let patterns = patterns_said(rt, alloc, host, example.text);
-    assert_eq!(rt; patterns.as_str(), example.patterns, "the patterns");
+    same(rt, patterns.as_str(), example.patterns);
 }
 
 fn example_order(rt: &impl Abort, alloc: Global, host: &Host, example: &Example) {
     let order = order_of(rt, alloc, host, example.text, example.extra);
-    assert_eq!(rt; order.as_str(), example.order, "the start order");
+    same(rt, order.as_str(), example.order);
 }
 
 fn example_words(rt: &impl Abort, alloc: Global, host: &Host, example: &Example) {
     let words = words_of(rt, alloc, host, example.text, example.extra);
-    assert_eq!(rt; words.as_str(), example.words, "the words");
+    same(rt, words.as_str(), example.words);
 }
 
 #[test]

@@ -1,5 +1,6 @@
 //! Configurations of 1,048,576 bytes, and of one more, and those with too many processes, with ample memory.
 
+use crate::checks::{check, same};
 use crate::tests::{fault_said, host, included, order_said};
 use std::alloc::Global;
 use std::process::Abort;
@@ -31,7 +32,7 @@ const LINES: (&str, &str) = (
 
 /// The same of texts with more processes than there may be, and how often the block stands: programs with 1,024 processes
 /// each, one such program in many groups, and programs with one process each.
-const CROWDS: [((&str, &str), u32); 3] = [
+static CROWDS: [((&str, &str), u32); 3] = [
     (
         (
             "",
@@ -51,7 +52,7 @@ const CROWDS: [((&str, &str), u32); 3] = [
 
 fn filled(rt: &impl Abort, alloc: Global, parts: (&str, &str)) -> String {
     let text = repeated(rt, alloc, parts, 16_383);
-    assert_eq!(rt; text.as_str().len(), MOST);
+    check(rt, text.as_str().len() == MOST);
     text
 }
 
@@ -74,7 +75,7 @@ fn with_words(rt: &impl Abort, alloc: Global, begin: &str, count: usize) -> Stri
     for _ in 0..count {
         text.push_str("abcdefghijklmno ").expect(rt, "memory");
     }
-    assert_eq!(rt; text.as_str().len(), MOST);
+    check(rt, text.as_str().len() == MOST);
     text
 }
 
@@ -98,7 +99,7 @@ fn said(rt: &impl Abort, alloc: Global, main: &str, more: &[(Text, Bytes)]) -> S
 
 fn is_said(rt: &impl Abort, alloc: Global, main: &str, more: &[(Text, Bytes)], wanted: &str) {
     let said = said(rt, alloc, main, more);
-    assert_eq!(rt; said.as_str(), wanted);
+    same(rt, said.as_str(), wanted);
 }
 
 /// The same of a text that another includes.
@@ -126,7 +127,7 @@ fn an_included_text_of_the_most_bytes_and_of_one_more(rt: HostRuntime) {
 
 #[test]
 fn crowds_are_refused(rt: HostRuntime) {
-    for (parts, count) in CROWDS {
+    for &(parts, count) in &CROWDS {
         is_too_many(&rt, rt.alloc(), parts, count);
     }
 }
@@ -145,7 +146,7 @@ fn a_command_of_the_most_bytes(rt: HostRuntime) {
 /// The first process of the text's configuration has a command of so many words.
 fn has_words(rt: &impl Abort, alloc: Global, text: &str, count: usize) {
     match configured(rt, alloc, text, &[]) {
-        Ok(config) => assert_eq!(rt; count_of_words(rt, &config), count),
+        Ok(config) => check(rt, count_of_words(rt, &config) == count),
         Err(_) => panic!(rt; "no configuration"),
     }
 }
@@ -171,7 +172,7 @@ fn patterns(rt: &impl Abort, alloc: Global, text: &str) -> Result<Vec<Text>, Con
 
 fn has_patterns(rt: &impl Abort, alloc: Global, text: &str, count: usize) {
     match patterns(rt, alloc, text) {
-        Ok(patterns) => assert_eq!(rt; patterns.len(), count),
+        Ok(patterns) => check(rt, patterns.len() == count),
         Err(_) => panic!(rt; "no patterns"),
     }
 }
@@ -185,5 +186,5 @@ fn has_no_patterns(rt: &impl Abort, alloc: Global, text: &str, wanted: &str) {
 
 fn is_refused(rt: &impl Abort, alloc: Global, fault: &ConfFault, wanted: &str) {
     let said = fault_said(rt, alloc, fault);
-    assert_eq!(rt; said.as_str(), wanted);
+    same(rt, said.as_str(), wanted);
 }

@@ -1,5 +1,6 @@
 //! Tables of values, of orders and of faults.
 
+use crate::checks::same;
 use std::alloc::{AllocError, Global};
 use std::process::Abort;
 use sv_base::bytes::Bytes;
@@ -635,7 +636,7 @@ fn value_is(
     expected: &str,
 ) {
     let said = value_of(rt, alloc, host, text, question);
-    assert_eq!(rt; said.as_str(), expected, "{question} of {text}");
+    same(rt, said.as_str(), expected);
 }
 
 /// The answer of the configuration of a row's texts, or the fault.
@@ -652,7 +653,7 @@ fn fault_row(rt: &impl Abort, alloc: Global, host: &Host, row: &str) {
     match read(rt, alloc, host, text) {
         Ok(config) => {
             let said = order_said(rt, alloc, &config);
-            assert_eq!(rt; said.as_str(), expected.as_str(), "the fault of {row}");
+            same(rt, said.as_str(), expected.as_str());
         }
         Err(fault) => is_said(rt, alloc, &fault, expected.as_str(), row),
     }
@@ -661,9 +662,9 @@ fn fault_row(rt: &impl Abort, alloc: Global, host: &Host, row: &str) {
 /// The fault has this text, and is shown by it.
 fn is_said(rt: &impl Abort, alloc: Global, fault: &ConfFault, expected: &str, row: &str) {
     let said = fault_said(rt, alloc, fault);
-    assert_eq!(rt; said.as_str(), expected, "the fault of {row}");
+    same(rt, said.as_str(), expected);
     let shown = format!(in alloc; "{fault}").expect(rt, "ample memory");
-    assert_eq!(rt; shown.as_str(), expected, "the shown fault of {row}");
+    same(rt, shown.as_str(), expected);
 }
 
 /// As many programs as this, each a group of its own.
@@ -685,7 +686,7 @@ fn groups_row(rt: &impl Abort, alloc: Global, host: &Host, count: u32, expected:
         Ok(config) => count_said(rt, alloc, &config),
         Err(fault) => fault_said(rt, alloc, &fault),
     };
-    assert_eq!(rt; said.as_str(), expected, "{count} programs");
+    same(rt, said.as_str(), expected);
 }
 
 /// How many groups there are.

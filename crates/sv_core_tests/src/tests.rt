@@ -1,5 +1,6 @@
 //! Journals of one child and of groups, each input with the orders that it brings.
 
+use crate::checks::check;
 use std::alloc::Global;
 use std::process::Abort;
 use sv_base::config::{ClientSpec, Config, Host};
@@ -308,15 +309,15 @@ fn is_wanted(order: &Order, wanted: Wanted) -> bool {
 
 /// The orders are just these.
 fn are_wanted(rt: &impl Abort, orders: &[Order], wanted: &[Wanted]) {
-    assert!(rt; orders.len() == wanted.len());
+    check(rt, orders.len() == wanted.len());
     let mut left = wanted;
     for order in orders {
         if let [first, rest @ ..] = left {
-            assert!(rt; is_wanted(order, *first));
+            check(rt, is_wanted(order, *first));
             left = rest;
         }
     }
-    assert!(rt; left.is_empty());
+    check(rt, left.is_empty());
 }
 
 /// What the machine orders by a line, which it takes.
@@ -339,11 +340,11 @@ fn orders_just(
 }
 
 /// The machine takes each line, and orders just this.
-fn check(rt: &impl Abort, alloc: Global, machine: &mut Machine, lines: &[(Line, &[Wanted])]) {
+fn takes_lines(rt: &impl Abort, alloc: Global, machine: &mut Machine, lines: &[(Line, &[Wanted])]) {
     for (line, wanted) in lines {
         orders_just(rt, alloc, machine, *line, *wanted);
     }
-    assert!(rt; !machine.broken());
+    check(rt, !machine.broken());
 }
 
 /// It stays up for its second, and then exits.
@@ -558,21 +559,21 @@ const SHUTDOWN_OF_GROUPS: [(Line, &[Wanted]); 14] = [
 /// A machine of these groups takes the lines, and doesn't halt.
 fn goes_on(rt: &impl Abort, alloc: Global, groups: Groups, lines: &[(Line, &[Wanted])]) {
     let mut machine = machine(rt, alloc, groups);
-    check(rt, alloc, &mut machine, lines);
-    assert!(rt; !machine.halted());
+    takes_lines(rt, alloc, &mut machine, lines);
+    check(rt, !machine.halted());
 }
 
 /// A machine of these groups takes the lines, halts, and takes no other.
 fn halts(rt: &impl Abort, alloc: Global, groups: Groups, lines: &[(Line, &[Wanted])]) {
     let mut machine = machine(rt, alloc, groups);
-    check(rt, alloc, &mut machine, lines);
-    assert!(rt; machine.halted());
+    takes_lines(rt, alloc, &mut machine, lines);
+    check(rt, machine.halted());
     takes_no_tick(rt, &machine);
 }
 
 fn takes_no_tick(rt: &impl Abort, machine: &Machine) {
     let late = input(rt, Line::Tick(4_000));
-    assert!(rt; !machine.accepts(&late));
+    check(rt, !machine.accepts(&late));
 }
 
 #[test]
@@ -614,11 +615,11 @@ fn only_the_awake_are_looked_at(rt: HostRuntime) {
     let alloc = rt.alloc();
     let mut machine = machine(&rt, alloc, a_thousand(&rt, alloc));
     for _ in 0..100 {
-        check(&rt, alloc, &mut machine, &IDLE_TICK);
+        takes_lines(&rt, alloc, &mut machine, &IDLE_TICK);
     }
     let idle = machine.looks();
-    assert!(rt; idle <= 100);
-    check(&rt, alloc, &mut machine, &START_OF_ONE);
+    check(&rt, idle <= 100);
+    takes_lines(&rt, alloc, &mut machine, &START_OF_ONE);
     let more = machine.looks().wrapping_sub(idle);
-    assert!(rt; 1 <= more && more <= 3);
+    check(&rt, 1 <= more && more <= 3);
 }

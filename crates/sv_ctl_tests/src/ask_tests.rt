@@ -1,6 +1,7 @@
 //! Calls over connections in memory, worked by hand: what is sent, and what each reply comes to.
 ghost use Rattle.std.specs.Prelude.{◌≤◌};
 
+use crate::checks::{check, same};
 use crate::replies::one_call;
 use std::alloc::Global;
 use std::collections::VecDeque;
@@ -94,7 +95,7 @@ fn url_told(rt: &impl Abort, alloc: Global, url: &str) -> String {
 
 fn url_is(rt: &impl Abort, alloc: Global, url: &str, expected: &str) {
     let told = url_told(rt, alloc, url);
-    assert_eq!(rt; told.as_str(), expected, "{url}");
+    same(rt, told.as_str(), expected);
 }
 
 fn url_row(rt: &impl Abort, alloc: Global, line: &str) {
@@ -247,13 +248,13 @@ fn told(rt: &impl Abort, alloc: Global, dial: &mut ScriptDial) -> String {
 
 fn is_told(rt: &impl Abort, alloc: Global, dial: &mut ScriptDial, expected: &str) {
     let text = told(rt, alloc, dial);
-    assert_eq!(rt; text.as_str(), expected);
+    same(rt, text.as_str(), expected);
 }
 
 /// The link was given back, after the request was sent over it.
 fn is_sent(rt: &impl Abort, dial: &ScriptDial) {
     match dial.exchanges() {
-        [exchange] => assert!(rt; exchange.sent.as_slice() == REQUEST.as_bytes()),
+        [exchange] => check(rt, exchange.sent.as_slice() == REQUEST.as_bytes()),
         _ => panic!(rt; "the link was given back"),
     }
 }
@@ -264,7 +265,7 @@ fn reply_is(rt: &impl Abort, alloc: Global, stream: &str, most: usize, expected:
 {
     let mut dial = dial_of(rt, alloc, stream, most, 0, 0);
     is_told(rt, alloc, &mut dial, expected);
-    assert!(rt; dial.faults() == 0);
+    check(rt, dial.faults() == 0);
     is_sent(rt, &dial);
 }
 
@@ -293,7 +294,7 @@ static FAILURES: [(u64, u64, &str, u64); 5] = [
 fn failure_is(rt: &impl Abort, alloc: Global, link: u64, dials: u64, expected: &str, faults: u64) {
     let mut dial = dial_of(rt, alloc, "#104~~$", 100_000, link, dials);
     is_told(rt, alloc, &mut dial, expected);
-    assert!(rt; dial.faults() == faults);
+    check(rt, dial.faults() == faults);
 }
 
 #[test]

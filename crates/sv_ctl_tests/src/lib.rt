@@ -5,6 +5,8 @@
 #[cfg(test)]
 mod ask_tests;
 #[cfg(test)]
+mod checks;
+#[cfg(test)]
 mod commands;
 #[cfg(test)]
 mod failures;

@@ -1,6 +1,7 @@
 //! Conversations over dials, shelves, inputs and outputs in memory.
 ghost use Rattle.std.specs.Prelude.{◌≤◌};
 
+use crate::checks::same;
 use crate::commands::{DEEDS, LOOKS, Row};
 use crate::failures::{BYTE_BY_BYTE, FAILURES, Failure, HEARD, IN_PIECES, PRINTED};
 use crate::replies::{dial_of, one_call};
@@ -257,7 +258,7 @@ fn has_line(
     requires { 1 ≤ most }
 {
     let line = line_of_session(rt, alloc, words, input, replies, most, failing);
-    assert_eq!(rt; line.as_str(), wanted, "{words} {input}");
+    same(rt, line.as_str(), wanted);
 }
 
 /// A conversation comes to this status and prints this text.
@@ -362,7 +363,7 @@ fn command_has_line(
     requires { 1 ≤ most }
 {
     let line = command_line(rt, alloc, words, replies, most);
-    assert_eq!(rt; line.as_str(), wanted, "{words}");
+    same(rt, line.as_str(), wanted);
 }
 
 /// What is expected of a command.
@@ -553,7 +554,7 @@ fn sent_with(rt: &impl Abort, alloc: Global, words: &str) -> String {
 fn credentials_are(rt: &impl Abort, alloc: Global, row: &(&str, &str)) {
     let (words, wanted) = *row;
     let sent = sent_with(rt, alloc, words);
-    assert_eq!(rt; sent_credentials(sent.as_str()), wanted, "{words}");
+    same(rt, sent_credentials(sent.as_str()), wanted);
 }
 
 #[test]
@@ -566,7 +567,7 @@ fn credentials_are_sent(rt: HostRuntime) {
 #[test]
 fn username_and_password_are_sent(rt: HostRuntime) {
     let sent = sent_with(&rt, rt.alloc(), "-u user -p abc pid");
-    assert_eq!(&rt; sent.as_str(), REQUEST);
+    same(&rt, sent.as_str(), REQUEST);
 }
 
 /// The calls on the link of a command in pieces of 100 bytes: three writes of its request, two reads of its reply.

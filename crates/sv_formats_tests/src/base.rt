@@ -1,5 +1,6 @@
 //! The words of tables, sizes and names, with what each stands for; and that calls succeed with ample memory.
 
+use crate::checks::{check, check_of};
 use std::alloc::{AllocFailed, Global};
 use std::collections::HashMap;
 use std::process::Abort;
@@ -106,34 +107,34 @@ fn reads_words(rt: HostRuntime) {
 
 fn check_signals(rt: &impl Abort) {
     for &(text, signal) in &SIGNALS {
-        assert!(rt; signal_of(text) == signal, "the signal of {text}");
+        check_of(rt, signal_of(text) == signal, text);
     }
 }
 
 fn check_sizes(rt: &impl Abort) {
     for &(text, size) in &SIZES {
-        assert!(rt; size_of_text(text) == size, "the size of {text}");
+        check_of(rt, size_of_text(text) == size, text);
     }
 }
 
 fn check_truths(rt: &impl Abort) {
     for &(text, truth) in &TRUTHS {
-        assert!(rt; truth_of(text) == truth, "the answer of {text}");
+        check_of(rt, truth_of(text) == truth, text);
     }
 }
 
 fn check_kinds(rt: &impl Abort) {
     for &(text, kind) in &KINDS {
-        assert!(rt; kind_of(text) == kind, "the kind of {text}");
+        check_of(rt, kind_of(text) == kind, text);
     }
 }
 
 fn check_name(rt: &impl Abort, alloc: Global, text: &str, group: &str, process: Option<&str>) {
     let parts = split_name(alloc, text).expect(rt, "memory");
-    assert!(rt; parts.0.as_str() == group, "the group of {text}");
+    check_of(rt, parts.0.as_str() == group, text);
     match (&parts.1, process) {
         (Some(found), Some(wanted)) => {
-            assert!(rt; found.as_str() == wanted, "the process of {text}");
+            check_of(rt, found.as_str() == wanted, text);
         }
         (None, None) => {}
         _ => panic!(rt; "the process of {text}"),
@@ -149,21 +150,18 @@ static MOODS: [(Mood, &str, i64); 3] = [
 #[test]
 fn moods_have_names_and_numbers(rt: HostRuntime) {
     for &(mood, name, number) in &MOODS {
-        assert!(rt;
-            mood.name() == name && mood.number() == number,
-            "the mood {name}"
-        );
+        check_of(&rt, mood.name() == name && mood.number() == number, name);
     }
 }
 
 #[test]
 fn succeeds_with_ample_memory(rt: HostRuntime) {
     let made = copies(&rt, rt.alloc());
-    assert!(rt; made == 3);
+    check(&rt, made == 3);
     copies_of_a_server(&rt, rt.alloc());
     copies_of_file_orders(&rt, rt.alloc());
     let found = found_by_text(&rt, rt.alloc());
-    assert!(rt; found == Some(7));
+    check(&rt, found == Some(7));
 }
 
 fn copies_of_a_server(rt: &impl Abort, alloc: Global) {

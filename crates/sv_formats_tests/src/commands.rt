@@ -1,4 +1,5 @@
 //! The commands, worked by hand: the calls that each makes, and what each answer prints.
+use crate::checks::same;
 use std::alloc::Global;
 use std::process::Abort;
 use sv_base::Text;
@@ -187,7 +188,7 @@ fn calls_in(rt: &impl Abort, alloc: Global, line: &str) -> String {
 
 fn calls_are(rt: &impl Abort, alloc: Global, words: &str, expected: &str) {
     let calls = calls_in(rt, alloc, words);
-    assert_eq!(rt; calls.as_str(), expected, "{words}");
+    same(rt, calls.as_str(), expected);
 }
 
 #[test]
@@ -362,7 +363,7 @@ fn printed_of(rt: &impl Abort, alloc: Global, line: &str, answer: &str) -> Strin
 
 fn prints(rt: &impl Abort, alloc: Global, words: &str, answer: &str, expected: &str) {
     let text = printed_of(rt, alloc, words, answer);
-    assert_eq!(rt; text.as_str(), expected, "{words}: {answer}");
+    same(rt, text.as_str(), expected);
 }
 
 #[test]

@@ -1,5 +1,6 @@
 //! The console, over a source in memory.
 
+use crate::checks::check;
 use crate::telling::{Course, bytes_of, holds, is_told, lane_of, notes_of, source_of};
 use std::alloc::Global;
 use std::process::Abort;
@@ -162,7 +163,7 @@ fn no_text(rt: &impl Abort, alloc: Global) -> Vec<u8> {
 /// A console over this source posts the second line alone.
 fn is_passed_over<R: Abort + Wait>(rt: &R, alloc: Global, source: &mut ListSource) {
     let (came, text) = heard(rt, alloc, source);
-    assert!(rt; came == PumpEnd::Ended && text.as_str() == "+c");
+    check(rt, came == PumpEnd::Ended && text.as_str() == "+c");
 }
 
 #[test]

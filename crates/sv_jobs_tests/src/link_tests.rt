@@ -1,5 +1,6 @@
 //! What serves a link, over a link in memory.
 
+use crate::checks::{check, check_of};
 use crate::telling::{Course, bytes_of, calls_of, holds, is_told, lane_of, notes_of};
 use std::alloc::Global;
 use std::collections::VecDeque;
@@ -140,7 +141,7 @@ fn serves<R: Abort + Wait>(
     let mut link = link_of(alloc, script);
     let came = is_served(rt, alloc, &mut link, words, course);
     let is_exchanged = is_exchanged(rt, alloc, link, exchanged);
-    assert!(rt; is_exchanged || came == PumpEnd::OutOfMemory, "{words}");
+    check_of(rt, is_exchanged || came == PumpEnd::OutOfMemory, words);
 }
 
 #[test]
@@ -171,7 +172,7 @@ fn pieces_grow<R: Abort + Wait>(rt: &R, taker: &mut Taker<Note>) {
     for expected in &[4_096, 8_192, 16_384, 32_768, 65_536, 65_536, 7_488] {
         assert!(rt; is_piece(&taker.take(rt), *expected), "{expected}");
     }
-    assert!(rt; matches!(&taker.take(rt), Note::LinkEnd(LinkId(7))));
+    check(rt, matches!(&taker.take(rt), Note::LinkEnd(LinkId(7))));
 }
 
 /// How the serving of a link of 200000 bytes ended.
@@ -184,6 +185,6 @@ fn served_large<R: Abort + Wait>(rt: &R, alloc: Global, notes: &mut Poster<Note>
 fn pieces_of_a_link_grow_while_reads_fill_them(rt: HostRuntime) {
     let mut notes = lane_of(&rt, rt.alloc());
     let came = served_large(&rt, rt.alloc(), &mut notes.poster);
-    assert!(rt; came == PumpEnd::Ended);
+    check(&rt, came == PumpEnd::Ended);
     pieces_grow(&rt, &mut notes.taker);
 }

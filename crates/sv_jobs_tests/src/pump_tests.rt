@@ -1,5 +1,6 @@
 //! The pump, over a source in memory.
 
+use crate::checks::check;
 use crate::telling::{Course, holds, is_told, lane_of, notes_of, source_of};
 use std::alloc::Global;
 use std::process::Abort;
@@ -86,7 +87,10 @@ fn pieces_grow<R: Abort + Wait>(rt: &R, taker: &mut Taker<Note>) {
     for expected in &[4_096, 8_192, 16_384, 32_768, 65_536, 65_536, 7_488] {
         assert!(rt; is_piece(&taker.take(rt), *expected), "{expected}");
     }
-    assert!(rt; matches!(&taker.take(rt), Note::OutEnd(Run(7), Stream::Out)));
+    check(
+        rt,
+        matches!(&taker.take(rt), Note::OutEnd(Run(7), Stream::Out)),
+    );
 }
 
 /// How a pump of 200000 bytes ended.
@@ -105,6 +109,6 @@ fn pumped_large<R: Abort + Wait>(rt: &R, alloc: Global, notes: &mut Poster<Note>
 fn pieces_grow_while_reads_fill_them(rt: HostRuntime) {
     let mut notes = lane_of(&rt, rt.alloc());
     let came = pumped_large(&rt, rt.alloc(), &mut notes.poster);
-    assert!(rt; came == PumpEnd::Ended);
+    check(&rt, came == PumpEnd::Ended);
     pieces_grow(&rt, &mut notes.taker);
 }

@@ -1,5 +1,6 @@
 //! The watch, what accepts links, and the ticker.
 
+use crate::checks::check;
 use crate::telling::{Lane, bytes_of, calls_of, holds, lane_of, letter, notes_of};
 use std::alloc::Global;
 use std::collections::VecDeque;
@@ -155,9 +156,9 @@ fn clock_of(rt: &impl Abort, alloc: Global) -> FixedClock {
 fn are_ticks<R: Abort + Wait>(rt: &R, notes: &mut Lane<Note>) {
     notes.poster.post(rt, Note::NoMemory);
     for _ in 0..3 {
-        assert!(rt; matches!(&notes.taker.take(rt), Note::Tick));
+        check(rt, matches!(&notes.taker.take(rt), Note::Tick));
     }
-    assert!(rt; matches!(&notes.taker.take(rt), Note::NoMemory));
+    check(rt, matches!(&notes.taker.take(rt), Note::NoMemory));
 }
 
 /// A ticker posts three ticks by this clock.
@@ -171,5 +172,8 @@ fn ticks<R: Abort + Wait>(rt: &R, alloc: Global, clock: &mut FixedClock) {
 fn a_ticker_pauses_before_each_tick(rt: HostRuntime) {
     let mut clock = clock_of(&rt, rt.alloc());
     ticks(&rt, rt.alloc(), &mut clock);
-    assert!(rt; clock.pauses().expect(&rt, "all told") == [1_000, 1_000, 1_000].as_slice());
+    check(
+        &rt,
+        clock.pauses().expect(&rt, "all told") == [1_000, 1_000, 1_000].as_slice(),
+    );
 }

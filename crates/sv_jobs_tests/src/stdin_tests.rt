@@ -1,5 +1,6 @@
 //! What writes a standard input, over a sink in memory.
 
+use crate::checks::check_of;
 use crate::telling::{Course, bytes_of, calls_of, holds, is_course, lane_of, notes_of};
 use std::alloc::Global;
 use std::process::Abort;
@@ -97,7 +98,7 @@ fn is_written<R: Abort + Wait>(
     written: &str,
 ) {
     is_heard(rt, alloc, sink, words, course);
-    assert!(rt; sink.written() == written.as_bytes(), "{words}");
+    check_of(rt, sink.written() == written.as_bytes(), words);
 }
 
 #[test]

@@ -1,5 +1,6 @@
 //! Jobs in threads of their own.
 
+use crate::checks::check;
 use crate::telling::{Lane, bytes_of, lane_of};
 use std::alloc::Global;
 use std::process::Abort;
@@ -123,7 +124,7 @@ fn count(rt: &impl Abort, heard: &mut Heard, note: &Note) {
         }
         Note::Wrote(_) => heard.wrote = heard.wrote.wrapping_add(1),
         Note::OutEnd(_, _) | Note::StdinEnd(_) => heard.ends = heard.ends.wrapping_add(1),
-        note => assert!(rt; false, "{note:?}"),
+        _ => panic!(rt; "another note"),
     }
 }
 
@@ -141,13 +142,13 @@ fn hear_jobs<R: Abort + Wait>(rt: &R, notes: &mut Taker<Note>) {
         }
         count(rt, &mut heard, &notes.take(rt));
     }
-    assert!(rt; heard.out_bytes == 1_000 && heard.err_bytes == 100_000);
-    assert!(rt; heard.wrote == 1 && heard.ends == 3);
+    check(rt, heard.out_bytes == 1_000 && heard.err_bytes == 100_000);
+    check(rt, heard.wrote == 1 && heard.ends == 3);
 }
 
 /// A job ends.
 fn ends<R: Abort + Threads>(rt: &R, job: JoinHandle<PumpEnd>) {
-    assert!(rt; job.join(rt) == PumpEnd::Ended);
+    check(rt, job.join(rt) == PumpEnd::Ended);
 }
 
 /// All three jobs end.

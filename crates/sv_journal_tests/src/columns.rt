@@ -1,5 +1,6 @@
 //! The columns at which lines break; a line that is read is written again as it stands.
 
+use crate::checks::check_of;
 use std::alloc::Global;
 use std::process::Abort;
 use sv_journal::{
@@ -65,17 +66,17 @@ fn place_of(rt: &impl Abort, fault: LineFault) -> usize {
 /// The input has this line.
 fn is_input(rt: &impl Abort, alloc: Global, input: &Input, line: &str) {
     let written = write_input(alloc, input).expect(rt, "memory");
-    assert!(rt; written.as_str() == line, "{line}");
+    check_of(rt, written.as_str() == line, line);
 }
 
 /// The line of a header is this one.
 fn is_header(rt: &impl Abort, alloc: Global, header: &Header, line: &str) {
     let written = write_header(alloc, header).expect(rt, "memory");
-    assert!(rt; written.as_str() == line, "{line}");
+    check_of(rt, written.as_str() == line, line);
 }
 
 /// The order has this line.
 pub fn is_order(rt: &impl Abort, alloc: Global, order: &Order, line: &str) {
     let written = write_order(alloc, order).expect(rt, "memory");
-    assert!(rt; written.as_str() == line, "{line}");
+    check_of(rt, written.as_str() == line, line);
 }

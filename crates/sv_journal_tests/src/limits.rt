@@ -1,5 +1,6 @@
 //! Lines of 4,194,304 bytes and of one more, with ample memory.
 
+use crate::checks::check;
 use crate::columns::{Kind, column};
 use std::alloc::Global;
 use std::process::Abort;
@@ -26,10 +27,10 @@ fn line_of(rt: &impl Abort, alloc: Global, prefix: &str, length: usize) -> Strin
 /// A line with this prefix is read at its limit and written as it stands; one more byte is too many.
 fn has_its_limit(rt: &impl Abort, alloc: Global, kind: Kind, prefix: &str) {
     let mut line = line_of(rt, alloc, prefix, MOST);
-    assert_eq!(rt; line.as_str().len(), MOST);
-    assert!(rt; column(rt, alloc, kind, line.as_str()).is_none());
+    check(rt, line.as_str().len() == MOST);
+    check(rt, column(rt, alloc, kind, line.as_str()).is_none());
     line.push('r').expect(rt, "memory");
-    assert!(rt; column(rt, alloc, kind, line.as_str()) == Some(MOST));
+    check(rt, column(rt, alloc, kind, line.as_str()) == Some(MOST));
 }
 
 #[test]

@@ -1,5 +1,6 @@
 //! Lines are read or break at their column, and are read as what they say.
 
+use crate::checks::{check, check_of};
 use crate::columns::{Kind, column};
 use crate::limits::put_times;
 use crate::lines::{
@@ -18,7 +19,7 @@ use sv_out::rising::RisingNames;
 fn break_at(rt: &impl Abort, alloc: Global, kind: Kind, rows: &[(&str, Option<usize>)]) {
     for (line, wanted) in rows {
         let found = column(rt, alloc, kind, line);
-        assert!(rt; found == *wanted, "{line}");
+        check_of(rt, found == *wanted, line);
     }
 }
 
@@ -61,15 +62,15 @@ fn do_rise(rt: &impl Abort, alloc: Global, names: &[&'static str]) -> bool {
 #[test]
 fn names_rise(rt: HostRuntime) {
     for (list, rise) in &LISTS {
-        assert!(&rt; do_rise(&rt, rt.alloc(), list) == *rise);
+        check(&rt, do_rise(&rt, rt.alloc(), list) == *rise);
     }
 }
 
 /// These are the names.
 fn are_names(rt: &impl Abort, found: &[Text], wanted: &[&str]) {
-    assert!(rt; found.len() == wanted.len());
+    check(rt, found.len() == wanted.len());
     for (name, other) in found.iter().zip(wanted.iter()) {
-        assert!(rt; name.as_str() == *other, "{other}");
+        check_of(rt, name.as_str() == *other, other);
     }
 }
 
@@ -117,7 +118,7 @@ fn a_piece_has_at_most_65536_bytes(rt: HostRuntime) {
     let alloc = rt.alloc();
     for (begin, unit, count, end, wanted) in &LONG_PIECES {
         let found = column_of_long(&rt, alloc, begin, unit, *count, end);
-        assert!(&rt; found == *wanted, "{begin}");
+        check_of(&rt, found == *wanted, begin);
     }
 }
 
@@ -185,6 +186,6 @@ fn is_read_as(alloc: Global, line: &str, wanted: Wanted) -> bool {
 #[test]
 fn headers_are_read(rt: HostRuntime) {
     for (line, wanted) in &READ_HEADERS {
-        assert!(&rt; is_read_as(rt.alloc(), line, *wanted), "{line}");
+        check_of(&rt, is_read_as(rt.alloc(), line, *wanted), line);
     }
 }

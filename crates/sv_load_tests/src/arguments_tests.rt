@@ -1,5 +1,6 @@
 //! Lines of words, each with what it says, by the words that the daemon is documented to take.
 
+use crate::checks::same;
 use std::alloc::Global;
 use std::process::Abort;
 use sv_arguments::arguments_of;
@@ -60,7 +61,7 @@ fn told(rt: &impl Abort, alloc: Global, words: &[Text]) -> String {
 
 fn are_told(rt: &impl Abort, alloc: Global, words: &[Text], expected: &str) {
     let text = told(rt, alloc, words);
-    assert_eq!(rt; text.as_str(), expected);
+    same(rt, text.as_str(), expected);
 }
 
 fn line_is(rt: &impl Abort, alloc: Global, line: &str, expected: &str) {

@@ -2,6 +2,7 @@
 //! order, and a signal two, of which the last is the halt.
 ghost use Rattle.std.specs.Prelude.{◌≡◌, ◌++◌, ◌∷◌, [], IfOk, OnOk, false, nat_lt};
 
+use crate::checks::same;
 use std::alloc::{AllocError, Global};
 use std::process::Abort;
 use sv_base::{DaemonSignal, LinkId, Moment, Signal};
@@ -197,7 +198,7 @@ fn told(rt: &impl Abort, alloc: Global, end: End, parts: &Parts) -> String {
 
 fn is_told(rt: &impl Abort, alloc: Global, end: End, parts: &Parts, expected: &str) {
     let text = told(rt, alloc, end, parts);
-    assert_eq!(rt; text.as_str(), expected);
+    same(rt, text.as_str(), expected);
 }
 
 /// A course comes to what its row says.

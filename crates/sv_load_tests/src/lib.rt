@@ -5,6 +5,8 @@
 #[cfg(test)]
 mod arguments_tests;
 #[cfg(test)]
+mod checks;
+#[cfg(test)]
 mod daemon_tests;
 #[cfg(test)]
 mod load_tests;

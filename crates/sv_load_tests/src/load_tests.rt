@@ -1,6 +1,7 @@
 //! Configurations that are read from shelves, worked by hand: which files are read, and what each failing call gives.
 ghost use Rattle.std.specs.Prelude.{◌≡◌, None};
 
+use crate::checks::{check_of, same};
 use std::alloc::Global;
 use std::process::Abort;
 use sv_base::{Bytes, Host, Items, Moment, Text};
@@ -107,7 +108,7 @@ fn told<S: Shelf>(rt: &impl Abort, alloc: Global, shelf: &mut S) -> String {
 
 fn is_told<S: Shelf>(rt: &impl Abort, alloc: Global, shelf: &mut S, expected: &str) {
     let text = told(rt, alloc, shelf);
-    assert_eq!(rt; text.as_str(), expected);
+    same(rt, text.as_str(), expected);
 }
 
 fn failing_at(rt: &impl Abort, alloc: Global, call: u64) -> MapShelf {
@@ -130,7 +131,7 @@ fn failure_is(rt: &impl Abort, alloc: Global, call: u64, expected: &str) {
     let mut shelf = files_failing_at(rt, alloc, call);
     is_told(rt, alloc, &mut shelf, expected);
     let failed = if call < 8 { 1 } else { 0 };
-    assert!(rt; shelf.faults() == failed, "call {call}");
+    assert!(rt; shelf.faults() == failed, "{call}");
 }
 
 #[test]
@@ -147,7 +148,7 @@ fn refusal_is(rt: &impl Abort, alloc: Global, refused: &(&str, &str, &str, u64))
     add_file(rt, alloc, &mut shelf, "/s.conf", main);
     add_file(rt, alloc, &mut shelf, "/d/a", text);
     is_told(rt, alloc, &mut shelf, expected);
-    assert!(rt; shelf.faults() == faults, "{main}");
+    check_of(rt, shelf.faults() == faults, main);
 }
 
 #[test]

@@ -1,5 +1,6 @@
 //! Outcomes with the lines and the statuses that are told of them.
 
+use crate::checks::same;
 use std::alloc::Global;
 use std::process::Abort;
 use sv_base::Text;
@@ -56,13 +57,13 @@ fn status_told(alloc: Global, letter: u8, out: &mut ListSink) -> u8 {
 
 fn is_text(rt: &impl Abort, alloc: Global, bytes: &[u8], expected: &str) {
     let text = String::from_utf8_lossy(alloc, bytes).expect(rt, "memory");
-    assert_eq!(rt; text.as_str(), expected);
+    same(rt, text.as_str(), expected);
 }
 
 fn leaves(rt: &impl Abort, alloc: Global, letter: u8, status: u8, line: &str) {
     let mut out = sink(rt, alloc, 0);
     let told = status_told(alloc, letter, &mut out);
-    assert_eq!(rt; told, status, "{letter}");
+    assert!(rt; told == status, "{letter}");
     is_text(rt, alloc, out.written(), line);
 }
 
@@ -77,7 +78,7 @@ fn each_outcome_leaves_its_line(rt: HostRuntime) {
 fn fails(rt: &impl Abort, alloc: Global, letter: u8, status: u8, length: usize) {
     let mut out = sink(rt, alloc, 2);
     let told = status_told(alloc, letter, &mut out);
-    assert_eq!(rt; told, status, "{letter}");
+    assert!(rt; told == status, "{letter}");
     assert!(rt; out.written().len() == length, "{letter}");
 }
 

@@ -1,5 +1,6 @@
 //! Headers and lines, worked by hand.
 
+use crate::checks::same;
 use std::alloc::Global;
 use std::process::Abort;
 use sv_base::{Bytes, DaemonSignal, Host, Items, Moment, Signal, Text};
@@ -172,7 +173,7 @@ fn long(rt: &impl Abort, alloc: Global) -> Vec<u8> {
 /// The bytes are those of this text.
 fn is_text(rt: &impl Abort, alloc: Global, bytes: &[u8], expected: &str) {
     let text = String::from_utf8_lossy(alloc, bytes).expect(rt, "memory");
-    assert_eq!(rt; text.as_str(), expected);
+    same(rt, text.as_str(), expected);
 }
 
 #[test]

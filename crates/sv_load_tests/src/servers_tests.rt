@@ -1,5 +1,6 @@
 //! The servers of configurations, and words and files that name none.
 
+use crate::checks::same;
 use std::alloc::Global;
 use std::process::Abort;
 use sv_base::{Bytes, Host, Items, Moment, Password, Place, ServerSpec, Text};
@@ -146,7 +147,7 @@ fn servers_said(rt: &impl Abort, alloc: Global, words: &str, failing: u64) -> St
 
 fn row_is(rt: &impl Abort, alloc: Global, words: &str, failing: u64, expected: &str) {
     let text = servers_said(rt, alloc, words, failing);
-    assert_eq!(rt; text.as_str(), expected, "{words} {failing}");
+    same(rt, text.as_str(), expected);
 }
 
 #[test]

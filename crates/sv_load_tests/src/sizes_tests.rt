@@ -1,6 +1,7 @@
 //! Sizes that are read from shelves, worked by hand: the log files `/e`, `/m` and `/p` in this order, one of which two processes
 //! write.
 
+use crate::checks::same;
 use std::alloc::Global;
 use std::process::Abort;
 use sv_base::config::{ClientSpec, Config};
@@ -159,7 +160,7 @@ fn told(rt: &impl Abort, alloc: Global, config: &Config, shelf: &mut MapShelf) -
 
 fn is_told(rt: &impl Abort, alloc: Global, config: &Config, shelf: &mut MapShelf, expected: &str) {
     let text = told(rt, alloc, config, shelf);
-    assert_eq!(rt; text.as_str(), expected);
+    same(rt, text.as_str(), expected);
 }
 
 fn call_is(rt: &impl Abort, alloc: Global, config: &Config, call: u64, expected: &str) {

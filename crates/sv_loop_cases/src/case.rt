@@ -73,8 +73,8 @@ fn status_of(digit: &str) -> u8 {
     }
 }
 
-/// One more line of a text.
-fn put(text: &mut String, line: &str) -> Result<(), AllocError> {
+/// Puts a line behind a text.
+pub(crate) fn put_line(text: &mut String, line: &str) -> Result<(), AllocError> {
     text.push_str(line)?;
     text.push('\n')
 }
@@ -99,9 +99,9 @@ impl Case {
             self.status = status_of(digit);
             Ok(())
         } else if self.is_given {
-            put(&mut self.wanted, line)
+            put_line(&mut self.wanted, line)
         } else {
-            put(&mut self.lines, line)
+            put_line(&mut self.lines, line)
         }
     }
 }

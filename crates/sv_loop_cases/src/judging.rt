@@ -1,6 +1,6 @@
 //! Whether a case comes out as it is written.
 
-use crate::case::{Case, Form};
+use crate::case::{Case, Form, put_line};
 use crate::playing::{breaks, gives, play};
 use crate::scripts::spell;
 use std::alloc::{AllocError, Global};
@@ -20,24 +20,27 @@ fn put_cut(journal: &mut String, token: &str, at: usize) -> Result<(), AllocErro
     journal.push_str(PIECE)?;
     for (place, letter) in token.chars().enumerate() {
         if place == at {
-            journal.push('\n')?;
+            put_line(journal, "")?;
             journal.push_str(PIECE)?;
         }
         journal.push(letter)?;
     }
-    journal.push('\n')
+    put_line(journal, "")
+}
+
+/// A line of the journal whose piece is cut at a place.
+fn put_line_cut(journal: &mut String, line: &str, at: usize) -> Result<(), AllocError> {
+    match line.strip_prefix(PIECE) {
+        Some(token) => put_cut(journal, token, at),
+        None => put_line(journal, line),
+    }
 }
 
 /// The journal whose piece is cut at a place.
 fn cut(alloc: Global, lines: &str, at: usize) -> Result<String, AllocError> {
     let mut journal = String::new(alloc);
     for line in lines.lines() {
-        if let Some(token) = line.strip_prefix(PIECE) {
-            put_cut(&mut journal, token, at)?;
-        } else {
-            journal.push_str(line)?;
-            journal.push('\n')?;
-        }
+        put_line_cut(&mut journal, line, at)?;
     }
     Ok(journal)
 }
@@ -56,7 +59,7 @@ fn token_of(lines: &str) -> &str {
 fn cuts_at(alloc: Global, case: &Case, at: usize) -> Result<bool, AllocError> {
     let journal = cut(alloc, case.lines.as_str(), at)?;
     let played = play(alloc, journal.as_str(), 4_096, 0, 0)?;
-    Ok(played.status == case.status && played.written.as_slice() == case.wanted.as_str().as_bytes())
+    Ok(played.is(case.status, case.wanted.as_str()))
 }
 
 /// Whether it gives the same wherever its piece is cut.
@@ -99,12 +102,12 @@ fn performs(alloc: Global, lines: &str) -> Result<bool, AllocError> {
 
 /// Whether a case comes out as it is written.
 pub(crate) fn is_as_written(alloc: Global, case: &Case) -> Result<bool, AllocError> {
-    let lines = case.lines.as_str();
+    let (lines, wanted) = (case.lines.as_str(), case.wanted.as_str());
     match case.form {
-        Form::Journal => holds(alloc, lines, case.status, case.wanted.as_str()),
+        Form::Journal => holds(alloc, lines, case.status, wanted),
         Form::Unended => {
             let journal = lines.strip_suffix("\n").unwrap_or(lines);
-            holds(alloc, journal, case.status, case.wanted.as_str())
+            holds(alloc, journal, case.status, wanted)
         }
         Form::Cut => cuts(alloc, case),
         Form::Script => performs(alloc, lines),

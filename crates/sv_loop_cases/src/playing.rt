@@ -17,7 +17,7 @@ pub(crate) struct Played {
 
 /// The most bytes of a piece: single bytes; 7; 16, so that the title lies over two pieces and a program's line over three; all of a
 /// title but its line feed; a whole title; and the whole journal.
-const PIECES: [usize; 6] = [1, 7, 16, 20, 21, 1_000_000];
+static PIECES: [usize; 6] = [1, 7, 16, 20, 21, 1_000_000];
 
 /// A list of this one call.
 fn only(alloc: Global, call: u64) -> Result<Vec<u64>, AllocError> {
@@ -45,12 +45,27 @@ fn sink(alloc: Global, write: u64) -> Result<ListSink, AllocError> {
     Ok(ListSink::new(alloc, 1_000_000, only(alloc, write)?))
 }
 
+/// The status of a replay.
+fn status_of(
+    alloc: Global,
+    source: &mut ListSource,
+    sink: &mut ListSink,
+) -> Result<u8, AllocError> {
+    let words = words(alloc)?;
+    Ok(replay(alloc, words.as_slice(), source, sink))
+}
+
 /// What a replay came to, with a copy of what it wrote.
-fn copied(alloc: Global, status: u8, faults: u64, written: &[u8]) -> Result<Played, AllocError> {
+fn replayed(
+    alloc: Global,
+    source: &mut ListSource,
+    sink: &mut ListSink,
+) -> Result<Played, AllocError> {
+    let status = status_of(alloc, source, sink)?;
     Ok(Played {
         status,
-        written: Vec::from_slice(alloc, written)?,
-        faults,
+        written: Vec::from_slice(alloc, sink.written())?,
+        faults: source.faults().saturating_add(sink.faults()),
     })
 }
 
@@ -62,12 +77,34 @@ pub(crate) fn play(
     read: u64,
     write: u64,
 ) -> Result<Played, AllocError> {
-    let words = words(alloc)?;
     let mut source = source(alloc, journal, most, read)?;
     let mut sink = sink(alloc, write)?;
-    let status = replay(alloc, words.as_slice(), &mut source, &mut sink);
-    let faults = source.faults().saturating_add(sink.faults());
-    copied(alloc, status, faults, sink.written())
+    replayed(alloc, &mut source, &mut sink)
+}
+
+impl Played {
+    /// Whether it came to this.
+    pub(crate) fn is(&self, status: u8, written: &str) -> bool {
+        self.status == status && self.written.as_slice() == written.as_bytes()
+    }
+
+    /// Whether it broke off where a read failed: with status 1, after a prefix and `fault 1`.
+    fn is_broken_at_read(&self, status: u8) -> bool {
+        if self.faults == 0 {
+            self.status == status
+        } else {
+            self.status == 1 && self.written.as_slice().ends_with(b"fault 1\n")
+        }
+    }
+
+    /// Whether it broke off where a write failed: with status 4, after a prefix of what is wanted.
+    fn is_broken_at_write(&self, status: u8, wanted: &str) -> bool {
+        if self.faults == 0 {
+            self.status == status
+        } else {
+            self.status == 4 && wanted.as_bytes().starts_with(self.written.as_slice())
+        }
+    }
 }
 
 /// Whether the replay of a journal ends with this status and writes this, whatever the pieces.
@@ -77,26 +114,19 @@ pub(crate) fn gives(
     status: u8,
     wanted: &str,
 ) -> Result<bool, AllocError> {
-    for most in PIECES {
-        let played = play(alloc, journal, most, 0, 0)?;
-        if played.status != status || played.written.as_slice() != wanted.as_bytes() {
+    for &most in &PIECES {
+        if !play(alloc, journal, most, 0, 0)?.is(status, wanted) {
             return Ok(false);
         }
     }
     Ok(true)
 }
 
-/// Whether it breaks off where a read fails: with status 1, after a prefix and `fault 1`.
 fn breaks_at_read(alloc: Global, journal: &str, status: u8, read: u64) -> Result<bool, AllocError> {
     let played = play(alloc, journal, 16, read, 0)?;
-    Ok(if played.faults == 0 {
-        played.status == status
-    } else {
-        played.status == 1 && played.written.as_slice().ends_with(b"fault 1\n")
-    })
+    Ok(played.is_broken_at_read(status))
 }
 
-/// Whether it breaks off where a write fails: with status 4, after a prefix of what is wanted.
 fn breaks_at_write(
     alloc: Global,
     journal: &str,
@@ -105,11 +135,7 @@ fn breaks_at_write(
     write: u64,
 ) -> Result<bool, AllocError> {
     let played = play(alloc, journal, 4_096, 0, write)?;
-    Ok(if played.faults == 0 {
-        played.status == status
-    } else {
-        played.status == 4 && wanted.as_bytes().starts_with(played.written.as_slice())
-    })
+    Ok(played.is_broken_at_write(status, wanted))
 }
 
 /// Whether it ends as it should where one of its first reads or writes fails.

@@ -1,6 +1,7 @@
 //! A journal of more than a mebibyte through the adapters of standard input and output, over a reader and a writer that
 //! give and take a few bytes at a time.
 
+use crate::checks::check;
 use std::alloc::Global;
 use std::io;
 use std::io::{Read, Write};
@@ -81,7 +82,7 @@ fn text_of(rt: &impl Abort, alloc: Global, first: &str, prefix: &str) -> Vec<u8>
 /// A journal of more than a mebibyte, read at most so many bytes at a time.
 fn reads_of(rt: &impl Abort, alloc: Global, most: usize) -> ShortReads {
     let bytes = text_of(rt, alloc, HEADER, "1 out 1 ");
-    assert!(rt; bytes.len() > 1_048_576);
+    check(rt, bytes.len() > 1_048_576);
     ShortReads { bytes, at: 0, most }
 }
 
@@ -102,7 +103,7 @@ fn replayed(rt: &impl Abort, alloc: Global, reads: usize, writes: usize) -> Vec<
     let mut sink = WriteSink::new(&mut written);
     let status = replay(alloc, words.as_slice(), &mut source, &mut sink);
     drop(sink);
-    assert_eq!(rt; status, 0);
+    check(rt, status == 0);
     written.bytes
 }
 
@@ -110,7 +111,7 @@ fn replayed(rt: &impl Abort, alloc: Global, reads: usize, writes: usize) -> Vec<
 fn plays(rt: &impl Abort, alloc: Global, reads: usize, writes: usize) {
     let written = replayed(rt, alloc, reads, writes);
     let wanted = text_of(rt, alloc, FIRST_ORDERS, "append /o ");
-    assert!(rt; written.as_slice() == wanted.as_slice());
+    check(rt, written.as_slice() == wanted.as_slice());
 }
 
 #[test]

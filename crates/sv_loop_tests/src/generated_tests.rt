@@ -1,5 +1,6 @@
 //! Generated runs, and the words that ask for one. The lines are those of `generated_lines.txt`, which another program worked out.
 
+use crate::checks::check;
 use crate::tests::USAGE;
 use std::alloc::Global;
 use std::process::Abort;
@@ -56,8 +57,8 @@ fn end(rt: &impl Abort, alloc: Global, words: &[Text], failing: u64, status: u8,
     let mut calls = Vec::new(alloc);
     calls.push(failing).expect(rt, "memory");
     let mut sink = ListSink::new(alloc, 1_000_000, calls);
-    assert_eq!(rt; replay(alloc, words, &mut source, &mut sink), status);
-    assert!(rt; sink.written() == written);
+    check(rt, replay(alloc, words, &mut source, &mut sink) == status);
+    check(rt, sink.written() == written);
 }
 
 /// The run of this number ends with 0, having written its line.

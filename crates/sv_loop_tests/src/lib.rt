@@ -5,6 +5,8 @@
 #[cfg(test)]
 mod adapter_tests;
 #[cfg(test)]
+mod checks;
+#[cfg(test)]
 mod generated_tests;
 #[cfg(test)]
 mod order_tests;

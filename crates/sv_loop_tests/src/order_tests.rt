@@ -2,6 +2,7 @@
 
 ghost use Rattle.std.specs.Prelude.{None};
 
+use crate::checks::check;
 use std::cell::Cell;
 use std::process::Abort;
 use sv_base::text::Text;
@@ -120,8 +121,8 @@ fn orders_are_written_before_the_next_line_is_read(rt: HostRuntime) {
     };
     let mut sink = CountingSink { written: &written };
     let status = replay(alloc, words.as_slice(), &mut source, &mut sink);
-    assert!(rt; status == 5);
-    assert!(rt; !source.is_late);
-    assert!(rt; source.next == 9);
-    assert!(rt; written.get() == 241);
+    check(&rt, status == 5);
+    check(&rt, !source.is_late);
+    check(&rt, source.next == 9);
+    check(&rt, written.get() == 241);
 }

@@ -2,6 +2,7 @@
 
 ghost use Rattle.std.specs.Prelude.{None};
 
+use crate::checks::check;
 use std::alloc::Global;
 use std::process::Abort;
 use sv_base::text::Text;
@@ -39,8 +40,8 @@ fn refuse(
 ) {
     let mut source = source(rt, alloc, b"", 1, 0);
     let mut sink = sink(rt, alloc, failing);
-    assert_eq!(rt; replay(alloc, words, &mut source, &mut sink), status);
-    assert!(rt; sink.written() == written);
+    check(rt, replay(alloc, words, &mut source, &mut sink) == status);
+    check(rt, sink.written() == written);
 }
 
 pub(crate) const USAGE: &[u8] = b"Error: usage: sv_replay run or sv_replay gen N\n";
@@ -132,11 +133,11 @@ fn fill(rt: &impl Abort, alloc: Global, first: usize, all: usize, status: u8, la
     let mut source = LongLines { at: 0, first, all };
     let words = words(rt, alloc, "run");
     let mut sink = sink(rt, alloc, 0);
-    assert_eq!(rt;
-        replay(alloc, words.as_slice(), &mut source, &mut sink),
-        status
+    check(
+        rt,
+        replay(alloc, words.as_slice(), &mut source, &mut sink) == status,
     );
-    assert!(rt; sink.written().ends_with(last));
+    check(rt, sink.written().ends_with(last));
 }
 
 const FIRST: usize = LENGTH - 68;

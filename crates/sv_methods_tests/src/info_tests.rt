@@ -1,6 +1,7 @@
 //! What is said of the daemon and of its processes: the short answers, the structs, and descriptions at their borders.
 
 use crate::act_tests::{come_out_over, outcome_over};
+use crate::checks::check_of;
 use crate::made::{is_text, made};
 use crate::scenes::{BUSY, ENDED};
 use std::alloc::{AllocError, Global};
@@ -124,7 +125,7 @@ fn is_described(rt: &impl Abort, alloc: Global, row: &str) {
 
 /// The description is the one that the row wants.
 fn is_the_description(rt: &impl Abort, description: &str, wanted: &str, row: &str) {
-    assert_eq!(rt; description, wanted, "{row}");
+    check_of(rt, description == wanted, row);
 }
 
 #[test]

@@ -5,6 +5,8 @@
 #[cfg(test)]
 mod act_tests;
 #[cfg(test)]
+mod checks;
+#[cfg(test)]
 mod info_tests;
 #[cfg(test)]
 mod log_tests;

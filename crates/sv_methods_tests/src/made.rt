@@ -1,5 +1,6 @@
 //! What a call gave: the value alone, without what its contract says of it.
 
+use crate::checks::check;
 use std::alloc::AllocError;
 use std::process::Abort;
 
@@ -15,5 +16,5 @@ pub fn found<T>(rt: &impl Abort, option: Option<T>, what: &str) -> T {
 
 /// The text is the one that is wanted.
 pub fn is_text(rt: &impl Abort, text: &str, wanted: &str) {
-    assert_eq!(rt; text, wanted);
+    check(rt, text == wanted);
 }

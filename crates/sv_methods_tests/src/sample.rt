@@ -74,7 +74,7 @@ const GROUPS: [(&str, i32, &[Process]); 4] = [
 ];
 
 /// The sizes of log files that are known, in bytes. Of `/a.out` none is known.
-const SIZES: [(&str, u64); 6] = [
+static SIZES: [(&str, u64); 6] = [
     ("/main.log", 10),
     ("/cat.out", 10),
     ("/a.err", 3_000_000),
@@ -178,7 +178,7 @@ pub fn config(alloc: Global, groups: Groups, has_main: bool, rpc: bool) -> Confi
 /// The known sizes. Of two sizes of one file the first counts.
 pub fn sizes(rt: &impl Abort, alloc: Global) -> Vec<(Text, u64)> {
     let mut sizes = Vec::new(alloc);
-    for (file, size) in SIZES {
+    for &(file, size) in &SIZES {
         sizes.push((Text::fixed(file), size)).expect(rt, "memory");
     }
     sizes

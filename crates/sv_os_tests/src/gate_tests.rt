@@ -1,5 +1,6 @@
 //! Jobs in threads of their own.
 
+use crate::checks::check;
 use crossbeam_channel::{Receiver, Sender, bounded};
 use std::alloc::Global;
 use std::process::Abort;
@@ -34,7 +35,7 @@ fn start_all<J: Job, G: Gate<J> + Drop>(rt: &impl Abort, gate: G, jobs: Vec<J>)
 {
     let mut gate = Ready::new(gate);
     for job in jobs {
-        assert!(rt; hand(&mut gate, job));
+        check(rt, hand(&mut gate, job));
     }
 }
 
@@ -133,11 +134,11 @@ pub(crate) fn add<J: Drop>(rt: &impl Abort, jobs: &mut Vec<J>, job: J) {
 /// Lets two jobs go, and hears the numbers 3 and 4.
 fn let_go<R: Abort + Wait>(rt: &R, talk: &Talk) {
     for _ in 0..2 {
-        assert!(rt; talk.go.to.send(rt, ()).is_ok());
+        check(rt, talk.go.to.send(rt, ()).is_ok());
     }
     let first = talk.done.from.recv(rt).expect(rt, "a job is done");
     let second = talk.done.from.recv(rt).expect(rt, "the other job is done");
-    assert!(rt; (first, second) == (3, 4) || (first, second) == (4, 3));
+    check(rt, (first, second) == (3, 4) || (first, second) == (4, 3));
 }
 
 /// None of the jobs of links is at work yet.
@@ -153,7 +154,7 @@ fn two_jobs_run<R: Abort + Threads + Wait + Clock + Copy + Send + 'static>(
 ) {
     let talk = talk_of(&rt, alloc);
     start_in_threads(rt, alloc, links, two_jobs(&rt, alloc, &talk));
-    assert!(rt; links.number() == 1 && !links.wait_for_none(&rt, 2));
+    check(&rt, links.number() == 1 && !links.wait_for_none(&rt, 2));
     let_go(&rt, &talk);
 }
 
@@ -161,7 +162,7 @@ fn two_jobs_run<R: Abort + Threads + Wait + Clock + Copy + Send + 'static>(
 fn jobs_run_in_threads(rt: HostRuntime) {
     let links = links_of(&rt, rt.alloc());
     two_jobs_run(rt, rt.alloc(), &links);
-    assert!(rt; links.wait_for_none(&rt, 10_000));
+    check(&rt, links.wait_for_none(&rt, 10_000));
 }
 
 /// The job of a link with the number 7.
@@ -184,7 +185,7 @@ fn gives_back<R: Abort + Wait + Copy>(rt: R, alloc: Global, others: LinksAtWork)
         false
     });
     let answer = gate.start(seventh_job(&rt, alloc));
-    assert!(rt; came_back(&answer));
+    check(&rt, came_back(&answer));
 }
 
 /// The same number of links at work, for another holder.
@@ -196,5 +197,5 @@ fn another(rt: &impl Abort, links: &LinksAtWork) -> LinksAtWork {
 fn a_job_without_a_thread_comes_back(rt: HostRuntime) {
     let links = links_of(&rt, rt.alloc());
     gives_back(rt, rt.alloc(), another(&rt, &links));
-    assert!(rt; links.number() == 0);
+    check(&rt, links.number() == 0);
 }

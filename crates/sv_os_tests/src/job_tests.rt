@@ -2,6 +2,7 @@
 
 ghost use Rattle.std.specs.Prelude.{◌≤◌};
 
+use crate::checks::check;
 use crate::gate_tests::{add, links_of, start_in_threads};
 use crate::os_tests::socket_at;
 use std::alloc::Global;
@@ -237,7 +238,7 @@ fn hear_hello<R: Abort + Wait>(rt: &R, notes: &mut Taker<Note>) {
         }
         take_in(rt, &mut heard, &notes.take(rt));
     }
-    assert!(rt; heard.seen == 63 && heard.said == 5);
+    check(rt, heard.seen == 63 && heard.said == 5);
 }
 
 /// Starts the jobs of `cat`, of the clock and of the console: what posts the words of the program's standard input.
@@ -354,7 +355,7 @@ fn links_job(rt: &impl Abort, host: HostRuntime, address: &mut Address) -> RealJ
 
 /// A new link is told.
 fn is_told<R: Abort + Wait>(rt: &R, notes: &mut Taker<Note>) {
-    assert!(rt; matches!(&notes.take(rt), Note::Open(Side::Unix)));
+    check(rt, matches!(&notes.take(rt), Note::Open(Side::Unix)));
 }
 
 /// A client of the address, which is told as a new link.
@@ -402,7 +403,7 @@ fn send_pong<R: Abort + Wait>(rt: &R, alloc: Global, poster: &mut Poster<LinkWor
 
 /// A piece of a link is told.
 fn piece_is_told<R: Abort + Wait>(rt: &R, notes: &mut Taker<Note>) {
-    assert!(rt; matches!(&notes.take(rt), Note::Piece(_, _)));
+    check(rt, matches!(&notes.take(rt), Note::Piece(_, _)));
 }
 
 /// A client sends `ping`, and gets `pong` and the end.
@@ -414,12 +415,12 @@ fn talk<R: Abort + Wait, K: Link>(
     poster: &mut Poster<LinkWord>,
 ) {
     poster.post(rt, LinkWord::More);
-    assert!(rt; matches!(client.write(b"ping"), Ok(4)));
+    check(rt, matches!(client.write(b"ping"), Ok(4)));
     piece_is_told(rt, notes);
     send_pong(rt, alloc, poster);
     let mut piece = [0u8; 8];
-    assert!(rt; matches!(client.read(&mut piece), Ok(4)));
-    assert!(rt; matches!(client.read(&mut piece), Ok(0)));
+    check(rt, matches!(client.read(&mut piece), Ok(4)));
+    check(rt, matches!(client.read(&mut piece), Ok(0)));
 }
 
 /// Starts this job in a thread.
@@ -455,7 +456,7 @@ fn serve_client<R: Abort + Threads + Wait + Copy + Send + 'static, K: Link>(
     client: &mut K,
 ) {
     let mut poster = start_link(rt, alloc, links, address);
-    assert!(rt; links.number() == 1);
+    check(&rt, links.number() == 1);
     talk(&rt, alloc, client, &mut address.notes.taker, &mut poster);
 }
 
@@ -468,7 +469,7 @@ fn serve_link<R: Abort + Threads + Wait + Copy + Send + 'static>(
 ) {
     let mut client = client_of(&rt, host, address);
     serve_client(rt, host.alloc(), links, address, &mut client);
-    assert!(rt; links.wait_for_none(&host, 10_000));
+    check(&rt, links.wait_for_none(&host, 10_000));
 }
 
 /// The address is opened, and serves a link.

@@ -4,6 +4,8 @@
 #![tactic(auto)]
 
 #[cfg(test)]
+mod checks;
+#[cfg(test)]
 mod gate_tests;
 #[cfg(test)]
 mod job_tests;

@@ -1,5 +1,6 @@
 //! Real addresses: what their links are.
 
+use crate::checks::check;
 use crate::listen_tests::is_taken;
 use crate::os_tests::{new_directory, path_in, socket_at};
 use std::alloc::Global;
@@ -17,16 +18,19 @@ use sv_outside::Listen;
 /// A read and a write of a link may wait for a minute.
 fn has_limits<S: OpenStream>(rt: &impl Abort, link: &OsLink<S>) {
     let limit = Some(Duration::from_secs(60));
-    assert!(rt; matches!(link.read_limit(), Ok(read) if read == limit));
-    assert!(rt; matches!(link.write_limit(), Ok(write) if write == limit));
+    check(rt, matches!(link.read_limit(), Ok(read) if read == limit));
+    check(
+        rt,
+        matches!(link.write_limit(), Ok(write) if write == limit),
+    );
 }
 
 /// Four bytes pass from one end to the other.
 fn passes<F: Link, T: Link>(rt: &impl Abort, from: &mut F, to: &mut T, bytes: &[u8]) {
     let mut piece = [0u8; 8];
-    assert!(rt; matches!(from.write(bytes), Ok(4)));
-    assert!(rt; matches!(to.read(&mut piece), Ok(4)));
-    assert!(rt; &piece[..4] == bytes);
+    check(rt, matches!(from.write(bytes), Ok(4)));
+    check(rt, matches!(to.read(&mut piece), Ok(4)));
+    check(rt, &piece[..4] == bytes);
 }
 
 /// A link and its peer pass bytes both ways.
@@ -41,7 +45,7 @@ fn serves<L: Link, K: Link + Drop>(rt: &impl Abort, link: &mut L, peer: K) {
     pass_both(rt, link, &mut peer);
     drop(peer);
     let mut piece = [0u8; 8];
-    assert!(rt; matches!(link.read(&mut piece), Ok(0)));
+    check(rt, matches!(link.read(&mut piece), Ok(0)));
 }
 
 /// The next link is accepted, and serves.
@@ -116,7 +120,7 @@ fn is_kept<R: Abort + Net + Files + Clock + Copy>(
     path: &str,
 ) {
     is_taken(rt, socket_at(&rt, alloc, path));
-    assert!(rt; listen.accept().is_ok());
+    check(&rt, listen.accept().is_ok());
 }
 
 /// Links are served at this socket's file, which nobody else opens meanwhile.
@@ -133,7 +137,10 @@ fn is_replaced<R: Abort + Net + Files + Clock + Copy>(rt: R, alloc: Global, path
         serves_file(rt, alloc, path);
     }
     remove_socket(&rt, &socket_at(&rt, alloc, path)).expect(&rt, "the system does it");
-    assert!(rt; !fs::exists(&rt, path).expect(&rt, "the system does it"));
+    check(
+        &rt,
+        !fs::exists(&rt, path).expect(&rt, "the system does it"),
+    );
 }
 
 /// A socket's file in this directory is replaced.

@@ -1,5 +1,6 @@
 //! Real addresses: which of them are opened.
 
+use crate::checks::{check, same};
 use crate::os_tests::{new_directory, path_in, socket_at};
 use std::alloc::Global;
 use std::io::ErrorKind;
@@ -72,13 +73,13 @@ fn is_in_use(opened: &io::Result<()>) -> bool {
 pub(crate) fn is_taken<R: Abort + Net + Files + Clock + Copy>(rt: R, place: Place) {
     let (listen, opened) = OsListen::open(rt, place);
     drop(listen);
-    assert!(rt; is_in_use(&opened));
+    check(&rt, is_in_use(&opened));
 }
 
 /// The file of this path holds what was written to it.
 fn holds_kept<R: Abort + Files + AllocGlobal>(rt: &R, path: &str) {
     let kept = fs::read(rt, path).expect(rt, "the system does it");
-    assert!(rt; kept.as_slice() == b"kept".as_slice());
+    check(rt, kept.as_slice() == b"kept".as_slice());
 }
 
 /// The file is as it was made.
@@ -91,14 +92,14 @@ fn is_kept<R: Abort + Files + AllocGlobal>(rt: &R, directory: &str) {
 fn is_folder<R: Abort + Files + AllocGlobal>(rt: &R, directory: &str) {
     let folder = path_in(rt, rt.alloc(), directory, "folder");
     let found = fs::metadata(rt, folder.as_str()).expect(rt, "the system does it");
-    assert!(rt; found.is_dir());
+    check(rt, found.is_dir());
 }
 
 /// The link is as it was made.
 fn is_link<R: Abort + Files + AllocGlobal>(rt: &R, directory: &str) {
     let link = path_in(rt, rt.alloc(), directory, "link");
     let found = fs::symlink_metadata(rt, link.as_str()).expect(rt, "the system does it");
-    assert!(rt; found.file_type().is_symlink());
+    check(rt, found.file_type().is_symlink());
 }
 
 /// The file, the folder and the link are as they were made.
@@ -127,9 +128,9 @@ fn other_files_are_left_alone(rt: HostRuntime) {
 /// An accept fails, after a second at the earliest.
 fn fails_late<R: Abort + Clock, L: Listen>(rt: &R, listen: &mut L) {
     let before = Instant::now(rt).expect(rt, "the system does it");
-    assert!(rt; listen.accept().is_err());
+    check(rt, listen.accept().is_err());
     let passed = before.elapsed(rt).expect(rt, "the system does it");
-    assert!(rt; Duration::from_millis(1_000) <= passed);
+    check(rt, Duration::from_millis(1_000) <= passed);
 }
 
 /// Whether somebody accepts at this address within some ten seconds.
@@ -147,7 +148,7 @@ fn is_reached<R: Net + Clock>(rt: &R, alloc: Global, place: &Place) -> bool {
 /// What accepts the links of this address, which isn't opened yet.
 fn unopened_at<R: Abort + Net + Files + Clock + Copy>(rt: R, place: Place) -> OsListen<R> {
     let (listen, opened) = OsListen::open(rt, place);
-    assert!(rt; opened.is_err());
+    check(&rt, opened.is_err());
     listen
 }
 
@@ -182,8 +183,8 @@ fn refused_in<R: Abort + Net + Files + Clock + Copy>(
 
 /// A client is accepted, which says so.
 fn is_accepted<R: Abort + Threads, L: Listen>(rt: &R, listen: &mut L, client: JoinHandle<bool>) {
-    assert!(rt; listen.accept().is_ok());
-    assert!(rt; client.join(rt));
+    check(rt, listen.accept().is_ok());
+    check(rt, client.join(rt));
 }
 
 #[test]
@@ -202,7 +203,7 @@ fn an_address_is_opened_later(rt: HostRuntime) {
 /// A closed address is told so.
 fn is_told(rt: &impl Abort, alloc: Global, place: &Place, wanted: &str) {
     let line = opening_line(alloc, place, "in use").expect(rt, "ample memory");
-    assert_eq!(rt; line.as_str(), wanted);
+    same(rt, line.as_str(), wanted);
 }
 
 #[test]

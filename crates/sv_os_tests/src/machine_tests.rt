@@ -1,5 +1,6 @@
 //! The machine as it is told to a configuration.
 
+use crate::checks::{check, same};
 use std::alloc::Global;
 use std::env::FillError;
 use std::process;
@@ -12,9 +13,12 @@ use sv_outside::Clock;
 
 /// The machine is told as it is for this process.
 fn is_told(rt: &impl Abort, host: &Host, pid: u32) {
-    assert!(rt; host.pid == pid && host.here.as_str() == "/etc");
-    assert!(rt; !host.name.as_str().is_empty() && !host.name.as_str().ends_with('\n'));
-    assert!(rt; Moment::zero() < host.start);
+    check(rt, host.pid == pid && host.here.as_str() == "/etc");
+    check(
+        rt,
+        !host.name.as_str().is_empty() && !host.name.as_str().ends_with('\n'),
+    );
+    check(rt, Moment::zero() < host.start);
 }
 
 #[test]
@@ -87,7 +91,7 @@ fn are_variables(rt: &impl Abort, alloc: Global, long: &[u8]) {
         b"d=".as_slice(),
     ];
     let variables = environment_of(alloc, &Entries(entries.as_slice())).expect(rt, "ample memory");
-    assert!(rt; are_wanted(variables.as_slice()));
+    check(rt, are_wanted(variables.as_slice()));
 }
 
 #[test]
@@ -99,7 +103,7 @@ fn variables_rise_by_name(rt: HostRuntime) {
 /// A file with this name, read from this directory on, stands in that directory.
 fn stands_in(rt: &impl Abort, alloc: Global, current: &str, file: &str, directory: &str) {
     let found = directory_of(alloc, current, file).expect(rt, "ample memory");
-    assert_eq!(rt; found.as_str(), directory);
+    same(rt, found.as_str(), directory);
 }
 
 #[test]
@@ -120,12 +124,15 @@ fn files_stand_in_directories(rt: HostRuntime) {
 
 #[test]
 fn time_has_its_limits(rt: HostRuntime) {
-    assert!(rt; moment_of(Duration::from_micros(1_999)).milliseconds() == 1);
+    check(
+        &rt,
+        moment_of(Duration::from_micros(1_999)).milliseconds() == 1,
+    );
     let late = moment_of(Duration::from_secs(253_000_000_001));
-    assert!(rt; late.milliseconds() == 253_000_000_000_000);
+    check(&rt, late.milliseconds() == 253_000_000_000_000);
     let mut clock = OsClock::new(rt);
     let before = clock.now();
-    assert!(rt; Moment::zero() < before);
+    check(&rt, Moment::zero() < before);
     clock.pause(2);
-    assert!(rt; before < clock.now());
+    check(&rt, before < clock.now());
 }

@@ -1,5 +1,6 @@
 //! The adapters over real files, sockets and streams: the bytes come through, and errors are counted.
 
+use crate::checks::{check, same};
 use std::alloc::Global;
 use std::io::{ErrorKind, Read, Write};
 use std::net::{Ipv4Addr, Net, OpenListener, SocketAddr, TcpListener};
@@ -78,7 +79,10 @@ fn come_through<S: Shelf>(
 
 /// Makes a file, which wasn't there, in two steps.
 fn make_file<S: Shelf>(rt: &impl Abort, alloc: Global, shelf: &mut S, file: &str) {
-    assert!(rt; matches!(shelf.read(alloc, file), Err(ShelfFault::Missing)));
+    check(
+        rt,
+        matches!(shelf.read(alloc, file), Err(ShelfFault::Missing)),
+    );
     shelf
         .append(alloc, file, b"ab")
         .expect(rt, "a file is made");
@@ -88,16 +92,16 @@ fn make_file<S: Shelf>(rt: &impl Abort, alloc: Global, shelf: &mut S, file: &str
 /// Reads the file, its size and a part of it.
 fn read_file<S: Shelf>(rt: &impl Abort, alloc: Global, shelf: &mut S, file: &str) {
     let bytes = shelf.read(alloc, file).expect(rt, "a file is read");
-    assert!(rt; bytes.as_slice() == b"abcde".as_slice());
+    check(rt, bytes.as_slice() == b"abcde".as_slice());
     read_part(rt, alloc, shelf, file);
 }
 
 /// Reads the size of the file, and a part of it.
 fn read_part<S: Shelf>(rt: &impl Abort, alloc: Global, shelf: &mut S, file: &str) {
     let size = shelf.size(alloc, file).expect(rt, "a file has a size");
-    assert!(rt; size == 5);
+    check(rt, size == 5);
     let part = shelf.part(alloc, file, 1, 3).expect(rt, "a part is read");
-    assert!(rt; part.as_slice() == b"bcd".as_slice());
+    check(rt, part.as_slice() == b"bcd".as_slice());
 }
 
 /// Renames a file that isn't there, and then one that is.
@@ -125,7 +129,7 @@ fn is_listed<S: Shelf>(rt: &impl Abort, alloc: Global, shelf: &mut S, pattern: &
 /// The names are this one.
 fn is_only(rt: &impl Abort, names: &[Text], file: &str) {
     match names {
-        [name] => assert_eq!(rt; name.as_str(), file),
+        [name] => same(rt, name.as_str(), file),
         _ => assert!(rt; false, "one file is there"),
     }
 }
@@ -136,21 +140,24 @@ fn empty_file<S: Shelf>(rt: &impl Abort, alloc: Global, shelf: &mut S, file: &st
     let size = shelf
         .size(alloc, file)
         .expect(rt, "an empty file has a size");
-    assert!(rt; size == 0);
+    check(rt, size == 0);
 }
 
 /// A directory isn't read as a file.
 fn read_directory<S: Shelf>(rt: &impl Abort, alloc: Global, shelf: &mut S, directory: &str) {
-    assert!(rt; matches!(shelf.read(alloc, directory), Err(ShelfFault::Failed)));
+    check(
+        rt,
+        matches!(shelf.read(alloc, directory), Err(ShelfFault::Failed)),
+    );
 }
 
 /// Hears the answer over a link, and its end.
 fn hear_pong<L: Link>(rt: &impl Abort, link: &mut L) {
     let mut buffer = [0u8; 8];
     let count = link.read(&mut buffer).expect(rt, "an answer is read");
-    assert!(rt; &buffer[..count] == b"pong".as_slice());
+    check(rt, &buffer[..count] == b"pong".as_slice());
     let count = link.read(&mut buffer).expect(rt, "the end is read");
-    assert!(rt; count == 0);
+    check(rt, count == 0);
 }
 
 /// Hears the answer over a link, and gives the link back.
@@ -163,7 +170,7 @@ fn hear<D: Dial>(rt: &impl Abort, alloc: Global, dial: &mut D, link: D::Link) {
 /// Sends over a link.
 fn send_ping<L: Link>(rt: &impl Abort, link: &mut L) {
     let count = link.write(b"ping").expect(rt, "a request is written");
-    assert!(rt; count == 4);
+    check(rt, count == 4);
 }
 
 /// Hears what was sent.
@@ -171,7 +178,7 @@ fn hear_ping<P: Read>(rt: &impl Abort, peer: &mut P) {
     let mut buffer = [0u8; 4];
     peer.read_exact(&mut buffer)
         .expect(rt, "the system does it");
-    assert!(rt; buffer.as_slice() == b"ping".as_slice());
+    check(rt, buffer.as_slice() == b"ping".as_slice());
 }
 
 /// Accepts the peer of a link, which hears what is sent over the link, answers and ends.
@@ -231,7 +238,10 @@ fn listen_over_tcp<R: Abort + Net, D: Dial>(rt: &R, alloc: Global, dial: &mut D)
 
 /// Nobody accepts at this address.
 fn is_closed<D: Dial>(rt: &impl Abort, alloc: Global, dial: &mut D, place: &Place) {
-    assert!(rt; matches!(dial.connect(alloc, place), Err(DialFault::Failed)));
+    check(
+        rt,
+        matches!(dial.connect(alloc, place), Err(DialFault::Failed)),
+    );
 }
 
 /// Listens at this path, where nobody did; a client hears the peer.
@@ -282,7 +292,7 @@ fn interrupted_calls_are_made_again(rt: HostRuntime) {
     let mut buffer = [0u8; 2];
     for (interrupted, read) in &[(0, true), (999, true), (1_000, false)] {
         let mut source = ReadSource::new(Interrupted(*interrupted));
-        assert!(rt; matches!(source.read(&mut buffer), Ok(2)) == *read);
+        check(&rt, matches!(source.read(&mut buffer), Ok(2)) == *read);
     }
 }
 
@@ -291,10 +301,10 @@ fn streams_come_through(rt: HostRuntime) {
     let mut source = ReadSource::new(b"abc".as_slice());
     let mut buffer = [0u8; 2];
     let count = source.read(&mut buffer).expect(&rt, "a piece is read");
-    assert!(rt; &buffer[..count] == b"ab".as_slice());
+    check(&rt, &buffer[..count] == b"ab".as_slice());
     let mut sink = WriteSink::new(Vec::new(rt.alloc()));
     let count = sink.write(b"xyz").expect(&rt, "a piece is written");
-    assert!(rt; count == 3);
+    check(&rt, count == 3);
 }
 
 /// A reader of these bytes that gives two at a time at most, and whose every other call is interrupted.
@@ -363,5 +373,5 @@ fn short_and_interrupted_calls_lose_no_byte(rt: HostRuntime) {
         &mut WriteSink::new(&mut writer),
         text.len(),
     );
-    assert!(rt; writer.taken.as_slice() == text);
+    check(&rt, writer.taken.as_slice() == text);
 }

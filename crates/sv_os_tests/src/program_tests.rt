@@ -1,5 +1,6 @@
 //! Real programs: how they are started and signalled, and how their ends are told.
 
+use crate::checks::check;
 use crate::os_tests::{new_directory, path_in};
 use std::alloc::Global;
 use std::fs;
@@ -141,7 +142,7 @@ fn all_of<S: Source>(rt: &impl Abort, alloc: Global, source: &mut S) -> Vec<u8> 
 /// A source gives this text, and then its end.
 fn gives<S: Source>(rt: &impl Abort, alloc: Global, source: &mut S, text: &str) {
     let all = all_of(rt, alloc, source);
-    assert!(rt; all.as_slice() == text.as_bytes());
+    check(rt, all.as_slice() == text.as_bytes());
 }
 
 /// A line of the shell that writes what it got.
@@ -160,14 +161,17 @@ fn tells<S: Spawner>(rt: &impl Abort, alloc: Global, spawner: &mut S, directory:
 
 /// A program ends with this code.
 fn ends<W: Waiter>(rt: &impl Abort, waiter: &mut W, wanted: u8) {
-    assert!(rt; matches!(waiter.wait(), Ok(How::Code(code)) if code == wanted));
+    check(
+        rt,
+        matches!(waiter.wait(), Ok(How::Code(code)) if code == wanted),
+    );
 }
 
 /// Writes a line to a sink, which ends.
 fn says_hello<S: Sink + Drop>(rt: &impl Abort, sink: S) {
     let mut sink = sink;
     let count = sink.write(b"hello\n").expect(rt, "its input is written");
-    assert!(rt; count == 6);
+    check(rt, count == 6);
 }
 
 /// A source gives the variables, the line and the directory.
@@ -229,7 +233,7 @@ fn is_signalled<S: Spawner>(
         .kill(alloc, pid, signal, group)
         .expect(rt, "a signal is sent");
     let how = waiter.wait().ok();
-    assert!(rt; how == ExitSignal::new(number).map(How::Signal));
+    check(rt, how == ExitSignal::new(number).map(How::Signal));
 }
 
 /// Starts a program, which is ended by this signal.
@@ -247,7 +251,7 @@ fn signal_one<S: Spawner>(
 fn has_begun<S: Source>(rt: &impl Abort, source: &mut S) {
     let mut piece = [0u8; 9];
     let count = source.read(&mut piece).expect(rt, "it has begun");
-    assert!(rt; &piece[..count] == b"go\n".as_slice());
+    check(rt, &piece[..count] == b"go\n".as_slice());
 }
 
 /// Starts a group of two programs, both of which are ended by one signal.
@@ -272,7 +276,7 @@ fn signal_none<S: Spawner>(rt: &impl Abort, alloc: Global, spawner: &mut S) {
     let none = Pid::new(4_194_305).expect(rt, "past the last process");
     for group in [false, true] {
         let answer = spawner.kill(alloc, none, Signal::Term, group);
-        assert!(rt; matches!(answer, Err(KillFault::Failed)));
+        check(rt, matches!(answer, Err(KillFault::Failed)));
     }
 }
 
@@ -305,7 +309,7 @@ fn is_refusal<S: Spawner>(
     wanted: &str,
 ) {
     let answer = spawner.spawn(alloc, order);
-    assert_eq!(rt; refusal(&answer), wanted);
+    check(rt, refusal(&answer) == wanted);
 }
 
 /// An order for these words in this directory and for this user is refused for this reason.

@@ -1,5 +1,6 @@
 //! What is told of programs: faults of the system, signals and ends.
 
+use crate::checks::{check, same};
 use std::alloc::Global;
 use std::io;
 use std::io::ErrorKind;
@@ -11,16 +12,20 @@ use sv_outside::{Refusal, SpawnFault};
 
 /// Memory was refused in this process.
 fn is_own_memory(rt: &impl Abort, alloc: Global, error: &io::Error) {
-    assert!(rt; matches!(&fault_of(alloc, error), Ok(SpawnFault::OutOfMemory)));
+    check(
+        rt,
+        matches!(&fault_of(alloc, error), Ok(SpawnFault::OutOfMemory)),
+    );
 }
 
 /// The system refused, in words of its own.
 fn is_refused(rt: &impl Abort, alloc: Global, error: &io::Error) {
-    assert!(rt;
+    check(
+        rt,
         matches!(
             &fault_of(alloc, error),
             Ok(SpawnFault::Refused(Refusal::Refused(_)))
-        )
+        ),
     );
 }
 
@@ -34,7 +39,7 @@ fn faults_of_the_system_are_told_apart(rt: HostRuntime) {
 fn is_line(rt: &impl Abort, alloc: Global, pid: u32, signal: Signal, group: bool, wanted: &str) {
     let pid = Pid::new(pid).expect(rt, "a number of a process");
     let line = kill_line(alloc, pid, signal, group).expect(rt, "ample memory");
-    assert_eq!(rt; line.as_str(), wanted);
+    same(rt, line.as_str(), wanted);
 }
 
 #[test]
@@ -72,6 +77,6 @@ fn ends_are_codes_and_signals(rt: HostRuntime) {
         (0x137f, None),
     ];
     for (status, how) in rows {
-        assert!(rt; how_of(ExitStatus::from_raw(status)) == how);
+        check(&rt, how_of(ExitStatus::from_raw(status)) == how);
     }
 }

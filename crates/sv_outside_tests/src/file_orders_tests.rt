@@ -1,5 +1,6 @@
 //! Orders to a shelf in memory, worked by hand.
 
+use crate::checks::check;
 use std::alloc::{AllocError, Global};
 use std::process::Abort;
 use sv_base::{Bytes, Text};
@@ -157,9 +158,9 @@ fn all_come_to(
     all: &[Asking],
     letters: &str,
 ) {
-    assert!(rt; all.len() == letters.len());
+    check(rt, all.len() == letters.len());
     for (asking, letter) in all.iter().zip(letters.as_bytes()) {
-        assert!(rt; come_of(rt, alloc, shelf, *asking) == *letter);
+        check(rt, come_of(rt, alloc, shelf, *asking) == *letter);
     }
 }
 
@@ -192,8 +193,8 @@ const WRITTEN: [(u64, &str, &str, &str); 4] = [
 fn written(rt: &impl Abort, alloc: Global, failing: u64, letters: &str, first: &str, second: &str) {
     let mut shelf = shelf_of(rt, alloc, failing, &[]);
     all_come_to(rt, alloc, &mut shelf, &WRITES, letters);
-    assert!(rt; holds(alloc, &shelf, "/l", first));
-    assert!(rt; holds(alloc, &shelf, "/m", second));
+    check(rt, holds(alloc, &shelf, "/l", first));
+    check(rt, holds(alloc, &shelf, "/m", second));
 }
 
 #[test]

@@ -1,5 +1,6 @@
 //! Jobs that are handed to a gate in memory.
 
+use crate::checks::check;
 use crate::outside_tests::{Idle, came_back};
 use std::alloc::Global;
 use std::process::Abort;
@@ -27,13 +28,13 @@ fn keeps(gate: &mut Ready<Idle, HoldGate<Idle>>) -> bool {
 /// The gate gives a job back as it was.
 fn gives_back<R: Abort + Wait>(rt: &R, gate: &mut Ready<Idle, HoldGate<Idle>>) {
     let mut answer = gate.start(idle());
-    assert!(rt; came_back(rt, &mut answer));
+    check(rt, came_back(rt, &mut answer));
 }
 
 #[test]
 fn a_gate_keeps_jobs_while_it_has_room(rt: HostRuntime) {
     let mut gate = gate_of(&rt, rt.alloc());
-    assert!(rt; keeps(&mut gate));
-    assert!(rt; !keeps(&mut gate));
+    check(&rt, keeps(&mut gate));
+    check(&rt, !keeps(&mut gate));
     gives_back(&rt, &mut gate);
 }

@@ -1,5 +1,6 @@
 //! Jobs at concrete types, at work in threads of their own.
 
+use crate::checks::check;
 use std::alloc::Global;
 use std::collections::VecDeque;
 use std::process::Abort;
@@ -58,7 +59,7 @@ fn is_tick(rt: &impl Abort, note: &Note) -> bool {
     match note {
         Note::Tick => true,
         Note::Exit(run, how) => {
-            assert!(rt; *run == Run(3) && *how == How::Code(5));
+            check(rt, *run == Run(3) && *how == How::Code(5));
             false
         }
         _ => panic!(rt; "another note"),
@@ -81,7 +82,7 @@ fn at_work<R: Abort + Threads + Wait + Copy + Send + 'static, J: Job + Send + 's
     word: JobWord,
 ) -> JoinHandle<PumpEnd> {
     let mut job = job;
-    assert!(rt; job.word() == word);
+    check(&rt, job.word() == word);
     thread::spawn(&rt, move || job.work(&rt)).expect(&rt, "memory")
 }
 
@@ -107,7 +108,7 @@ fn ticker_at_work<R: Abort + Threads + Wait + Copy + Send + 'static>(
 
 /// A job ends.
 fn ends<R: Abort + Threads + Wait>(rt: &R, job: JoinHandle<PumpEnd>) {
-    assert!(rt; job.join(rt) == PumpEnd::Ended);
+    check(rt, job.join(rt) == PumpEnd::Ended);
 }
 
 #[test]
@@ -117,5 +118,5 @@ fn jobs_work_in_threads_of_their_own(rt: HostRuntime) {
     let second = ticker_at_work(rt, rt.alloc(), &mut seats);
     ends(&rt, first);
     ends(&rt, second);
-    assert!(rt; ticks_taken(&rt, &mut taker) == 2);
+    check(&rt, ticks_taken(&rt, &mut taker) == 2);
 }

@@ -1,5 +1,6 @@
 //! The forms in memory, worked by hand.
 
+use crate::checks::check;
 use std::alloc::Global;
 use std::collections::VecDeque;
 use std::process::Abort;
@@ -38,7 +39,7 @@ fn clock_of(rt: &impl Abort, alloc: Global) -> FixedClock {
 /// The clock gives 5, and then 7.
 fn gives_moments(rt: &impl Abort, clock: &mut FixedClock) {
     for milliseconds in &[5, 7, 7] {
-        assert!(rt; clock.now().milliseconds() == *milliseconds);
+        check(rt, clock.now().milliseconds() == *milliseconds);
     }
 }
 
@@ -46,9 +47,12 @@ fn gives_moments(rt: &impl Abort, clock: &mut FixedClock) {
 fn tells_pauses(rt: &impl Abort, clock: &mut FixedClock) {
     clock.pause(1_000);
     clock.pause(20);
-    assert!(rt; clock.pauses().expect(rt, "all told") == [1_000, 20].as_slice());
+    check(
+        rt,
+        clock.pauses().expect(rt, "all told") == [1_000, 20].as_slice(),
+    );
     clock.pause(3);
-    assert!(rt; clock.pauses().is_none());
+    check(rt, clock.pauses().is_none());
 }
 
 #[test]
@@ -62,7 +66,7 @@ fn a_clock_gives_its_moments_and_then_the_last(rt: HostRuntime) {
 fn fails_once(rt: &impl Abort, waiter: &mut ScriptWaiter) {
     let end = Some(How::Code(3));
     for (how, faults) in &[(end, 0), (None, 1), (end, 1)] {
-        assert!(rt; waiter.wait().ok() == *how && waiter.faults() == *faults);
+        check(rt, waiter.wait().ok() == *how && waiter.faults() == *faults);
     }
 }
 
@@ -110,7 +114,7 @@ fn listen_of(rt: &impl Abort, alloc: Global) -> ScriptListen {
 /// The one byte that a link gives at first.
 fn first_byte(rt: &impl Abort, link: &mut ScriptLink) -> u8 {
     let mut buffer = [0u8; 9];
-    assert!(rt; matches!(link.read(&mut buffer), Ok(1)));
+    check(rt, matches!(link.read(&mut buffer), Ok(1)));
     buffer[0]
 }
 
@@ -125,9 +129,9 @@ fn byte_of(rt: &impl Abort, accepted: &mut Result<ScriptLink, Failed>) -> Option
 /// The next links give `a` and `b`, with a failure between them and one behind them.
 fn gives_links(rt: &impl Abort, listen: &mut ScriptListen) {
     for byte in &[Some(b'a'), None, Some(b'b'), None] {
-        assert!(rt; byte_of(rt, &mut listen.accept()) == *byte);
+        check(rt, byte_of(rt, &mut listen.accept()) == *byte);
     }
-    assert!(rt; listen.given() == 2 && listen.faults() == 2);
+    check(rt, listen.given() == 2 && listen.faults() == 2);
 }
 
 #[test]
@@ -181,16 +185,16 @@ pub(crate) fn came_back<R: Wait>(rt: &R, answer: &mut Result<(), Idle>) -> bool 
 fn gives_back<R: Abort + Wait>(rt: &R, gate: &mut HoldGate<Idle>) {
     let word = JobWord::Console;
     let mut answer = gate.start(Idle { word });
-    assert!(rt; came_back(rt, &mut answer));
+    check(rt, came_back(rt, &mut answer));
 }
 
 /// The gate keeps two jobs, and gives one back between them and one behind them.
 fn keeps_two<R: Abort + Wait>(rt: &R, gate: &mut HoldGate<Idle>) {
-    assert!(rt; keeps(gate, JobWord::Ticker));
+    check(rt, keeps(gate, JobWord::Ticker));
     gives_back(rt, gate);
-    assert!(rt; keeps(gate, JobWord::Watch(Run(4))));
-    assert!(rt; !keeps(gate, JobWord::Pump(Run(4), Stream::Err)));
-    assert!(rt; gate.faults() == 2 && gate.jobs().len() == 2);
+    check(rt, keeps(gate, JobWord::Watch(Run(4))));
+    check(rt, !keeps(gate, JobWord::Pump(Run(4), Stream::Err)));
+    check(rt, gate.faults() == 2 && gate.jobs().len() == 2);
 }
 
 /// Whether these are the two jobs that the gate keeps.
@@ -208,7 +212,7 @@ fn a_gate_holds_jobs_while_it_has_room(rt: HostRuntime) {
     let mut gate = gate_of(&rt, rt.alloc());
     keeps_two(&rt, &mut gate);
     let jobs = gate.into_jobs();
-    assert!(rt; are_kept(jobs.as_slice()));
+    check(&rt, are_kept(jobs.as_slice()));
 }
 
 fn order(alloc: Global, run: u32) -> SpawnOrder {
@@ -275,8 +279,8 @@ type Running = Started<ListSink, ListSource, ListSource, ScriptWaiter>;
 /// A program takes its input, writes nothing, and ends.
 fn ended(rt: &impl Abort, program: &mut Running) -> Outcome {
     let mut buffer = [0u8; 4];
-    assert!(rt; matches!(program.stdin.write(b"in"), Ok(2)));
-    assert!(rt; matches!(program.stdout.read(&mut buffer), Ok(0)));
+    check(rt, matches!(program.stdin.write(b"in"), Ok(2)));
+    check(rt, matches!(program.stdout.read(&mut buffer), Ok(0)));
     match program.waiter.wait() {
         Ok(how) => Outcome::Process(program.pid.get(), how),
         Err(_) => Outcome::Other,
@@ -306,9 +310,9 @@ fn came(rt: &impl Abort, alloc: Global, spawner: &mut ScriptSpawner, run: u32) -
 /// A signal to the first process is sent, and another one isn't.
 fn one_signal_is_sent(rt: &impl Abort, alloc: Global, spawner: &mut ScriptSpawner) {
     let term = spawner.kill(alloc, Pid::least(), Signal::Term, true);
-    assert!(rt; term.is_ok());
+    check(rt, term.is_ok());
     let kill = spawner.kill(alloc, Pid::least(), Signal::Kill, false);
-    assert!(rt; matches!(kill, Err(KillFault::Failed)));
+    check(rt, matches!(kill, Err(KillFault::Failed)));
 }
 
 /// Whether this is what the spawner was asked for.
@@ -328,12 +332,18 @@ fn are_asked(asked: &[Asked]) -> bool {
 
 /// What comes of four orders and two signals.
 fn orders_come(rt: &impl Abort, alloc: Global, spawner: &mut ScriptSpawner) {
-    assert!(rt; came(rt, alloc, spawner, 1) == Outcome::Process(1, How::Code(9)));
-    assert!(rt; came(rt, alloc, spawner, 2) == Outcome::Reason);
+    check(
+        rt,
+        came(rt, alloc, spawner, 1) == Outcome::Process(1, How::Code(9)),
+    );
+    check(rt, came(rt, alloc, spawner, 2) == Outcome::Reason);
     one_signal_is_sent(rt, alloc, spawner);
-    assert!(rt; came(rt, alloc, spawner, 3) == Outcome::NoFile);
-    assert!(rt; came(rt, alloc, spawner, 4) == Outcome::Process(2, How::Code(0)));
-    assert!(rt; spawner.faults() == 3 && are_asked(spawner.asked()));
+    check(rt, came(rt, alloc, spawner, 3) == Outcome::NoFile);
+    check(
+        rt,
+        came(rt, alloc, spawner, 4) == Outcome::Process(2, How::Code(0)),
+    );
+    check(rt, spawner.faults() == 3 && are_asked(spawner.asked()));
 }
 
 #[test]

@@ -1,5 +1,6 @@
 //! A world in memory, worked by hand: what it gives, at which calls it fails, and which orders raise its count of faults.
 
+use crate::checks::check;
 use std::alloc::Global;
 use std::process::Abort;
 use sv_base::{Bytes, Items, Moment, Piece, Run, Signal, Stream, Text};
@@ -65,9 +66,9 @@ fn answers(rt: &impl Abort, alloc: Global, world: &mut ScriptWorld, letters: &st
             b'.' => {}
             _ => given = given.saturating_add(1),
         }
-        assert!(rt; answer(alloc, world) == *expected);
-        assert!(rt; world.breaks() == broken && world.given().len() == given);
-        assert!(rt; world.faults() == 0);
+        check(rt, answer(alloc, world) == *expected);
+        check(rt, world.breaks() == broken && world.given().len() == given);
+        check(rt, world.faults() == 0);
     }
 }
 
@@ -95,11 +96,14 @@ fn faults_after_order(rt: &impl Abort, alloc: Global, world: &mut ScriptWorld) -
 /// Orders are handed to a world whose first input is Failed of 0: how many faults it counts after each.
 fn faults_rise(rt: &impl Abort, alloc: Global, world: &mut ScriptWorld) {
     // Order 0 is named by the first input, which is given before it is handed over.
-    assert!(rt; answer(alloc, world) == b'0');
+    check(rt, answer(alloc, world) == b'0');
     for faults in &[0u64, 1, 2, 2, 3, 3] {
-        assert!(rt; faults_after_order(rt, alloc, world) == *faults);
+        check(rt, faults_after_order(rt, alloc, world) == *faults);
     }
-    assert!(rt; world.handed().len() == 6 && world.breaks() == 0 && world.given().len() == 1);
+    check(
+        rt,
+        world.handed().len() == 6 && world.breaks() == 0 && world.given().len() == 1,
+    );
 }
 
 #[test]
@@ -214,7 +218,7 @@ fn is_kill(order: &Order) -> bool {
 
 fn output_is_copied(rt: &impl Abort, alloc: Global) {
     let copy = input_copy(rt, alloc, output(rt, alloc));
-    assert!(rt; is_output(&copy));
+    check(rt, is_output(&copy));
 }
 
 /// An order that is copied.
@@ -251,7 +255,7 @@ fn is_order(order: &Order, which: Copied) -> bool {
 
 fn order_is_copied(rt: &impl Abort, alloc: Global, which: Copied) {
     let copy = order_copy(rt, order_of(rt, alloc, which));
-    assert!(rt; is_order(&copy, which));
+    check(rt, is_order(&copy, which));
 }
 
 #[test]

@@ -1,4 +1,5 @@
 //! Lives of a child, worked out by hand.
+use crate::checks::check;
 use crate::claims::holds_at;
 use crate::one_child::killed;
 use crate::sample::{moment, process, seconds};
@@ -163,7 +164,7 @@ fn befalls(rt: &impl Abort, spec: &Spec, child: &mut Child, row: &(u64, Line, Wa
 }
 
 /// A life of the child, line by line; at its end it has this fault.
-fn check(
+fn goes_through(
     rt: &impl Abort,
     spec: &Spec,
     child: &mut Child,
@@ -173,7 +174,7 @@ fn check(
     for row in life {
         befalls(rt, spec, child, row);
     }
-    assert!(rt; child.fault.as_str() == fault);
+    check(rt, child.fault.as_str() == fault);
 }
 
 const TOO_QUICK: &str = "Exited too quickly (process log may have details)";
@@ -305,7 +306,7 @@ const KILL_AT_EACH_DEADLINE: [(u64, Line, Wanted); 9] = [
 /// The life of a child of this program that was never started.
 fn anew(rt: &impl Abort, spec: &Spec, life: &[(u64, Line, Wanted)], fault: &str) {
     let mut child = Child::new();
-    check(rt, spec, &mut child, life, fault);
+    goes_through(rt, spec, &mut child, life, fault);
     drop(child);
 }
 
@@ -384,7 +385,7 @@ const MILLIONTH_TRY: [(u64, Line, Wanted); 6] = [
 /// A start fails, and is tried once more.
 fn fails_for_a_while(rt: &impl Abort, spec: &Spec) {
     let mut child = starting(rt, 999_999);
-    check(rt, spec, &mut child, &MILLIONTH_TRY, "no room");
+    goes_through(rt, spec, &mut child, &MILLIONTH_TRY, "no room");
     drop(child);
 }
 

@@ -1,4 +1,5 @@
 //! One child in a group of another name than its own, and what names mean.
+use crate::checks::check;
 use std::alloc::Global;
 use std::process::Abort;
 use std::rt::HostRuntime;
@@ -125,10 +126,10 @@ static NAMES: [(&str, usize, usize); 7] = [
 #[test]
 fn names_are_the_rosters(rt: HostRuntime) {
     let children = one_and_three(&rt, rt.alloc());
-    assert!(rt; children.len() == 4);
+    check(&rt, children.len() == 4);
     for &(name, from, to) in &NAMES {
         let span = children.meant(&Text::fixed(name));
-        assert!(rt; span == Span { from, to });
+        check(&rt, span == Span { from, to });
     }
 }
 
@@ -141,7 +142,7 @@ fn step(rt: &impl Abort, children: &mut Children, news: &News) -> Step {
 
 /// The step asks for this deed.
 fn asks(rt: &impl Abort, step: &Step, deed: ChildDeed) {
-    assert!(rt; step.deed == Some(deed));
+    check(rt, step.deed == Some(deed));
 }
 
 /// The order that spawns the child b.
@@ -154,9 +155,9 @@ fn spawn(rt: &impl Abort, children: &Children) -> SpawnOrder {
 
 /// The order that spawns the child b names the group g.
 fn is_spawn_of_b(rt: &impl Abort, spawn: &SpawnOrder) {
-    assert!(rt; spawn.group.as_str() == "g");
-    assert!(rt; spawn.name.as_str() == "b");
-    assert!(rt; spawn.directory.as_str() == "/var");
+    check(rt, spawn.group.as_str() == "g");
+    check(rt, spawn.name.as_str() == "b");
+    check(rt, spawn.directory.as_str() == "/var");
 }
 
 /// The pid of each process.
@@ -173,7 +174,7 @@ fn has_its_pid(children: &mut Children, place: usize, pid: Pid) {
 fn leaves_another_run(rt: &impl Abort, children: &mut Children) {
     let other = News::Exit(Run(8), How::Code(0));
     let step = children.bring(2, &other, Mood::Running, Moment::zero());
-    assert!(rt; step.is_none());
+    check(rt, step.is_none());
 }
 
 /// The child b is started as run 7, and stopped: its reports, its spawn and its signal name the group g.
@@ -183,7 +184,7 @@ fn one_child_is_started_and_stopped(rt: HostRuntime) {
     let mut children = one_and_three(&rt, alloc);
     let given = given_by_the_child(&rt, alloc, &mut children);
     drop(children);
-    assert!(rt; is_reported(given.as_slice()));
+    check(&rt, is_reported(given.as_slice()));
 }
 
 /// What that child gives.
@@ -199,7 +200,7 @@ fn given_by_the_child(rt: &impl Abort, alloc: Global, children: &mut Children) -
     leaves_another_run(rt, children);
     let stop = step(rt, children, &News::Stop);
     asks(rt, &stop, ChildDeed::Kill(Signal::Term, false));
-    assert!(rt; !children.are_at_rest(Span { from: 0, to: 4 }));
+    check(rt, !children.are_at_rest(Span { from: 0, to: 4 }));
     children
         .report(2, &stop.edges, &mut given)
         .expect(rt, "memory");
@@ -252,19 +253,19 @@ fn are_told_in_start_order(rt: &impl Abort, children: &mut Children) {
     for place in 0..4usize {
         is_awake(rt, children, place);
     }
-    assert!(rt; children.next_awake(4, now).is_none());
-    assert!(rt; children.looks() == 4);
-    assert!(rt; children.next_awake(3, now) == Some(3));
-    assert!(rt; children.looks() == 8);
+    check(rt, children.next_awake(4, now).is_none());
+    check(rt, children.looks() == 4);
+    check(rt, children.next_awake(3, now) == Some(3));
+    check(rt, children.looks() == 8);
 }
 
 /// The child of this place is the next that is awake, and starts.
 fn is_awake(rt: &impl Abort, children: &mut Children, place: usize) {
     let now = Moment::zero();
-    assert!(rt; children.next_awake(place, now) == Some(place));
+    check(rt, children.next_awake(place, now) == Some(place));
     let step = children
         .bring(place, &News::Time, Mood::Running, now)
         .expect(rt, "a step");
-    assert!(rt; step.deed == Some(ChildDeed::Spawn));
+    check(rt, step.deed == Some(ChildDeed::Spawn));
     has_its_pid(children, place, pid(rt));
 }

@@ -1,14 +1,9 @@
 //! What a test claims.
 use std::process::Abort;
 
-/// This holds; where it doesn't, the text says of what.
-pub fn holds(rt: &impl Abort, claim: bool, text: &str) {
-    assert!(rt; claim, "{text}");
-}
-
 /// This holds at this number.
 pub fn holds_at(rt: &impl Abort, claim: bool, number: u64) {
-    assert!(rt; claim, "at {number}");
+    assert!(rt; claim, "{number}");
 }
 
 /// Whether these digits write the number.

@@ -1,4 +1,5 @@
 //! Days that were looked up by hand.
+use crate::checks::check;
 use crate::sample::moment;
 use std::process::Abort;
 use sv_dates::{Day, date_of};
@@ -27,5 +28,5 @@ fn days_of_moments(rt: HostRuntime) {
 }
 
 fn is_day(rt: &impl Abort, milliseconds: u64, day: Day) {
-    assert!(rt; date_of(moment(rt, milliseconds)) == day);
+    check(rt, date_of(moment(rt, milliseconds)) == day);
 }

@@ -1,5 +1,6 @@
 //! Events with their texts, and the ticks of clock moments, worked out by hand.
-use crate::claims::{holds, holds_at, text_of};
+use crate::checks::check_of;
+use crate::claims::{holds_at, text_of};
 use crate::sample::moment;
 use std::alloc::Global;
 use std::process::Abort;
@@ -124,7 +125,7 @@ fn each_event_has_its_text(rt: HostRuntime) {
 /// The body of the event that tells this is this text; the event has this head.
 fn is_told(rt: &impl Abort, alloc: Global, told: Told, text: &str, head: &str) {
     let body = body_of(rt, alloc, told);
-    holds(rt, body.as_slice() == text.as_bytes(), head);
+    check_of(rt, body.as_slice() == text.as_bytes(), head);
     drop(body);
 }
 
@@ -213,7 +214,7 @@ fn enveloped(rt: &impl Abort, alloc: Global, kind: Kind, text: &str) -> Bytes {
 /// The event of this type whose body is this text has this head before it.
 fn is_enveloped(rt: &impl Abort, alloc: Global, kind: Kind, text: &str, head: &str) {
     let whole = enveloped(rt, alloc, kind, text);
-    holds(rt, is_joined(text_of(whole.as_slice()), head, text), head);
+    check_of(rt, is_joined(text_of(whole.as_slice()), head, text), head);
     drop(whole);
 }
 
@@ -338,7 +339,7 @@ fn covers_and_ticks(rt: HostRuntime) {
 fn are_above(rt: &impl Abort, all: &[(Kind, &str)], kind: Kind, above: &str) {
     for (parent, _) in all {
         let wanted = is_one_of(parent.name(), above);
-        holds(rt, covers(*parent, kind) == wanted, kind.name());
+        check_of(rt, covers(*parent, kind) == wanted, kind.name());
     }
 }
 

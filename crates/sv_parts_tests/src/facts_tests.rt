@@ -1,5 +1,6 @@
 //! The events of a child's life along all edges of the diagram, written out by hand.
-use crate::claims::{holds, text_of};
+use crate::checks::{check, check_of};
+use crate::claims::text_of;
 use crate::one_child::{Happening, Telling, answered, brought, is_answer, live, news, one_child};
 use std::alloc::Global;
 use std::process::Abort;
@@ -67,7 +68,10 @@ fn no_child_tells_nothing(rt: HostRuntime) {
     let children = one_child(&rt, rt.alloc());
     no_child_has_events(&rt, &children);
     drop(children);
-    assert!(rt; kind_of(State::Unknown).name() == "PROCESS_STATE_UNKNOWN");
+    check(
+        &rt,
+        kind_of(State::Unknown).name() == "PROCESS_STATE_UNKNOWN",
+    );
 }
 
 /// Whether there is no fact of an edge of the child of this place.
@@ -84,8 +88,8 @@ fn has_no_fact(rt: &impl Abort, children: &Children, place: usize) -> bool {
 
 /// Where there is no child there are no facts of its edges, and it has no pid.
 fn no_child_has_events(rt: &impl Abort, children: &Children) {
-    holds(rt, has_no_fact(rt, children, 1), "no child");
-    holds(rt, pid_at(children, 1) == 0, "no child");
+    check_of(rt, has_no_fact(rt, children, 1), "no child");
+    check_of(rt, pid_at(children, 1) == 0, "no child");
 }
 
 /// What happens to the child gives these events.
@@ -103,7 +107,7 @@ pub fn tells_events(
             tells(rt, alloc, children, pid, step.edges[0], before);
             tells(rt, alloc, children, pid, step.edges[1], behind);
         }
-        None => holds(rt, events.is_empty(), events),
+        None => check_of(rt, events.is_empty(), events),
     }
 }
 
@@ -129,7 +133,7 @@ fn tells(
 ) {
     match edge {
         Some(edge) => is_event(rt, alloc, children, pid, edge, event),
-        None => holds(rt, event.is_empty(), event),
+        None => check_of(rt, event.is_empty(), event),
     }
 }
 
@@ -144,10 +148,10 @@ fn is_event(
 ) {
     let (name, rest) = event.split_once(' ').unwrap_or((event, ""));
     let kind = kind_of(edge.to).name();
-    holds(rt, is_behind(kind, "PROCESS_STATE_", name), event);
+    check_of(rt, is_behind(kind, "PROCESS_STATE_", name), event);
     let bytes = body_of(rt, alloc, children, pid, edge);
     let text = text_of(bytes.as_slice());
-    holds(
+    check_of(
         rt,
         is_behind(text, "processname:p groupname:g from_state:", rest),
         event,

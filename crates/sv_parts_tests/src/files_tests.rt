@@ -1,5 +1,6 @@
 //! Known sizes and the orders of logs, worked out by hand.
-use crate::claims::{holds, holds_at, is_number};
+use crate::checks::check_of;
+use crate::claims::{holds_at, is_number};
 use crate::orders::{are_of_daemon, first_of};
 use crate::sample::{config, group_of_one, logging};
 use std::alloc::Global;
@@ -75,7 +76,7 @@ fn is_sized(file: &Text, size: u64, wanted: &str) -> bool {
 /// What stands behind this file and its size, which come first.
 fn behind<'a>(rt: &impl Abort, file: &Text, size: u64, wanted: &'a str) -> &'a str {
     let (first, others) = first_of(wanted);
-    holds(rt, is_sized(file, size, first), wanted);
+    check_of(rt, is_sized(file, size, first), wanted);
     others
 }
 
@@ -85,7 +86,7 @@ fn are_known(rt: &impl Abort, sizes: &KnownSizes, wanted: &str) {
     for (file, size) in sizes.as_slice() {
         left = behind(rt, file, *size, left);
     }
-    holds(rt, left.is_empty(), left);
+    check_of(rt, left.is_empty(), left);
 }
 
 /// Takes a piece of a log.

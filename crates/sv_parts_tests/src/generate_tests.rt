@@ -1,6 +1,7 @@
 //! The first inputs of some runs, worked out by another program.
 
-use crate::claims::{holds, number_of};
+use crate::checks::check_of;
+use crate::claims::number_of;
 use crate::sample::moment;
 use std::process::Abort;
 use sv_base::ids::Run;
@@ -75,7 +76,7 @@ fn are_drawn(rt: &impl Abort, case: &Case) {
     let mut generated = generate(case.number);
     for wanted in case.draws.split('|') {
         let draw = generated.draw(case.issued);
-        holds(rt, draw == spelled(rt, wanted), wanted);
+        check_of(rt, draw == spelled(rt, wanted), wanted);
     }
 }
 

@@ -1,6 +1,7 @@
 //! A roster's lookups, its orders, and what adding and removing answer, by hand.
 
-use crate::claims::{holds, holds_at};
+use crate::checks::{check, check_of};
+use crate::claims::holds_at;
 use crate::sample::{group, processes, roster};
 use std::alloc::Global;
 use std::process::Abort;
@@ -49,7 +50,7 @@ fn add(rt: &impl Abort, roster: &mut Roster, group: GroupSpec) -> Option<GroupFa
 /// The group isn't added for this reason, or it is added.
 fn adds(rt: &impl Abort, roster: &mut Roster, group: GroupSpec, fault: Option<GroupFault>) {
     let found = add(rt, roster, group);
-    assert!(rt; found == fault);
+    check(rt, found == fault);
 }
 
 /// So many children, of which that of this place is in this state and the others never started.
@@ -99,7 +100,7 @@ fn removes(
     let children = children(rt, alloc, roster.count(), place, state);
     let found = remove(rt, roster, name, children.as_slice());
     drop(children);
-    holds(rt, found == fault, name);
+    check_of(rt, found == fault, name);
 }
 
 /// The name of the group of this place.
@@ -115,10 +116,10 @@ fn are_named(rt: &impl Abort, roster: &Roster, names: &[&str]) {
     let groups = roster.groups();
     let mut place = 0usize;
     for name in names {
-        holds(rt, group_at(groups, place) == *name, name);
+        check_of(rt, group_at(groups, place) == *name, name);
         place = place.saturating_add(1);
     }
-    holds(rt, groups.len() == place, "no more groups");
+    check_of(rt, groups.len() == place, "no more groups");
 }
 
 /// Whether the process of this place has these names, of its group and its own.
@@ -131,12 +132,12 @@ fn is_process(roster: &Roster, place: usize, group: &str, name: &str) -> bool {
 
 /// The process of this place has these names, of its group and its own.
 fn has_process(rt: &impl Abort, roster: &Roster, place: usize, group: &str, name: &str) {
-    holds(rt, is_process(roster, place, group, name), name);
+    check_of(rt, is_process(roster, place, group, name), name);
 }
 
 /// There are as many processes.
 fn has_so_many(rt: &impl Abort, roster: &Roster, count: usize) {
-    assert!(rt; roster.process(count).is_none());
+    check(rt, roster.process(count).is_none());
 }
 
 /// The start order of the sample.
@@ -144,7 +145,7 @@ const STARTS: [ChildId; 5] = [ChildId(0), ChildId(1), ChildId(2), ChildId(3), Ch
 
 fn starts_in_order(rt: &impl Abort, alloc: Global, roster: &Roster) {
     let starts = roster.start_order(alloc).expect(rt, "memory");
-    holds(rt, starts.as_slice() == STARTS.as_slice(), "starts");
+    check_of(rt, starts.as_slice() == STARTS.as_slice(), "starts");
     drop(starts);
 }
 
@@ -155,7 +156,7 @@ const STOPS: [ChildId; 2] = [ChildId(3), ChildId(2)];
 fn stops_in_order(rt: &impl Abort, alloc: Global, roster: &Roster) {
     assert!(rt; roster.groups().len() == 4);
     let stops = roster.stop_order(alloc, 2).expect(rt, "memory");
-    holds(rt, stops.as_slice() == STOPS.as_slice(), "stops");
+    check_of(rt, stops.as_slice() == STOPS.as_slice(), "stops");
     drop(stops);
 }
 
@@ -203,7 +204,7 @@ fn sample(rt: &impl Abort, alloc: Global) -> Roster {
 
 /// This name finds this in the roster.
 fn finds(rt: &impl Abort, roster: &Roster, name: &str, found: Found) {
-    holds(rt, roster.find(name) == found, name);
+    check_of(rt, roster.find(name) == found, name);
 }
 
 fn check_finds(rt: &impl Abort, roster: &Roster, wanted: &[(&str, Found)]) {

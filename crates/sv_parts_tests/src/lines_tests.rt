@@ -1,5 +1,5 @@
 //! The lines of a child's life along all edges of the diagram, and the other rows, written out by hand.
-use crate::claims::holds;
+use crate::checks::check_of;
 use crate::one_child::{Happening, Telling, answered, brought, is_answer, live, news, one_child};
 use crate::sample::moment;
 use std::alloc::Global;
@@ -106,7 +106,7 @@ fn other_rows(rt: HostRuntime) {
     overflows(&rt, rt.alloc());
     has_no_line(&rt, rt.alloc());
     for (line, log, wanted) in &WRITTEN {
-        holds(&rt, is_written(*line, *log) == *wanted, "what is written");
+        check_of(&rt, is_written(*line, *log) == *wanted, "what is written");
     }
 }
 
@@ -133,7 +133,7 @@ fn overflows(rt: &impl Abort, alloc: Global) {
 /// A main log of this level has this row for the line, a second after its first moment; an empty one is none.
 fn is_row(rt: &impl Abort, alloc: Global, level: Level, line: &Line, row: &str) {
     let written = written(alloc, level, moment(rt, 1_000), line).expect(rt, "memory");
-    holds(rt, is_the_row(&written, row), row);
+    check_of(rt, is_the_row(&written, row), row);
     drop(written);
 }
 
@@ -154,7 +154,7 @@ fn spawned(rt: &impl Abort, alloc: Global, children: &Children, place: usize) ->
 fn has_no_line(rt: &impl Abort, alloc: Global) {
     let children = one_child(rt, alloc);
     let line = spawned(rt, alloc, &children, 1);
-    holds(rt, line.is_none(), "no child");
+    check_of(rt, line.is_none(), "no child");
     drop(line);
     drop(children);
 }
@@ -175,7 +175,7 @@ pub fn tells_lines(
         let news = news(rt, happening);
         after_news(rt, alloc, children, &news, happening.now, lines)
     };
-    holds(rt, rest.is_empty(), rest);
+    check_of(rt, rest.is_empty(), rest);
 }
 
 /// What is left of these lines after those of an answer to the child's spawn.
@@ -266,7 +266,7 @@ fn after<'a>(rt: &impl Abort, line: Option<Line>, lines: &'a str) -> &'a str {
 /// What is left of these lines after this one, which is the first of them.
 fn behind<'a>(rt: &impl Abort, line: &Line, lines: &'a str) -> &'a str {
     let (first, rest) = lines.split_once('|').unwrap_or((lines, ""));
-    holds(rt, is_line(line, first), first);
+    check_of(rt, is_line(line, first), first);
     rest
 }
 

@@ -1,5 +1,6 @@
 //! Logs, spans and lines, worked out by hand.
-use crate::claims::{holds, holds_at};
+use crate::checks::{check, check_of};
+use crate::claims::holds_at;
 use crate::orders::are_of_log;
 use crate::sample::moment;
 use std::alloc::Global;
@@ -80,7 +81,7 @@ fn appends(
     orders: &str,
 ) {
     gives(rt, alloc, &mut plan, piece, orders);
-    holds(rt, plan.size == size, piece);
+    check_of(rt, plan.size == size, piece);
     drop(plan);
 }
 
@@ -145,7 +146,7 @@ fn carry(rt: &impl Abort, alloc: Global, files: &mut MapShelf, order: &FileOrder
         FileOrder::Shift(from, to) => files.shift(alloc, from.as_str(), to.as_str()),
         FileOrder::Fresh(name) => files.fresh(alloc, name.as_str()),
     };
-    assert!(rt; done.is_ok());
+    check(rt, done.is_ok());
 }
 
 /// Appends a piece to the log and carries out the orders for it.
@@ -169,7 +170,7 @@ fn old_files(rt: &impl Abort, alloc: Global) -> MapShelf {
 fn are_so_many(rt: &impl Abort, alloc: Global, files: &mut MapShelf, count: usize) {
     match files.names(alloc, "/*") {
         Ok(names) => holds_at(rt, names.as_slice().len() == count, count as u64),
-        Err(_) => holds(rt, false, "memory"),
+        Err(_) => check_of(rt, false, "memory"),
     }
 }
 
@@ -179,7 +180,7 @@ fn is_held(rt: &impl Abort, alloc: Global, files: &MapShelf, name: &str, text: &
         Ok(Some(bytes)) => bytes.as_slice(),
         _ => b"no file",
     };
-    holds(rt, held == text.as_bytes(), name);
+    check_of(rt, held == text.as_bytes(), name);
 }
 
 /// These are the files, each with what it holds.
@@ -423,6 +424,6 @@ fn spans_and_lines(rt: HostRuntime) {
 /// The line of the main log at this moment, of this level and with this text.
 fn writes(rt: &impl Abort, alloc: Global, (now, level): (u64, Level), text: &str, line: &str) {
     let written = main_line(alloc, moment(rt, now), level, text).expect(rt, "memory");
-    holds(rt, written.as_slice() == line.as_bytes(), line);
+    check_of(rt, written.as_slice() == line.as_bytes(), line);
     drop(written);
 }

@@ -1,5 +1,6 @@
 //! Orders of files as the tables of the tests write them.
-use crate::claims::{holds, text_of};
+use crate::checks::check_of;
+use crate::claims::text_of;
 use std::process::Abort;
 use sv_base::config::FileOrder;
 use sv_out::order::Order;
@@ -44,14 +45,14 @@ fn is_of_daemon(order: &Order, wanted: &str) -> bool {
 /// What stands behind this order of a log, which comes first.
 fn behind_log<'a>(rt: &impl Abort, order: &FileOrder, wanted: &'a str) -> &'a str {
     let (first, others) = first_of(wanted);
-    holds(rt, is_of_log(order, first), wanted);
+    check_of(rt, is_of_log(order, first), wanted);
     others
 }
 
 /// What stands behind this order of a daemon, which comes first.
 fn behind_daemon<'a>(rt: &impl Abort, order: &Order, wanted: &'a str) -> &'a str {
     let (first, others) = first_of(wanted);
-    holds(rt, is_of_daemon(order, first), wanted);
+    check_of(rt, is_of_daemon(order, first), wanted);
     others
 }
 
@@ -61,7 +62,7 @@ pub fn are_of_log(rt: &impl Abort, orders: &[FileOrder], wanted: &str) {
     for order in orders {
         left = behind_log(rt, order, left);
     }
-    holds(rt, left.is_empty(), left);
+    check_of(rt, left.is_empty(), left);
 }
 
 /// These are the orders of a daemon.
@@ -70,5 +71,5 @@ pub fn are_of_daemon(rt: &impl Abort, orders: &[Order], wanted: &str) {
     for order in orders {
         left = behind_daemon(rt, order, left);
     }
-    holds(rt, left.is_empty(), left);
+    check_of(rt, left.is_empty(), left);
 }

@@ -1,5 +1,5 @@
 //! Calls of a pool with what it holds after them, worked out by hand.
-use crate::claims::holds;
+use crate::checks::check_of;
 use std::alloc::Global;
 use std::process::Abort;
 use sv_base::bytes::Bytes;
@@ -94,11 +94,11 @@ fn step(rt: &impl Abort, alloc: Global, pool: &mut Pool, word: &str, serial: u64
     match word.as_bytes() {
         [b'a', report @ ..] => {
             let report = is_reported(accept(rt, alloc, pool, serial), report);
-            holds(rt, report, word);
+            check_of(rt, report, word);
             serial.wrapping_add(1)
         }
         step => {
-            holds(rt, is_done(rt, pool, step), word);
+            check_of(rt, is_done(rt, pool, step), word);
             serial
         }
     }

@@ -1,5 +1,6 @@
 //! Calls of a daemon's pools, and what they order, worked out by hand.
-use crate::claims::{holds, is_number, text_of};
+use crate::checks::check_of;
+use crate::claims::{is_number, text_of};
 use crate::sample::{group, processes, roster};
 use std::alloc::Global;
 use std::process::Abort;
@@ -70,12 +71,12 @@ fn make(
         [b't'] => offer(rt, alloc, pools, Kind::Tick5, given),
         [b'h', place] => {
             let is_handed = is_handed(rt, alloc, pools, *place, given);
-            holds(rt, is_handed != wanted.is_empty(), step);
-            holds(rt, !is_handed | pools.holds(child(*place)), step);
+            check_of(rt, is_handed != wanted.is_empty(), step);
+            check_of(rt, !is_handed | pools.holds(child(*place)), step);
         }
         [b'k', place] => pools.acknowledge(child(*place)),
         [b'r', place] => pools.reject(child(*place), given).expect(rt, "memory"),
-        _ => holds(rt, false, "no such step"),
+        _ => check_of(rt, false, "no such step"),
     }
 }
 
@@ -114,9 +115,9 @@ fn child(digit: u8) -> ChildId {
 /// Nothing is ordered, or what a script writes.
 fn are_ordered(rt: &impl Abort, alloc: Global, orders: &[Order], wanted: &str) {
     match orders {
-        [] => holds(rt, wanted.is_empty(), wanted),
+        [] => check_of(rt, wanted.is_empty(), wanted),
         [order] => is_ordered(rt, alloc, order, wanted),
-        _ => holds(rt, false, wanted),
+        _ => check_of(rt, false, wanted),
     }
 }
 
@@ -129,7 +130,7 @@ fn is_ordered(rt: &impl Abort, alloc: Global, order: &Order, wanted: &str) {
             poolserial,
         } => {
             let numbers = wanted.strip_prefix(pool.as_str()).unwrap_or("");
-            holds(rt, are_numbers(numbers, *poolserial, *serial), wanted);
+            check_of(rt, are_numbers(numbers, *poolserial, *serial), wanted);
         }
         Order::Stdin { run, bytes } => {
             is_handed_over(rt, alloc, run.0, text_of(bytes.as_slice()), wanted);
@@ -149,7 +150,7 @@ fn are_numbers(text: &str, first: u64, second: u64) -> bool {
 /// The run gets the event that a script writes.
 fn is_handed_over(rt: &impl Abort, alloc: Global, run: u32, text: &str, wanted: &str) {
     let (digits, event) = wanted.split_once('>').unwrap_or(("", wanted));
-    holds(rt, is_number(digits, u64::from(run)), wanted);
+    check_of(rt, is_number(digits, u64::from(run)), wanted);
     let pool = if run == 13 { "t" } else { "e" };
     is_enveloped(rt, alloc, pool, event, text);
 }
@@ -158,7 +159,7 @@ fn is_handed_over(rt: &impl Abort, alloc: Global, run: u32, text: &str, wanted: 
 fn is_enveloped(rt: &impl Abort, alloc: Global, pool: &str, event: &str, text: &str) {
     let (serial, poolserial) = event.split_once('/').unwrap_or((event, ""));
     let envelope = envelope(rt, alloc, pool, serial, poolserial);
-    holds(rt, envelope.as_str() == text, event);
+    check_of(rt, envelope.as_str() == text, event);
     drop(envelope);
 }
 

@@ -1,6 +1,7 @@
 //! Deadlines that were set and cleared, with who is due, worked out by hand.
 ghost use Rattle.std.specs.Prelude.{◌≡◌};
 
+use crate::checks::check;
 use crate::claims::holds_at;
 use crate::sample::moment;
 use std::alloc::Global;
@@ -38,7 +39,7 @@ const DUE: [(u8, &[ChildId]); 5] = [
 
 /// The first deadline of the table is this one.
 fn begins_at(rt: &impl Abort, due: &Due, earliest: Option<Deadline>) {
-    assert!(rt; due.earliest() == earliest);
+    check(rt, due.earliest() == earliest);
 }
 
 #[test]
@@ -78,7 +79,10 @@ fn two_of_three(rt: &impl Abort, alloc: Global) -> Looked {
 
 /// The list has so many children, and counts three looks.
 fn has_looked(rt: &impl Abort, looked: &Looked, children: usize) {
-    assert!(rt; looked.children().len() == children && looked.looks() == 3);
+    check(
+        rt,
+        looked.children().len() == children && looked.looks() == 3,
+    );
 }
 
 #[test]
@@ -103,7 +107,7 @@ fn is_next(rt: &impl Abort, agenda: &mut Agenda, from: usize, child: Option<Chil
     ensures { agenda.new ≡ agenda.old }
 {
     let next = agenda.next(from, Moment::zero());
-    assert!(rt; next.child == child && next.looks == looks);
+    check(rt, next.child == child && next.looks == looks);
 }
 
 #[test]

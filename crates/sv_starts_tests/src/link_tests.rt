@@ -1,4 +1,5 @@
 //! Links over a gate in memory.
+use crate::checks::check;
 use crate::quiet::{QuietLink, TestGate, TestJob};
 use std::alloc::Global;
 use std::process::Abort;
@@ -33,7 +34,7 @@ fn open(rt: &impl Abort, links: &mut TestLinks) -> u32 {
 
 /// Takes in a link, which gets this number.
 fn is_opened(rt: &impl Abort, links: &mut TestLinks, number: u32) {
-    assert!(rt; open(rt, links) == number);
+    check(rt, open(rt, links) == number);
 }
 
 /// The first order of a link, where it isn't a Close.
@@ -51,7 +52,7 @@ fn start(
 /// Takes in a link with the number 1, and starts it.
 fn open_and_start(rt: &impl Abort, alloc: Global, links: &mut TestLinks, gate: &mut TestGate) {
     is_opened(rt, links, 1);
-    assert!(rt; start(rt, alloc, links, gate, 1));
+    check(rt, start(rt, alloc, links, gate, 1));
 }
 
 /// Starts a link with the number 1.
@@ -77,9 +78,9 @@ fn send<R: Abort + Wait>(rt: &R, alloc: Global, links: &mut TestLinks, link: u32
 
 /// These jobs are those of the links of these digits.
 fn are_words(rt: &impl Abort, jobs: &[TestJob], digits: &str) {
-    assert!(rt; jobs.len() == digits.len());
+    check(rt, jobs.len() == digits.len());
     for (job, digit) in jobs.iter().zip(digits.as_bytes()) {
-        assert!(rt; word_digit(job.word()) == *digit);
+        check(rt, word_digit(job.word()) == *digit);
     }
 }
 
@@ -102,13 +103,13 @@ fn word_digit(word: JobWord) -> u8 {
 fn are_started_once(rt: &impl Abort, alloc: Global, links: &mut TestLinks, gate: &mut TestGate) {
     is_opened(rt, links, 1);
     is_opened(rt, links, 2);
-    assert!(rt; links.waiting.len() == 2);
-    assert!(rt; start(rt, alloc, links, gate, 2));
-    assert!(rt; start(rt, alloc, links, gate, 1));
-    assert!(rt; start(rt, alloc, links, gate, 2));
-    assert!(rt; start(rt, alloc, links, gate, 9));
-    assert!(rt; links.waiting.is_empty());
-    assert!(rt; links.lives.len() == 2);
+    check(rt, links.waiting.len() == 2);
+    check(rt, start(rt, alloc, links, gate, 2));
+    check(rt, start(rt, alloc, links, gate, 1));
+    check(rt, start(rt, alloc, links, gate, 2));
+    check(rt, start(rt, alloc, links, gate, 9));
+    check(rt, links.waiting.is_empty());
+    check(rt, links.lives.len() == 2);
     is_opened(rt, links, 3);
 }
 
@@ -123,7 +124,7 @@ fn links_are_numbered_and_started_once(rt: HostRuntime) {
 /// Sends sixteen times, which all are taken.
 fn send_16<R: Abort + Wait>(rt: &R, alloc: Global, links: &mut TestLinks) {
     for _ in 0..16 {
-        assert!(rt; send(rt, alloc, links, 1) == Handed::Done);
+        check(rt, send(rt, alloc, links, 1) == Handed::Done);
     }
 }
 
@@ -132,8 +133,8 @@ fn fails_at_17<R: Abort + Wait>(rt: &R, alloc: Global, links: &mut TestLinks) {
     send_16(rt, alloc, links);
     links.sent(LinkId(2));
     links.sent(LinkId(1));
-    assert!(rt; send(rt, alloc, links, 1) == Handed::Done);
-    assert!(rt; send(rt, alloc, links, 1) == Handed::Failed);
+    check(rt, send(rt, alloc, links, 1) == Handed::Done);
+    check(rt, send(rt, alloc, links, 1) == Handed::Failed);
 }
 
 #[test]
@@ -156,7 +157,7 @@ fn is_told<R: Abort + Wait>(rt: &R, job: &mut TestJob, letters: &str) {
     match job {
         AnyJob::Link(job) => {
             for expected in letters.as_bytes() {
-                assert!(rt; letter(&job.words.take(rt)) == *expected);
+                check(rt, letter(&job.words.take(rt)) == *expected);
             }
         }
         _ => assert!(rt; false),
@@ -177,10 +178,10 @@ fn is_closed_once<R: Abort + Wait>(
     gate: &mut TestGate,
 ) {
     open_and_start(rt, alloc, links, gate);
-    assert!(rt; links.more(rt, LinkId(1)) == Handed::Done);
+    check(rt, links.more(rt, LinkId(1)) == Handed::Done);
     send_16(rt, alloc, links);
-    assert!(rt; send(rt, alloc, links, 1) == Handed::Failed);
-    assert!(rt; links.more(rt, LinkId(1)) == Handed::Failed);
+    check(rt, send(rt, alloc, links, 1) == Handed::Failed);
+    check(rt, links.more(rt, LinkId(1)) == Handed::Failed);
 }
 
 #[test]
@@ -193,23 +194,23 @@ fn a_link_with_a_failed_order_is_closed_once(rt: HostRuntime) {
 
 /// Each order fails.
 fn all_fail<R: Abort + Wait>(rt: &R, alloc: Global, links: &mut TestLinks) {
-    assert!(rt; links.more(rt, LinkId(1)) == Handed::Failed);
-    assert!(rt; links.close(rt, LinkId(1)) == Handed::Failed);
-    assert!(rt; send(rt, alloc, links, 1) == Handed::Failed);
+    check(rt, links.more(rt, LinkId(1)) == Handed::Failed);
+    check(rt, links.close(rt, LinkId(1)) == Handed::Failed);
+    check(rt, send(rt, alloc, links, 1) == Handed::Failed);
 }
 
 /// After an order that failed each one fails, until the link has ended.
 fn fails_on<R: Abort + Wait>(rt: &R, alloc: Global, links: &mut TestLinks) {
     send_16(rt, alloc, links);
-    assert!(rt; send(rt, alloc, links, 1) == Handed::Failed);
+    check(rt, send(rt, alloc, links, 1) == Handed::Failed);
     for _ in 0..20 {
         all_fail(rt, alloc, links);
     }
     links.sent(LinkId(1));
-    assert!(rt; send(rt, alloc, links, 1) == Handed::Failed);
+    check(rt, send(rt, alloc, links, 1) == Handed::Failed);
     links.ended(LinkId(1));
-    assert!(rt; links.lives.is_empty());
-    assert!(rt; send(rt, alloc, links, 1) == Handed::Done);
+    check(rt, links.lives.is_empty());
+    check(rt, send(rt, alloc, links, 1) == Handed::Done);
 }
 
 #[test]
@@ -222,11 +223,11 @@ fn after_a_failed_order_each_one_fails(rt: HostRuntime) {
 fn is_let_go<R: Abort + Wait>(rt: &R, alloc: Global, links: &mut TestLinks, gate: &mut TestGate) {
     is_opened(rt, links, 1);
     is_opened(rt, links, 2);
-    assert!(rt; links.close(rt, LinkId(1)) == Handed::Done);
-    assert!(rt; links.waiting.len() == 1);
-    assert!(rt; start(rt, alloc, links, gate, 1));
-    assert!(rt; links.more(rt, LinkId(1)) == Handed::Done);
-    assert!(rt; links.lives.is_empty());
+    check(rt, links.close(rt, LinkId(1)) == Handed::Done);
+    check(rt, links.waiting.len() == 1);
+    check(rt, start(rt, alloc, links, gate, 1));
+    check(rt, links.more(rt, LinkId(1)) == Handed::Done);
+    check(rt, links.lives.is_empty());
 }
 
 #[test]
@@ -241,13 +242,13 @@ fn a_link_whose_first_order_is_close_is_let_go(rt: HostRuntime) {
 fn is_lost<R: Abort + Wait>(rt: &R, alloc: Global, links: &mut TestLinks, gate: &mut TestGate) {
     is_opened(rt, links, 1);
     is_opened(rt, links, 2);
-    assert!(rt; start(rt, alloc, links, gate, 1));
-    assert!(rt; !start(rt, alloc, links, gate, 2));
-    assert!(rt; links.more(rt, LinkId(1)) == Handed::Done);
-    assert!(rt; links.more(rt, LinkId(2)) == Handed::Failed);
-    assert!(rt; links.close(rt, LinkId(2)) == Handed::Failed);
-    assert!(rt; links.waiting.is_empty());
-    assert!(rt; links.lives.len() == 1);
+    check(rt, start(rt, alloc, links, gate, 1));
+    check(rt, !start(rt, alloc, links, gate, 2));
+    check(rt, links.more(rt, LinkId(1)) == Handed::Done);
+    check(rt, links.more(rt, LinkId(2)) == Handed::Failed);
+    check(rt, links.close(rt, LinkId(2)) == Handed::Failed);
+    check(rt, links.waiting.is_empty());
+    check(rt, links.lives.len() == 1);
 }
 
 #[test]
@@ -260,14 +261,14 @@ fn a_link_whose_job_comes_back_is_lost(rt: HostRuntime) {
 
 /// A link that is closed is kept until it has ended.
 fn is_kept<R: Abort + Wait>(rt: &R, links: &mut TestLinks) {
-    assert!(rt; links.more(rt, LinkId(1)) == Handed::Done);
-    assert!(rt; links.close(rt, LinkId(1)) == Handed::Done);
-    assert!(rt; links.lives.len() == 1);
+    check(rt, links.more(rt, LinkId(1)) == Handed::Done);
+    check(rt, links.close(rt, LinkId(1)) == Handed::Done);
+    check(rt, links.lives.len() == 1);
     links.ended(LinkId(2));
-    assert!(rt; links.lives.len() == 1);
+    check(rt, links.lives.len() == 1);
     links.ended(LinkId(1));
-    assert!(rt; links.lives.is_empty());
-    assert!(rt; links.close(rt, LinkId(1)) == Handed::Done);
+    check(rt, links.lives.is_empty());
+    check(rt, links.close(rt, LinkId(1)) == Handed::Done);
 }
 
 #[test]

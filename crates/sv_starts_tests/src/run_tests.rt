@@ -1,4 +1,5 @@
 //! Runs over a spawner and a gate in memory.
+use crate::checks::check;
 use crate::quiet::{TestGate, TestJob};
 use std::alloc::Global;
 use std::collections::VecDeque;
@@ -81,14 +82,14 @@ fn is_spawned<R: Abort + Wait>(
 ) {
     let mut seats = seats_of(rt, alloc);
     let came = come_to(rt, alloc, runs, &mut seats, gate, &order(alloc, 5));
-    assert!(rt; came == letter);
+    check(rt, came == letter);
 }
 
 /// What a spawner was asked for is this: a letter for each, upper case where it did it.
 fn are_asked(rt: &impl Abort, asked: &[Asked], letters: &str) {
-    assert!(rt; asked.len() == letters.len());
+    check(rt, asked.len() == letters.len());
     for (asked, letter) in asked.iter().zip(letters.as_bytes()) {
-        assert!(rt; asked_letter(asked) == *letter);
+        check(rt, asked_letter(asked) == *letter);
     }
 }
 
@@ -109,9 +110,9 @@ fn asked_letter(asked: &Asked) -> u8 {
 
 /// These jobs are so many as letters, and each is of its letter.
 fn are_words(rt: &impl Abort, jobs: &[TestJob], letters: &str) {
-    assert!(rt; jobs.len() == letters.len());
+    check(rt, jobs.len() == letters.len());
     for (job, letter) in jobs.iter().zip(letters.as_bytes()) {
-        assert!(rt; word_letter(job.word()) == *letter);
+        check(rt, word_letter(job.word()) == *letter);
     }
 }
 
@@ -136,7 +137,7 @@ fn is_started<R: Abort + Wait>(rt: &R, alloc: Global, gate: &mut TestGate) {
     let mut runs = runs_of(rt, alloc, &[]);
     is_spawned(rt, alloc, &mut runs, gate, 'p');
     are_asked(rt, runs.spawner.asked(), "S");
-    assert!(rt; runs.lives.len() == 1);
+    check(rt, runs.lives.len() == 1);
 }
 
 #[test]
@@ -157,7 +158,7 @@ fn is_lost<R: Abort + Wait>(
     let mut runs = runs_of(rt, alloc, failing);
     is_spawned(rt, alloc, &mut runs, gate, 'n');
     are_asked(rt, runs.spawner.asked(), asked);
-    assert!(rt; runs.lives.is_empty());
+    check(rt, runs.lives.is_empty());
 }
 
 /// A spawn over a gate with this room, and a spawner that fails at these calls, costs the run, asks for this, and leaves these jobs.
@@ -189,7 +190,7 @@ fn a_kill_that_fails_costs_the_run_too(rt: HostRuntime) {
 /// This job writes a standard input, which is closed.
 fn is_closed<R: Abort + Wait>(rt: &R, job: &mut TestJob) {
     match job {
-        AnyJob::Stdin(job) => assert!(rt; matches!(&job.words.take(rt), StdinWord::Close)),
+        AnyJob::Stdin(job) => check(rt, matches!(&job.words.take(rt), StdinWord::Close)),
         _ => assert!(rt; false),
     }
 }
@@ -245,14 +246,14 @@ fn write<R: Abort + Wait>(rt: &R, alloc: Global, runs: &mut TestRuns, run: u32) 
 /// The 65th piece that isn't written yet fails.
 fn fails_at_65<R: Abort + Wait>(rt: &R, alloc: Global, runs: &mut TestRuns) {
     for _ in 0..64 {
-        assert!(rt; write(rt, alloc, runs, 5) == Handed::Done);
+        check(rt, write(rt, alloc, runs, 5) == Handed::Done);
     }
-    assert!(rt; write(rt, alloc, runs, 5) == Handed::Failed);
+    check(rt, write(rt, alloc, runs, 5) == Handed::Failed);
     runs.wrote(Run(4));
-    assert!(rt; write(rt, alloc, runs, 5) == Handed::Failed);
+    check(rt, write(rt, alloc, runs, 5) == Handed::Failed);
     runs.wrote(Run(5));
-    assert!(rt; write(rt, alloc, runs, 5) == Handed::Done);
-    assert!(rt; write(rt, alloc, runs, 5) == Handed::Failed);
+    check(rt, write(rt, alloc, runs, 5) == Handed::Done);
+    check(rt, write(rt, alloc, runs, 5) == Handed::Failed);
 }
 
 #[test]
@@ -263,12 +264,12 @@ fn the_65th_unwritten_piece_fails(rt: HostRuntime) {
 
 /// After a run's end what is written to it goes nowhere.
 fn ends<R: Abort + Wait>(rt: &R, alloc: Global, runs: &mut TestRuns) {
-    assert!(rt; write(rt, alloc, runs, 5) == Handed::Done);
-    assert!(rt; runs.exited(rt, Run(4)).is_none());
-    assert!(rt; runs.lives.len() == 1);
-    assert!(rt; runs.exited(rt, Run(5)).is_some());
-    assert!(rt; runs.lives.is_empty());
-    assert!(rt; write(rt, alloc, runs, 5) == Handed::Done);
+    check(rt, write(rt, alloc, runs, 5) == Handed::Done);
+    check(rt, runs.exited(rt, Run(4)).is_none());
+    check(rt, runs.lives.len() == 1);
+    check(rt, runs.exited(rt, Run(5)).is_some());
+    check(rt, runs.lives.is_empty());
+    check(rt, write(rt, alloc, runs, 5) == Handed::Done);
 }
 
 #[test]
@@ -280,10 +281,10 @@ fn a_run_that_ended_is_written_no_more(rt: HostRuntime) {
 /// After the end of a run's input a piece for it fails.
 fn input_ends<R: Abort + Wait>(rt: &R, alloc: Global, runs: &mut TestRuns) {
     runs.stdin_ended(Run(4));
-    assert!(rt; write(rt, alloc, runs, 5) == Handed::Done);
+    check(rt, write(rt, alloc, runs, 5) == Handed::Done);
     runs.stdin_ended(Run(5));
-    assert!(rt; write(rt, alloc, runs, 5) == Handed::Failed);
-    assert!(rt; write(rt, alloc, runs, 4) == Handed::Done);
+    check(rt, write(rt, alloc, runs, 5) == Handed::Failed);
+    check(rt, write(rt, alloc, runs, 4) == Handed::Done);
 }
 
 #[test]
@@ -294,12 +295,12 @@ fn a_piece_after_the_end_of_the_input_fails(rt: HostRuntime) {
 
 /// Signals go to a run until it has ended.
 fn is_signalled<R: Abort + Wait>(rt: &R, alloc: Global, runs: &mut TestRuns) {
-    assert!(rt; killed(rt, alloc, runs, 4) == Handed::Done);
-    assert!(rt; killed(rt, alloc, runs, 5) == Handed::Done);
-    assert!(rt; killed(rt, alloc, runs, 5) == Handed::Failed);
-    assert!(rt; runs.exited(rt, Run(4)).is_none());
-    assert!(rt; runs.exited(rt, Run(5)).is_some());
-    assert!(rt; killed(rt, alloc, runs, 5) == Handed::Done);
+    check(rt, killed(rt, alloc, runs, 4) == Handed::Done);
+    check(rt, killed(rt, alloc, runs, 5) == Handed::Done);
+    check(rt, killed(rt, alloc, runs, 5) == Handed::Failed);
+    check(rt, runs.exited(rt, Run(4)).is_none());
+    check(rt, runs.exited(rt, Run(5)).is_some());
+    check(rt, killed(rt, alloc, runs, 5) == Handed::Done);
     are_asked(rt, runs.spawner.asked(), "STk");
 }
 

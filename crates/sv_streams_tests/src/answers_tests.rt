@@ -1,5 +1,6 @@
 //! Requests, parts and replies that were written out by hand.
 
+use crate::checks::check_of;
 use std::alloc::Global;
 use std::process::Abort;
 use sv_answers::{
@@ -66,7 +67,7 @@ fn names(rt: &impl Abort, call: &Call, case: &Case) {
     let subject = subject_of(call).expect(rt, "memory");
     match (&subject, case.subject) {
         (None, None) => {}
-        (Some(subject), Some(wanted)) => assert!(rt; subject.as_str() == wanted, "{}", case.body),
+        (Some(subject), Some(wanted)) => check_of(rt, subject.as_str() == wanted, case.body),
         _ => assert!(rt; false, "{}", case.body),
     }
 }
@@ -75,16 +76,16 @@ fn names(rt: &impl Abort, call: &Call, case: &Case) {
 fn has_parts(rt: &impl Abort, alloc: Global, call: &Call, case: &Case) {
     let parts = parts_asked(alloc, call).expect(rt, "memory");
     match &parts {
-        Some(parts) => assert_eq!(rt; Some(parts.len()), case.parts, "{}", case.body),
-        None => assert!(rt; case.parts.is_none(), "{}", case.body),
+        Some(parts) => check_of(rt, Some(parts.len()) == case.parts, case.body),
+        None => check_of(rt, case.parts.is_none(), case.body),
     }
 }
 
 fn is_wanted(rt: &impl Abort, alloc: Global, call: &Call, case: &Case) {
-    assert!(rt; call.method.as_str() == case.method, "{}", case.body);
+    check_of(rt, call.method.as_str() == case.method, case.body);
     names(rt, call, case);
     let several = case.method == "system.multicall";
-    assert_eq!(rt; is_several(call), several, "{}", case.body);
+    check_of(rt, is_several(call) == several, case.body);
     has_parts(rt, alloc, call, case);
 }
 
@@ -99,7 +100,7 @@ fn is_call(rt: &impl Abort, alloc: Global, case: &Case) {
     let heard = hear(alloc, ask).expect(rt, "memory");
     match &heard {
         Heard::Calls(call, close) => {
-            assert!(rt; *close, "{}", case.body);
+            check_of(rt, *close, case.body);
             is_wanted(rt, alloc, call, case);
         }
         Heard::Refuses(_) => assert!(rt; false, "{}", case.body),
@@ -114,8 +115,8 @@ fn requests_are_calls(rt: HostRuntime) {
 }
 
 fn is_said(rt: &impl Abort, sent: &Sent, text: &str, closes: bool) {
-    assert!(rt; sent.text.as_slice() == text.as_bytes(), "{text}");
-    assert_eq!(rt; sent.closes, closes, "{text}");
+    check_of(rt, sent.text.as_slice() == text.as_bytes(), text);
+    check_of(rt, sent.closes == closes, text);
 }
 
 /// A request without the password.
@@ -278,8 +279,8 @@ fn answer(rt: &impl Abort, alloc: Global, back: &Back) -> Answered {
 fn says(rt: &impl Abort, alloc: Global, answered: &Answered, body: &str) {
     let sent = say(alloc, false, answered).expect(rt, "memory");
     let text = std::str::from_utf8(sent.text.as_slice()).unwrap_or("");
-    assert!(rt; text.contains(body), "{body}");
-    assert!(rt; !sent.closes, "the link goes on");
+    check_of(rt, text.contains(body), body);
+    check_of(rt, !sent.closes, "the link goes on");
 }
 
 #[test]

@@ -1,5 +1,6 @@
 //! Calls that were gone through by hand.
 
+use crate::checks::check_of;
 use std::alloc::Global;
 use std::process::Abort;
 use sv_base::ids::{ChildId, LinkId};
@@ -33,13 +34,13 @@ fn waiting(rows: Items<Asked>) -> Waiting {
 fn is_written(rt: &impl Abort, alloc: Global, value: &Value, text: &str) {
     let written = write_reply(alloc, value).expect(rt, "memory");
     let written = std::str::from_utf8(written.as_slice()).unwrap_or("");
-    assert!(rt; written.contains(text), "{text}");
+    check_of(rt, written.contains(text), text);
 }
 
 /// The text of the value of an answer.
 fn is_text(rt: &impl Abort, alloc: Global, answer: Option<Answer>, close: bool, text: &str) {
     let answer = answer.expect(rt, "an answer");
-    assert_eq!(rt; answer.close, close, "{text}");
+    check_of(rt, answer.close == close, text);
     match &answer.answered {
         Answered::Value(value) => is_written(rt, alloc, value, text),
         Answered::Fault(_, _) => assert!(rt; false, "{text}"),
@@ -60,12 +61,12 @@ fn gives_nothing(
     told: &str,
 ) {
     let given = calls.answer(alloc, link, answered).expect(rt, "memory");
-    assert!(rt; given.is_none(), "{told}");
+    check_of(rt, given.is_none(), told);
 }
 
 fn is_not_at_its_end(rt: &impl Abort, calls: &mut Calls) {
     let end = calls.finish(LINK).expect(rt, "memory");
-    assert!(rt; end.is_none(), "it isn't answered");
+    check_of(rt, end.is_none(), "it isn't answered");
 }
 
 #[test]
@@ -73,7 +74,7 @@ fn one_call_is_answered_at_once(rt: HostRuntime) {
     let alloc = rt.alloc();
     let mut calls = Calls::new(alloc);
     calls.begin(LINK, true).expect(&rt, "memory");
-    assert_eq!(&rt; calls.parts_left(LINK), 0, "it has no parts");
+    check_of(&rt, calls.parts_left(LINK) == 0, "it has no parts");
     gives_nothing(&rt, alloc, &mut calls, LinkId(4), number(1), "another link");
     is_not_at_its_end(&rt, &mut calls);
     let answer = calls.answer(alloc, LINK, number(1)).expect(&rt, "memory");
@@ -106,17 +107,19 @@ fn two_rows(rt: &impl Abort, alloc: Global) -> Items<Asked> {
 
 fn takes_the_start(rt: &impl Abort, calls: &mut Calls) {
     let request = calls.take_request(LINK);
-    assert!(rt;
+    check_of(
+        rt,
         matches!(request, Some(Request::Start(ChildId(7)))),
-        "the start first"
+        "the start first",
     );
 }
 
 fn takes_the_clear(rt: &impl Abort, calls: &mut Calls) {
     let request = calls.take_request(LINK);
-    assert!(rt;
+    check_of(
+        rt,
         matches!(request, Some(Request::Clear(_))),
-        "then the clear"
+        "then the clear",
     );
 }
 
@@ -130,7 +133,7 @@ fn goes_wrong(
     told: &str,
 ) {
     calls.set_back(alloc, LINK, setback);
-    assert!(rt; faults(rt, calls) == wanted, "{told}");
+    check_of(rt, faults(rt, calls) == wanted, told);
 }
 
 /// What may go wrong with the start.
@@ -166,7 +169,7 @@ fn requests_have_their_rows(rt: HostRuntime) {
     the_start_goes_wrong(&rt, alloc, &mut calls);
     takes_the_clear(&rt, &mut calls);
     the_clear_goes_wrong(&rt, alloc, &mut calls);
-    assert!(&rt; calls.take_request(LINK).is_none(), "no other is left");
+    check_of(&rt, calls.take_request(LINK).is_none(), "no other is left");
 }
 
 /// A call, and a fault.
@@ -181,20 +184,22 @@ fn two_parts(rt: &impl Abort, alloc: Global) -> Vec<Part> {
 
 /// The call is taken; while it acts no other part is.
 fn takes_the_call(rt: &impl Abort, alloc: Global, calls: &mut Calls) {
-    assert!(rt;
+    check_of(
+        rt,
         matches!(calls.take_part(LINK), Some(Part::Call(_))),
-        "the call first"
+        "the call first",
     );
     let rows = Items::new(alloc);
     calls.act(LINK, Items::new(alloc), waiting(rows));
-    assert_eq!(rt; calls.parts_left(LINK), 0, "it isn't answered");
-    assert!(rt; calls.take_part(LINK).is_none(), "nor begun");
+    check_of(rt, calls.parts_left(LINK) == 0, "it isn't answered");
+    check_of(rt, calls.take_part(LINK).is_none(), "nor begun");
 }
 
 fn takes_the_fault(rt: &impl Abort, calls: &mut Calls) {
-    assert!(rt;
+    check_of(
+        rt,
         matches!(calls.take_part(LINK), Some(Part::Fault(2, _))),
-        "then the fault"
+        "then the fault",
     );
 }
 
@@ -203,7 +208,7 @@ fn begins_two_parts(rt: &impl Abort, alloc: Global, calls: &mut Calls) {
     let parts = two_parts(rt, alloc);
     let begun = calls.begin_several(alloc, LINK, false, parts);
     begun.expect(rt, "memory");
-    assert_eq!(rt; calls.parts_left(LINK), 2, "two parts");
+    check_of(rt, calls.parts_left(LINK) == 2, "two parts");
 }
 
 /// The fault is gathered.

@@ -1,5 +1,6 @@
 //! Captured streams, worked by hand.
 
+use crate::checks::check;
 use crate::parts::{APART, JOINED, behind_parts, piece_of};
 use std::alloc::Global;
 use std::process::Abort;
@@ -151,7 +152,7 @@ fn give(rt: &impl Abort, alloc: Global, capture: &mut Capture, text: &str) {
 fn check_held(rt: &impl Abort, alloc: Global, text: &str, expected: u64) {
     let mut capture = Capture::new(alloc, 10).expect(rt, "ample memory");
     give(rt, alloc, &mut capture, text);
-    assert_eq!(rt; capture.held(), expected);
+    check(rt, capture.held() == expected);
 }
 
 #[test]

@@ -9,6 +9,8 @@ mod calls_tests;
 #[cfg(test)]
 mod capture_tests;
 #[cfg(test)]
+mod checks;
+#[cfg(test)]
 mod links_tests;
 #[cfg(test)]
 mod multi_tests;

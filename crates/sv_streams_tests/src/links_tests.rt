@@ -1,4 +1,5 @@
 //! Links whose pieces come, whose requests are answered and that end, with what comes of each step written out by hand.
+use crate::checks::{check, check_of};
 use std::alloc::Global;
 use std::process::Abort;
 use std::rt::HostRuntime;
@@ -60,23 +61,23 @@ fn serves_as_many_as_may_be_open(rt: HostRuntime) {
     feed(&rt, alloc, &mut links, 66, b"a", true);
     asked(&rt, &mut links, 66, "a");
     is_last(&rt, alloc, &links, LinkId(66));
-    assert!(rt; LINK_LIMIT == 64, "the limit");
+    check_of(&rt, LINK_LIMIT == 64, "the limit");
 }
 
 /// This link is the last of those that are served.
 fn is_last(rt: &impl Abort, alloc: Global, links: &Links, link: LinkId) {
     let busy = links.busy_links(alloc).expect(rt, "memory");
-    assert!(rt; busy.last() == Some(&link), "it is served");
+    check_of(rt, busy.last() == Some(&link), "it is served");
 }
 
 /// Nothing comes of a link that is over.
 fn nothing_of(rt: &impl Abort, links: &mut Links, number: u32) {
     let link = LinkId(number);
-    assert!(rt; links.takes_piece(link), "a piece may come");
-    assert!(rt; links.take_ask(link).is_none(), "it asks nothing");
-    assert!(rt; !links.answer(link, false), "nothing is sent");
-    assert!(rt; !links.give_more(link), "it gets no More");
-    assert!(rt; links.left(link) == 0, "nothing is left");
+    check_of(rt, links.takes_piece(link), "a piece may come");
+    check_of(rt, links.take_ask(link).is_none(), "it asks nothing");
+    check_of(rt, !links.answer(link, false), "nothing is sent");
+    check_of(rt, !links.give_more(link), "it gets no More");
+    check_of(rt, links.left(link) == 0, "nothing is left");
 }
 
 /// Plays a script, with its pieces whole or byte by byte.
@@ -101,7 +102,7 @@ fn play(rt: &impl Abort, alloc: Global, links: &mut Links, word: &str, is_whole:
         [b'b'] => are_busy(rt, alloc, links, wanted),
         [deed, number] => {
             let told = other(rt, links, *deed, LinkId(digit(*number)));
-            assert!(rt; wanted == told, "what comes of {word}");
+            check_of(rt, wanted == told, word);
         }
         _ => panic!(rt; "no step is {word}"),
     }
@@ -271,7 +272,7 @@ fn are_busy(rt: &impl Abort, alloc: Global, links: &Links, wanted: &str) {
 
 /// These are the links that the digits name.
 fn are_named(rt: &impl Abort, links: &[LinkId], digits: &[u8]) {
-    assert!(rt; links.len() == digits.len());
+    check(rt, links.len() == digits.len());
     for (link, byte) in links.iter().zip(digits.iter()) {
         let number = digit(*byte);
         assert!(rt; link.0 == number, "{number} is listed");

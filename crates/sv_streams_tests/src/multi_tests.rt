@@ -1,5 +1,6 @@
 //! Parts of values that were worked out by hand, and the one value that answers make.
 
+use crate::checks::{check, check_of};
 use std::alloc::Global;
 use std::process::Abort;
 use sv_base::text::Text;
@@ -150,7 +151,7 @@ fn has_part(rt: &impl Abort, alloc: Global, members: &str, wanted: &str) {
         [part] => is_part(rt, alloc, part, wanted),
         _ => false,
     };
-    assert!(rt; fits, "{members}");
+    check_of(rt, fits, members);
 }
 
 fn has_no_parts(rt: &impl Abort, alloc: Global, form: &str) {
@@ -159,7 +160,7 @@ fn has_no_parts(rt: &impl Abort, alloc: Global, form: &str) {
         Ok(_) => false,
         Err(fault) => fault == MultiFault::NotParts,
     };
-    assert!(rt; refused, "{form}");
+    check_of(rt, refused, form);
 }
 
 fn adds(rt: &impl Abort, alloc: Global, gather: &mut Gather, answered: Answered) {
@@ -183,7 +184,7 @@ fn gives(rt: &impl Abort, alloc: Global, gather: Gather, data: &str) {
 fn is_written(rt: &impl Abort, alloc: Global, value: &Value, data: &str) {
     let text = reply_text(rt, alloc, data);
     let written = write_reply(alloc, value).expect(rt, "memory");
-    assert!(rt; written.as_slice() == text.as_str().as_bytes());
+    check(rt, written.as_slice() == text.as_str().as_bytes());
 }
 
 #[test]
@@ -196,7 +197,7 @@ fn parts_of_structs(rt: HostRuntime) {
 #[test]
 fn an_empty_array_has_no_part(rt: HostRuntime) {
     let value = value_of(&rt, rt.alloc(), "<array><data></data></array>");
-    assert!(rt; count_of(&rt, rt.alloc(), &value) == 0);
+    check(&rt, count_of(&rt, rt.alloc(), &value) == 0);
 }
 
 /// How many parts a value has.
@@ -220,7 +221,7 @@ fn a_call_names_its_parts(rt: HostRuntime) {
         [value] => count_of(&rt, rt.alloc(), value),
         _ => 0,
     };
-    assert!(rt; count == 1);
+    check(&rt, count == 1);
 }
 
 #[test]

@@ -1,5 +1,6 @@
 //! Talks, worked by hand from the manual's protocol.
 
+use crate::checks::{check, same};
 use crate::parts::piece_of;
 use std::alloc::Global;
 use std::process::Abort;
@@ -119,7 +120,7 @@ fn play_piece(rt: &impl Abort, alloc: Global, talk: &mut ListenerTalk, step: &st
     let mut told = String::new(alloc);
     give(rt, alloc, talk, piece, &mut told);
     told.push(letter(talk.state())).expect(rt, "ample memory");
-    assert_eq!(rt; told.as_str(), expected);
+    same(rt, told.as_str(), expected);
 }
 
 fn play(rt: &impl Abort, alloc: Global, line: &str) {
@@ -150,7 +151,7 @@ fn check_held(rt: &impl Abort, alloc: Global, text: &str, expected: u64) {
         has_begun = true;
         only_give(rt, alloc, &mut talk, piece);
     }
-    assert_eq!(rt; talk.held(), expected);
+    check(rt, talk.held() == expected);
 }
 
 /// Gives the worked talk, cut after so many bytes, and where the event is sent.
@@ -177,8 +178,8 @@ fn play_cut(rt: &impl Abort, alloc: Global, first: usize, second: usize) {
     let mut talk = ListenerTalk::new(alloc);
     let mut told = String::new(alloc);
     give_cut(rt, alloc, &mut talk, (first, second), &mut told);
-    assert!(rt; talk.state() == TalkState::Ready);
-    assert_eq!(rt; told.as_str(), "R=OKR");
+    check(rt, talk.state() == TalkState::Ready);
+    check(rt, told.as_str() == "R=OKR");
 }
 
 /// So many bytes as a piece can have.
@@ -194,10 +195,10 @@ fn longest_piece(rt: &impl Abort, alloc: Global) -> Vec<u8> {
 fn feed_longest(rt: &impl Abort, alloc: Global, talk: &mut ListenerTalk, told: &mut String) {
     let mut piece = longest_piece(rt, alloc);
     for _ in 0..15 {
-        assert!(rt; talk.state() == TalkState::Busy);
+        check(rt, talk.state() == TalkState::Busy);
         feed(rt, alloc, talk, piece.as_slice(), told);
     }
-    assert!(rt; piece.pop() == Some(b'x'));
+    check(rt, piece.pop() == Some(b'x'));
     feed(rt, alloc, talk, piece.as_slice(), told);
 }
 
@@ -206,7 +207,7 @@ fn before_longest(rt: &impl Abort, alloc: Global, talk: &mut ListenerTalk, told:
     feed(rt, alloc, talk, b"READY\n", told);
     send(rt, talk);
     feed(rt, alloc, talk, b"RESULT 1048576\n", told);
-    assert_eq!(rt; talk.held(), 15);
+    check(rt, talk.held() == 15);
 }
 
 fn longest_result(rt: &impl Abort, alloc: Global) {
@@ -214,12 +215,12 @@ fn longest_result(rt: &impl Abort, alloc: Global) {
     let mut told = String::new(alloc);
     before_longest(rt, alloc, &mut talk, &mut told);
     feed_longest(rt, alloc, &mut talk, &mut told);
-    assert_eq!(rt; talk.held(), 1_048_590);
-    assert!(rt; talk.state() == TalkState::Busy);
+    check(rt, talk.held() == 1_048_590);
+    check(rt, talk.state() == TalkState::Busy);
     feed(rt, alloc, &mut talk, b"x", &mut told);
-    assert!(rt; talk.state() == TalkState::Acknowledged);
-    assert_eq!(rt; talk.held(), 0);
-    assert_eq!(rt; told.as_str().len(), 1_048_578);
+    check(rt, talk.state() == TalkState::Acknowledged);
+    check(rt, talk.held() == 0);
+    check(rt, told.as_str().len() == 1_048_578);
 }
 
 #[test]

@@ -1,4 +1,5 @@
 //! Runs that begin, talk and end, with the answers written out by hand.
+use crate::checks::check_of;
 use std::alloc::Global;
 use std::process::Abort;
 use std::rt::HostRuntime;
@@ -49,7 +50,7 @@ fn play(rt: &impl Abort, alloc: Global, runs: &mut Runs, word: &str, is_whole: b
     let (step, wanted) = word.split_once(':').unwrap_or((word, ""));
     let mut told = String::new(alloc);
     make(rt, alloc, runs, step, is_whole, &mut told);
-    assert!(rt; told.as_str() == wanted, "what comes of {word}");
+    check_of(rt, told.as_str() == wanted, word);
 }
 
 /// Makes the step, and adds what comes of it.

@@ -1,4 +1,5 @@
 //! Runs that begin, write and end, with the parts written out by hand.
+use crate::checks::check_of;
 use crate::parts::{APART, JOINED, behind_parts, piece_of};
 use std::alloc::Global;
 use std::process::Abort;
@@ -209,7 +210,7 @@ fn letter(channel: Stream) -> char {
 /// Whose output it is, and the channel of its stderr.
 fn asked(rt: &impl Abort, alloc: Global, streams: &Streams, run: Run, wanted: &str) {
     match (streams.owner(run), streams.channel(run, Stream::Err)) {
-        (None, None) => assert!(rt; wanted == "-", "it has no owner"),
+        (None, None) => check_of(rt, wanted == "-", "it has no owner"),
         (Some(owner), Some(channel)) => {
             let letter = letter(channel);
             let told = format!(in alloc; "{}.{}{letter}", owner.child, owner.pid).expect(

@@ -1,5 +1,6 @@
 //! Journals as daemons, whose own journals are replayed: the same orders both times.
 
+use crate::checks::{check_of, same};
 use crate::rows::{ROWS, Row};
 use std::alloc::Global;
 use std::process::Abort;
@@ -128,7 +129,7 @@ fn status_of(alloc: Global, parts: &mut Parts) -> u8 {
 /// The orders are those of the row.
 fn orders_are(rt: &impl Abort, alloc: Global, row: &Row, orders: &[Order]) {
     let handed = text_of(rt, alloc, orders);
-    assert_eq!(rt; handed.as_str(), row.orders, "{}", row.name);
+    same(rt, handed.as_str(), row.orders);
 }
 
 /// What a replay is called with.
@@ -174,12 +175,8 @@ fn replayed(alloc: Global, parts: &mut ReplayParts) -> u8 {
 /// A replay of a journal writes the lines of the row's orders.
 fn is_replayed(rt: &impl Abort, alloc: Global, row: &Row, journal: &[u8]) {
     let mut parts = replay_of(rt, alloc, journal);
-    assert_eq!(rt; replayed(alloc, &mut parts), 0, "{}", row.name);
-    assert!(rt;
-        parts.lines.written() == row.orders.as_bytes(),
-        "{}",
-        row.name
-    );
+    check_of(rt, replayed(alloc, &mut parts) == 0, row.name);
+    check_of(rt, parts.lines.written() == row.orders.as_bytes(), row.name);
 }
 
 /// A daemon ends where its orders say, and hands over its orders; a replay of its journal writes their lines.
@@ -187,7 +184,7 @@ fn run(rt: &impl Abort, alloc: Global, row: &Row) {
     let mut parts = parts_of(rt, alloc, row);
     let status = status_of(alloc, &mut parts);
     let ends = row.orders.ends_with("halt\n");
-    assert_eq!(rt; status, if ends { 0 } else { 5 }, "{}", row.name);
+    check_of(rt, status == if ends { 0 } else { 5 }, row.name);
     orders_are(rt, alloc, row, parts.world.handed());
     is_replayed(rt, alloc, row, parts.journal.written());
 }

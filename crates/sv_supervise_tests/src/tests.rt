@@ -1,5 +1,6 @@
 //! Daemons over worlds, shelves, journals and outputs in memory.
 
+use crate::checks::{check, same};
 use crate::courses::{COURSES, Course};
 use std::alloc::Global;
 use std::process::Abort;
@@ -22,7 +23,7 @@ include /d/a.ini [program:a]%0Acommand=/bin/a%0Astdout_logfile=/o%0Astderr_logfi
 go 0\n";
 
 /// The files of the shelf.
-const FILES: [(&str, &str); 6] = [
+static FILES: [(&str, &str); 6] = [
     ("/s.conf", "[supervisord]\nlogfile=NONE\n"),
     ("/bad.conf", "loose\n"),
     (
@@ -64,7 +65,7 @@ fn add_file(rt: &impl Abort, alloc: Global, shelf: &mut MapShelf, name: &str, te
 
 fn shelf_of(rt: &impl Abort, alloc: Global, failing: u64) -> MapShelf {
     let mut shelf = MapShelf::new(alloc, one_call(rt, alloc, failing));
-    for (name, text) in FILES {
+    for &(name, text) in &FILES {
         add_file(rt, alloc, &mut shelf, name, text);
     }
     shelf
@@ -193,7 +194,7 @@ fn run(alloc: Global, daemon: &mut Daemon) {
 /// The bytes are those of this text.
 fn is_text(rt: &impl Abort, alloc: Global, bytes: &[u8], expected: &str) {
     let text = String::from_utf8_lossy(alloc, bytes).expect(rt, "ample memory");
-    assert_eq!(rt; text.as_str(), expected);
+    same(rt, text.as_str(), expected);
 }
 
 /// The bytes are those of this text as it is written out.
@@ -206,9 +207,9 @@ fn is_written(rt: &impl Abort, alloc: Global, bytes: &[u8], expected: &str) {
 fn is_course(rt: &impl Abort, alloc: Global, daemon: &Daemon, course: &Course) {
     let (_, _, _, status, orders, out, journal) = *course;
     is_written(rt, alloc, daemon.out.written(), out);
-    assert_eq!(rt; daemon.status, status);
+    check(rt, daemon.status == status);
     is_written(rt, alloc, daemon.journal.written(), journal);
-    assert!(rt; daemon.world.handed().len() == orders);
+    check(rt, daemon.world.handed().len() == orders);
 }
 
 fn course_is(rt: &impl Abort, alloc: Global, course: &Course) {

@@ -1,5 +1,6 @@
 //! A daemon with two clients, of which the first waits for a start.
 
+use crate::checks::check;
 use crate::clients::{ClientLink, Clients, LateConsole, StageClock, StageSpawner, StageWaiter};
 use crate::course::{Course, Parts, go_over};
 use crate::daemon::{bytes_of, journal_of, orders_of, text_of};
@@ -63,7 +64,7 @@ fn answers_second_first(rt: &impl Abort, alloc: Global, journal: &ListSink) {
 fn second_comes_first(rt: &impl Abort, orders: &str) {
     let second = orders.find("\nsend 2 ");
     let first = orders.find("\nsend 1 ");
-    assert!(rt; second.is_some() && first.is_some() && second < first);
+    check(rt, second.is_some() && first.is_some() && second < first);
 }
 
 /// Adds one of those who are told of a reply.

@@ -1,5 +1,6 @@
 //! A daemon over a world, and what its journal says.
 
+use crate::checks::check;
 use std::alloc::Global;
 use std::process::Abort;
 use sv_base::{Bytes, Host, Items, Moment, Text};
@@ -77,7 +78,7 @@ fn run<W: World>(
 ) {
     let words = words(rt, alloc, &["-c", "/s.conf", "--journal"]);
     let status = status_of(alloc, words.as_slice(), shelf, world, journal);
-    assert!(rt; status == 0);
+    check(rt, status == 0);
 }
 
 /// Runs a daemon of this configuration over a world, until it has shut down: its journal.

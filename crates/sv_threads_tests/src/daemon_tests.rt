@@ -1,5 +1,6 @@
 //! A daemon over a world of threads, whose journal is replayed: the same orders both times.
 
+use crate::checks::{check, check_of};
 use crate::course::{Course, Parts, go_over};
 use crate::daemon::{ROOM, bytes_of, journal_of, orders_of, text_of, words};
 use crate::parts::StillClock;
@@ -20,7 +21,7 @@ use sv_outside::ScriptListen;
 use sv_world::World;
 
 /// The programs.
-const NAMES: [&str; 20] = [
+static NAMES: [&str; 20] = [
     "p00", "p01", "p02", "p03", "p04", "p05", "p06", "p07", "p08", "p09", "p10", "p11", "p12",
     "p13", "p14", "p15", "p16", "p17", "p18", "p19",
 ];
@@ -53,7 +54,7 @@ fn add_program(rt: &impl Abort, text: &mut String, name: &str) {
 fn configuration(rt: &impl Abort, alloc: Global) -> String {
     let mut text = String::new(alloc);
     push(rt, &mut text, "[supervisord]\nlogfile=NONE\n");
-    for name in NAMES {
+    for &name in &NAMES {
         add_program(rt, &mut text, name);
     }
     text
@@ -100,14 +101,14 @@ fn is_replayed(rt: &impl Abort, alloc: Global, journal: &ListSink) {
 /// A replay of a journal writes these orders.
 fn are_replayed(rt: &impl Abort, alloc: Global, journal: &[u8], orders: &str) {
     let lines = replay_of(rt, alloc, journal);
-    assert!(rt; lines.written() == orders.as_bytes());
+    check(rt, lines.written() == orders.as_bytes());
 }
 
 /// Each program was started ten times by these orders.
 fn are_started(rt: &impl Abort, orders: &str) {
-    assert!(rt; starts_of(orders, "") == ALL_RUNS);
-    for name in NAMES {
-        assert!(rt; starts_of(orders, name) == RUNS, "{name}");
+    check(rt, starts_of(orders, "") == ALL_RUNS);
+    for &name in &NAMES {
+        check_of(rt, starts_of(orders, name) == RUNS, name);
     }
 }
 
@@ -121,7 +122,7 @@ fn source_of(rt: &impl Abort, alloc: Global, journal: &[u8]) -> ListSource {
 fn replay_into(rt: &impl Abort, alloc: Global, source: &mut ListSource, lines: &mut ListSink) {
     let words = words(rt, alloc, &["run"]);
     let status = replay(alloc, words.as_slice(), source, lines);
-    assert!(rt; status == 0);
+    check(rt, status == 0);
 }
 
 /// What a replay of a journal writes.

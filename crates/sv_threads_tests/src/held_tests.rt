@@ -1,5 +1,6 @@
 //! Worlds over a gate that holds its jobs: what is given without any note.
 
+use crate::checks::check;
 use crate::course::{Course, go_over};
 use crate::parts::{bytes_of, give, heard, parts_of, spawn_order};
 use std::alloc::Global;
@@ -87,59 +88,59 @@ fn fail_twice<W: World>(rt: &impl Abort, alloc: Global, world: &mut W) {
     append(rt, alloc, world);
     append(rt, alloc, world);
     read(rt, alloc, world);
-    assert!(rt; heard(rt, alloc, world) == 'A');
-    assert!(rt; heard(rt, alloc, world) == 'C');
-    assert!(rt; heard(rt, alloc, world) == 'R');
+    check(rt, heard(rt, alloc, world) == 'A');
+    check(rt, heard(rt, alloc, world) == 'C');
+    check(rt, heard(rt, alloc, world) == 'R');
     give(rt, alloc, world, Order::Halt);
 }
 
 fn ask_twice<W: World>(rt: &impl Abort, alloc: Global, world: &mut W) {
     read(rt, alloc, world);
-    assert!(rt; heard(rt, alloc, world) == 'A');
+    check(rt, heard(rt, alloc, world) == 'A');
     read(rt, alloc, world);
-    assert!(rt; heard(rt, alloc, world) == 'm');
+    check(rt, heard(rt, alloc, world) == 'm');
 }
 
 fn start_without_thread<W: World>(rt: &impl Abort, alloc: Global, world: &mut W) {
     give(rt, alloc, world, spawn_order(alloc, 1));
-    assert!(rt; heard(rt, alloc, world) == 'r');
+    check(rt, heard(rt, alloc, world) == 'r');
     write(rt, alloc, world);
     append(rt, alloc, world);
     read(rt, alloc, world);
-    assert!(rt; heard(rt, alloc, world) == 'R');
+    check(rt, heard(rt, alloc, world) == 'R');
 }
 
 fn write_65_pieces<W: World>(rt: &impl Abort, alloc: Global, world: &mut W) {
     give(rt, alloc, world, spawn_order(alloc, 1));
-    assert!(rt; heard(rt, alloc, world) == 'p');
+    check(rt, heard(rt, alloc, world) == 'p');
     for _ in 0..65 {
         write(rt, alloc, world);
     }
     read(rt, alloc, world);
-    assert!(rt; heard(rt, alloc, world) == '?');
-    assert!(rt; heard(rt, alloc, world) == 'm');
+    check(rt, heard(rt, alloc, world) == '?');
+    check(rt, heard(rt, alloc, world) == 'm');
 }
 
 fn ask_names_and_sizes<W: World>(rt: &impl Abort, alloc: Global, world: &mut W) {
     append(rt, alloc, world);
     look(rt, alloc, world);
-    assert!(rt; heard(rt, alloc, world) == 'n');
+    check(rt, heard(rt, alloc, world) == 'n');
     size(rt, alloc, world);
-    assert!(rt; heard(rt, alloc, world) == 'z');
+    check(rt, heard(rt, alloc, world) == 'z');
     look(rt, alloc, world);
-    assert!(rt; heard(rt, alloc, world) == 'D');
+    check(rt, heard(rt, alloc, world) == 'D');
 }
 
 fn signal_thrice<W: World>(rt: &impl Abort, alloc: Global, world: &mut W) {
     kill(rt, alloc, world);
     give(rt, alloc, world, spawn_order(alloc, 1));
-    assert!(rt; heard(rt, alloc, world) == 'p');
+    check(rt, heard(rt, alloc, world) == 'p');
     kill(rt, alloc, world);
     kill(rt, alloc, world);
     append(rt, alloc, world);
     read(rt, alloc, world);
-    assert!(rt; heard(rt, alloc, world) == 'D');
-    assert!(rt; heard(rt, alloc, world) == 'R');
+    check(rt, heard(rt, alloc, world) == 'D');
+    check(rt, heard(rt, alloc, world) == 'R');
 }
 
 fn write<W: World>(rt: &impl Abort, alloc: Global, world: &mut W) {

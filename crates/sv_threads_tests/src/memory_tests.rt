@@ -1,6 +1,7 @@
 //! Notes that memory was refused to a job, before each other note.
 ghost use Rattle.std.specs.Prelude.{None};
 
+use crate::checks::check;
 use crate::course::{Course, go_over};
 use crate::parts::{TestJob, heard, parts_of};
 use std::alloc::Global;
@@ -79,13 +80,13 @@ struct Refused;
 impl Course for Refused {
     fn over<W: World>(&self, rt: &impl Abort, alloc: Global, world: &mut W) {
         for letter in "txoePLsab".chars() {
-            assert!(rt; is_refused(alloc, world));
-            assert_eq!(rt; heard(rt, alloc, world), letter);
+            check(rt, is_refused(alloc, world));
+            check(rt, heard(rt, alloc, world) == letter);
         }
         for _ in 0..4 {
-            assert!(rt; is_refused(alloc, world));
+            check(rt, is_refused(alloc, world));
         }
-        assert_eq!(rt; heard(rt, alloc, world), 't');
+        check(rt, heard(rt, alloc, world) == 't');
     }
 }
 

@@ -1,6 +1,7 @@
 //! A daemon over a real program, with real pipes, threads and the real clock.
 ghost use Rattle.std.specs.Prelude.{None};
 
+use crate::checks::check_of;
 use crate::course::{Course, Parts, go_over};
 use crate::daemon::{bytes_of, journal_of, orders_of, text_of};
 use crate::start_gate::{StartGate, receive_and_work};
@@ -24,7 +25,7 @@ const CAT: &str = "[supervisord]\nlogfile=NONE\n[program:cat]\ncommand=/bin/cat\
 stdout_logfile=NONE\nstderr_logfile=NONE\n";
 
 /// The states of the program, in their order.
-const STATES: [&str; 3] = [
+static STATES: [&str; 3] = [
     "state cat cat STARTING RUNNING",
     "state cat cat RUNNING STOPPING",
     "state cat cat STOPPING STOPPED",
@@ -77,8 +78,8 @@ fn has_its_states(rt: &impl Abort, alloc: Global, journal: &ListSink) {
 
 /// The program has all states by these orders.
 fn has_all_states(rt: &impl Abort, orders: &str) {
-    for state in STATES {
-        assert!(rt; orders.contains(state), "{state}");
+    for &state in &STATES {
+        check_of(rt, orders.contains(state), state);
     }
 }
 

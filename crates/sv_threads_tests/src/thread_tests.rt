@@ -1,5 +1,6 @@
 //! Worlds over a gate that starts threads.
 
+use crate::checks::check;
 use crate::course::{Course, go_over};
 use crate::parts::{TestJob, bytes_of, give, heard, parts_of, spawn_order};
 use crate::start_gate::{StartGate, receive_and_work};
@@ -55,7 +56,7 @@ fn go_over_started<G: Gate<TestJob<R>> + Drop, R: Abort + Wait + std::time::Cloc
 /// signal of the console, in whatever order.
 fn hear_run<W: World>(rt: &impl Abort, alloc: Global, world: &mut W) {
     give(rt, alloc, world, spawn_order(alloc, 1));
-    assert!(rt; heard(rt, alloc, world) == 'p');
+    check(rt, heard(rt, alloc, world) == 'p');
     let (mut pieces, mut ends, mut exits, mut signals) = (0u8, 0u8, 0u8, 0u8);
     for _ in 0..10_000 {
         if pieces == 2 && ends == 2 && exits == 1 && signals == 1 {
@@ -109,9 +110,9 @@ fn next_heard<W: World>(rt: &impl Abort, alloc: Global, world: &mut W) -> char {
 
 /// Hears a link, reads from it, sends over it and closes it.
 fn serve_link<W: World>(rt: &impl Abort, alloc: Global, world: &mut W) {
-    assert!(rt; next_heard(rt, alloc, world) == '1');
+    check(rt, next_heard(rt, alloc, world) == '1');
     give(rt, alloc, world, Order::More { link: LinkId(1) });
-    assert!(rt; next_heard(rt, alloc, world) == 'P');
+    check(rt, next_heard(rt, alloc, world) == 'P');
     let bytes = bytes_of(rt, alloc, "x");
     give(
         rt,
@@ -123,7 +124,7 @@ fn serve_link<W: World>(rt: &impl Abort, alloc: Global, world: &mut W) {
         },
     );
     give(rt, alloc, world, Order::Close { link: LinkId(1) });
-    assert!(rt; next_heard(rt, alloc, world) == 'L');
+    check(rt, next_heard(rt, alloc, world) == 'L');
 }
 
 #[test]

@@ -1,4 +1,5 @@
 //! Texts of a mebibyte and names in great number, with ample memory.
+use crate::checks::check;
 use std::alloc::Global;
 use std::process::Abort;
 use sv_base::items::Items;
@@ -53,7 +54,7 @@ fn all_values(rt: &impl Abort, alloc: Global) -> String {
 
 fn expands(rt: &impl Abort, alloc: Global, names: &Names, text: &str, expected: &str) {
     let expanded = expand(alloc, text, names).expect(rt, "ample memory");
-    assert!(rt; expanded.as_str() == expected);
+    check(rt, expanded.as_str() == expected);
 }
 
 /// A piece so many times expands to another so many times.
@@ -66,18 +67,18 @@ fn expands_each(rt: &impl Abort, alloc: Global, names: &Names, piece: &str, valu
 
 fn has_words(rt: &impl Abort, alloc: Global, text: &str, count: usize, word: &str) {
     let words = words(alloc, text).expect(rt, "ample memory");
-    assert!(rt; words.len() == count);
+    check(rt, words.len() == count);
     for each in &words {
-        assert!(rt; each.as_str() == word);
+        check(rt, each.as_str() == word);
     }
 }
 
 fn has_pairs(rt: &impl Abort, alloc: Global, text: &str, count: usize, value: &str) {
     let pairs = pairs(alloc, text).expect(rt, "ample memory");
-    assert!(rt; pairs.len() == count);
+    check(rt, pairs.len() == count);
     for pair in &pairs {
-        assert!(rt; pair.0.as_str() == "A");
-        assert!(rt; pair.1.as_str() == value);
+        check(rt, pair.0.as_str() == "A");
+        check(rt, pair.1.as_str() == value);
     }
 }
 

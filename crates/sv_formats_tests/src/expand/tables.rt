@@ -1,4 +1,5 @@
 //! Tables of texts, with the words, the pairs and the expansion that each has.
+use crate::checks::{check, same};
 use std::alloc::Global;
 use std::process::Abort;
 use sv_base::items::Items;
@@ -329,7 +330,7 @@ fn word_row(rt: &impl Abort, alloc: Global, row: &str) {
     let text = cell(rt, alloc, text);
     let expected = cell(rt, alloc, expected);
     let said = words_said(rt, alloc, text.as_str());
-    assert_eq!(rt; said.as_str(), expected.as_str(), "the words of {row}");
+    same(rt, said.as_str(), expected.as_str());
 }
 
 fn pair_row(rt: &impl Abort, alloc: Global, row: &str) {
@@ -337,7 +338,7 @@ fn pair_row(rt: &impl Abort, alloc: Global, row: &str) {
     let text = cell(rt, alloc, text);
     let expected = cell(rt, alloc, expected);
     let said = pairs_said(rt, alloc, text.as_str());
-    assert_eq!(rt; said.as_str(), expected.as_str(), "the pairs of {row}");
+    same(rt, said.as_str(), expected.as_str());
 }
 
 fn expansion_row(rt: &impl Abort, alloc: Global, names: &Names, row: &str) {
@@ -345,7 +346,7 @@ fn expansion_row(rt: &impl Abort, alloc: Global, names: &Names, row: &str) {
     let text = cell(rt, alloc, text);
     let expected = cell(rt, alloc, expected);
     let said = expansion_said(rt, alloc, text.as_str(), names);
-    assert_eq!(rt; said.as_str(), expected.as_str(), "the expansion of {row}");
+    same(rt, said.as_str(), expected.as_str());
 }
 
 #[test]
@@ -354,7 +355,7 @@ fn words_of_each_text(rt: HostRuntime) {
     for row in WORDS.split('\n') {
         word_row(&rt, alloc, row);
     }
-    assert!(rt; WordFault::OpenQuote.number() == Some(1));
+    check(&rt, WordFault::OpenQuote.number() == Some(1));
 }
 
 #[test]
@@ -363,7 +364,7 @@ fn pairs_of_each_text(rt: HostRuntime) {
     for row in PAIRS.split('\n') {
         pair_row(&rt, alloc, row);
     }
-    assert!(rt; PairFault::BadPair(0).number() == Some(1));
+    check(&rt, PairFault::BadPair(0).number() == Some(1));
 }
 
 #[test]
@@ -373,5 +374,5 @@ fn expansion_of_each_text(rt: HostRuntime) {
     for row in EXPANSIONS.split('\n') {
         expansion_row(&rt, alloc, &names, row);
     }
-    assert!(rt; ExpandFault::BadForm(0).number() == Some(2));
+    check(&rt, ExpandFault::BadForm(0).number() == Some(2));
 }

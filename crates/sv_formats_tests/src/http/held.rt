@@ -1,5 +1,6 @@
 //! How many bytes of a stream are read and not decided, with the numbers written out.
 
+use crate::checks::check;
 use std::alloc::Global;
 use std::process::Abort;
 use sv_base::config::Password;
@@ -55,12 +56,12 @@ fn play(rt: &impl Abort, alloc: Global, row: &(&str, u64)) {
     let (stream, expected) = row;
     let mut whole = new_reader(alloc);
     feed(rt, alloc, &mut whole, stream.as_bytes());
-    assert!(rt; whole.held() == *expected);
+    check(rt, whole.held() == *expected);
     let mut cut = new_reader(alloc);
     for piece in stream.as_bytes().chunks(1) {
         feed(rt, alloc, &mut cut, piece);
     }
-    assert!(rt; cut.held() == *expected);
+    check(rt, cut.held() == *expected);
 }
 
 /// A prefix, a byte that stands so often, and what follows it.
@@ -100,13 +101,13 @@ fn most_held(rt: HostRuntime) {
     let head = repeated(&rt, alloc, front, b'a', 16_331, "\r\n\r\n");
     let body = repeated(&rt, alloc, "", b'x', 1_048_575, "");
     let mut reader = new_reader(alloc);
-    assert!(rt; reader.held() == 0);
+    check(&rt, reader.held() == 0);
     feed(&rt, alloc, &mut reader, head.as_slice());
-    assert!(rt; reader.held() == 16_384);
+    check(&rt, reader.held() == 16_384);
     feed(&rt, alloc, &mut reader, body.as_slice());
-    assert!(rt; reader.held() == 1_064_959);
+    check(&rt, reader.held() == 1_064_959);
     feed(&rt, alloc, &mut reader, b"x");
-    assert!(rt; reader.held() == 0);
+    check(&rt, reader.held() == 0);
 }
 
 /// A head that is too long is refused.
@@ -116,9 +117,9 @@ fn too_long_a_head(rt: HostRuntime) {
     let front = repeated(&rt, alloc, "", b'a', 16_383, "");
     let mut reader = new_reader(alloc);
     feed(&rt, alloc, &mut reader, front.as_slice());
-    assert!(rt; reader.held() == 16_383);
+    check(&rt, reader.held() == 16_383);
     feed(&rt, alloc, &mut reader, b"a");
-    assert!(rt; reader.held() == 0);
+    check(&rt, reader.held() == 0);
     feed(&rt, alloc, &mut reader, b"a");
-    assert!(rt; reader.held() == 0);
+    check(&rt, reader.held() == 0);
 }

@@ -45,7 +45,7 @@ fn replies_of_more_than_a_mebibyte(rt: HostRuntime) {
         let behind_head = text.as_slice().strip_prefix(head.as_bytes());
         assert!(rt; behind_head == Some(body.as_slice()), "{size}");
         let replied = read_in_pieces(&rt, alloc, text.as_slice()).expect(&rt, "a whole reply");
-        assert_eq!(rt; replied.status, 200, "{size}");
+        assert!(rt; replied.status == 200, "{size}");
         assert!(rt; replied.body.as_slice() == body.as_slice(), "{size}");
     }
 }

@@ -1,5 +1,6 @@
 //! Replies read whole and in single bytes, at their limits, and the texts of requests.
 
+use crate::checks::{check, check_of, same};
 use std::alloc::Global;
 use std::process::Abort;
 use sv_http::{Replied, ReplyFault, ReplyReader, request};
@@ -123,7 +124,7 @@ fn play(rt: &impl Abort, alloc: Global, row: &str, size: usize, how: &str) {
     let (text, expected) = row.split_once("=>").expect(rt, "two cells");
     let stream = stream_of(rt, alloc, text);
     let told = told(rt, alloc, stream.as_slice(), size);
-    assert_eq!(rt; told.as_str(), expected, "{how}: {row}");
+    same(rt, told.as_str(), expected);
 }
 
 #[test]
@@ -160,15 +161,15 @@ fn with_fields(rt: &impl Abort, alloc: Global, fields: u32) -> Vec<u8> {
 
 fn check_head(rt: &impl Abort, alloc: Global, size: usize, expected: &str) {
     let stream = with_head(rt, alloc, size);
-    assert_eq!(rt; stream.len(), size);
+    check(rt, stream.len() == size);
     let found = told(rt, alloc, stream.as_slice(), usize::MAX);
-    assert_eq!(rt; found.as_str(), expected, "{size} bytes");
+    same(rt, found.as_str(), expected);
 }
 
 fn check_fields(rt: &impl Abort, alloc: Global, fields: u32, expected: &str) {
     let stream = with_fields(rt, alloc, fields);
     let found = told(rt, alloc, stream.as_slice(), usize::MAX);
-    assert_eq!(rt; found.as_str(), expected, "{fields} fields");
+    same(rt, found.as_str(), expected);
 }
 
 #[test]
@@ -194,5 +195,5 @@ fn check_request(rt: &impl Abort, alloc: Global, row: &str) {
     let text = request(alloc, body.as_bytes(), host, username, password);
     let text = text.expect(rt, "ample memory");
     let expected = stream_of(rt, alloc, expected);
-    assert_eq!(rt; text.as_slice(), expected.as_slice(), "{row}");
+    check_of(rt, text.as_slice() == expected.as_slice(), row);
 }

@@ -1,5 +1,6 @@
 //! Streams with their asks, cut after every byte and in single bytes, and the texts of replies.
 
+use crate::checks::check;
 use hex::FromHex;
 use std::alloc::Global;
 use std::process::Abort;
@@ -304,7 +305,7 @@ fn play(
 }
 
 /// The stream, cut after the first piece and in pieces of this size, has these asks.
-fn check(
+fn has_asks(
     rt: &impl Abort,
     alloc: Global,
     guard: &str,
@@ -314,15 +315,15 @@ fn check(
 ) {
     let (first, size) = cut;
     let told = play(rt, alloc, guard_of(rt, guard), stream, first, size);
-    assert!(rt; told.as_slice() == expected);
+    check(rt, told.as_slice() == expected);
 }
 
 /// The stream cut after each byte, and in single bytes.
 fn play_cut(rt: &impl Abort, alloc: Global, guard: &str, stream: &[u8], expected: &[u8]) {
     for first in 0..=stream.len() {
-        check(rt, alloc, guard, stream, (first, 65_536), expected);
+        has_asks(rt, alloc, guard, stream, (first, 65_536), expected);
     }
-    check(rt, alloc, guard, stream, (0, 1), expected);
+    has_asks(rt, alloc, guard, stream, (0, 1), expected);
 }
 
 fn play_line(rt: &impl Abort, alloc: Global, line: &str) {
@@ -355,7 +356,7 @@ fn play_long(rt: &impl Abort, alloc: Global, parts: (&str, &str, usize, &str), e
     let stream = long_stream(rt, alloc, parts);
     let expected = expected.as_bytes();
     for size in [1, 7, 4_096, 65_536] {
-        check(rt, alloc, "-", stream.as_slice(), (0, size), expected);
+        has_asks(rt, alloc, "-", stream.as_slice(), (0, size), expected);
     }
 }
 
@@ -366,14 +367,14 @@ fn play_body(rt: &impl Abort, alloc: Global, head: &str, length: usize) {
         stream.push(b'x').expect(rt, "ample memory");
     }
     let told = play(rt, alloc, guard_of(rt, "-"), stream.as_slice(), 0, 4_096);
-    assert!(rt; told.as_slice().len() == length.saturating_add(2));
+    check(rt, told.as_slice().len() == length.saturating_add(2));
 }
 
 fn play_reply(rt: &impl Abort, alloc: Global, line: &(Status, bool, &str, &str)) {
     let (status, close, body, expected) = line;
     let text = reply(alloc, *status, body.as_bytes(), *close).expect(rt, "ample memory");
     let expected = bytes_of(rt, alloc, expected);
-    assert!(rt; text.as_slice() == expected.as_slice());
+    check(rt, text.as_slice() == expected.as_slice());
 }
 
 #[test]

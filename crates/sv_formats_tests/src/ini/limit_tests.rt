@@ -1,5 +1,6 @@
 //! Texts of 1,048,576 bytes, and of one more.
 
+use crate::checks::{check, same};
 use std::alloc::{AllocError, Global};
 use std::process::Abort;
 use sv_ini::fault::IniFault;
@@ -98,7 +99,7 @@ fn said(alloc: Global, bytes: &[u8]) -> Result<String, AllocError> {
 
 fn says(rt: &impl Abort, alloc: Global, text: &str, expected: &str) {
     let said = said(alloc, text.as_bytes()).expect(rt, "ample memory");
-    assert_eq!(rt; said.as_str(), expected);
+    same(rt, said.as_str(), expected);
 }
 
 #[test]
@@ -106,7 +107,7 @@ fn texts_of_the_most_bytes_and_of_one_more(rt: HostRuntime) {
     let alloc = rt.alloc();
     for row in &TEXTS {
         let mut text = written(alloc, row).expect(&rt, "ample memory");
-        assert_eq!(rt; text.as_str().len(), 1_048_576);
+        check(&rt, text.as_str().len() == 1_048_576);
         says(&rt, alloc, text.as_str(), row.expected);
         text.push('\n').expect(&rt, "ample memory");
         says(&rt, alloc, text.as_str(), "4 TooLong");
@@ -121,13 +122,13 @@ fn a_value_of_the_most_lines(rt: HostRuntime) {
     for _ in 0..131_071 {
         text.push_str(" x12345\n").expect(&rt, "ample memory");
     }
-    assert_eq!(rt; text.as_str().len(), 1_048_576);
+    check(&rt, text.as_str().len() == 1_048_576);
     match sections(alloc, text.as_str().as_bytes()) {
         Ok(sections) => {
             let section = sections.as_slice().last().expect(&rt, "a section");
             let entry = section.keys.as_slice().last().expect(&rt, "a key");
             // one byte, then a line feed and six bytes for each further line
-            assert_eq!(rt; entry.1.as_str().len(), 917_498);
+            check(&rt, entry.1.as_str().len() == 917_498);
         }
         Err(_) => assert!(rt; false, "sections"),
     }

@@ -1,5 +1,6 @@
 //! Texts and what they say.
 
+use crate::checks::{check, same};
 use std::alloc::{AllocError, Global};
 use std::process::Abort;
 use sv_ini::fault::IniFault;
@@ -187,7 +188,7 @@ fn said(alloc: Global, bytes: &[u8]) -> Result<String, AllocError> {
 
 fn says(rt: &impl Abort, alloc: Global, bytes: &[u8], expected: &str) {
     let said = said(alloc, bytes).expect(rt, "ample memory");
-    assert_eq!(rt; said.as_str(), expected);
+    same(rt, said.as_str(), expected);
 }
 
 fn row(rt: &impl Abort, alloc: Global, row: &str) {
@@ -232,9 +233,9 @@ fn sizes_and_numbers(rt: HostRuntime) {
     says(&rt, alloc, most.as_slice(), "");
     let more = filled(&rt, alloc, 0xff, 1_048_577);
     says(&rt, alloc, more.as_slice(), "4 TooLong");
-    assert!(rt; IniFault::NotUtf8(0).number() == Some(1));
-    assert!(rt; IniFault::BadLine(1).number() == Some(2));
-    assert!(rt; IniFault::OutsideSection(1).number() == Some(3));
-    assert!(rt; IniFault::TooLong.number() == Some(4));
-    assert!(rt; IniFault::OutOfMemory.number() == None);
+    check(&rt, IniFault::NotUtf8(0).number() == Some(1));
+    check(&rt, IniFault::BadLine(1).number() == Some(2));
+    check(&rt, IniFault::OutsideSection(1).number() == Some(3));
+    check(&rt, IniFault::TooLong.number() == Some(4));
+    check(&rt, IniFault::OutOfMemory.number() == None);
 }

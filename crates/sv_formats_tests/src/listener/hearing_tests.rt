@@ -2,6 +2,7 @@
 
 ghost use Rattle.std.specs.Prelude.{◌≤◌};
 
+use crate::checks::{check, same};
 use std::alloc::Global;
 use std::process::Abort;
 use sv_listener::{HeardFault, ListenerSide};
@@ -38,16 +39,16 @@ fn play(rt: &impl Abort, alloc: Global, size: usize)
             told.push(' ').expect(rt, "ample memory");
         }
     }
-    assert_eq!(rt; told.as_str(), "TICK_5 SUPERVISOR_STATE_CHANGE_RUNNING ");
-    assert!(rt; side.between() && side.fault().is_none());
+    same(rt, told.as_str(), "TICK_5 SUPERVISOR_STATE_CHANGE_RUNNING ");
+    check(rt, side.between() && side.fault().is_none());
 }
 
 fn refuse(rt: &impl Abort, alloc: Global, line: &[u8], fault: HeardFault) {
     let mut side = ListenerSide::new(alloc);
     side.feed(alloc, line).expect(rt, "ample memory");
     let events = side.feed(alloc, b"\n").expect(rt, "ample memory");
-    assert!(rt; events.as_slice().is_empty());
-    assert!(rt; side.fault() == Some(fault) && side.between());
+    check(rt, events.as_slice().is_empty());
+    check(rt, side.fault() == Some(fault) && side.between());
 }
 
 #[test]

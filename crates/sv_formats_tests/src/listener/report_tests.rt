@@ -1,5 +1,6 @@
 //! Whole runs of the crash reporter.
 
+use crate::checks::check;
 use std::alloc::Global;
 use std::process::Abort;
 use sv_listener::report;
@@ -139,9 +140,9 @@ fn play(rt: &impl Abort, alloc: Global, stream: &[u8], run: &Run) {
     let mut sink = ListSink::new(alloc, size, call(rt, alloc, sink_fails));
     let mut out = ListSink::new(alloc, size, call(rt, alloc, out_fails));
     let status = report(alloc, &mut source, &mut sink, &mut out);
-    assert_eq!(rt; status, run.status);
-    assert!(rt; sink.written() == run.said.as_bytes());
-    assert!(rt; out.written() == run.lines.as_bytes());
+    check(rt, status == run.status);
+    check(rt, sink.written() == run.said.as_bytes());
+    check(rt, out.written() == run.lines.as_bytes());
 }
 
 fn call(rt: &impl Abort, alloc: Global, number: u64) -> Vec<u64> {

@@ -2,6 +2,7 @@
 
 ghost use Rattle.sv_listener.specs.declared.events.Heard.{Heard};
 
+use crate::checks::check;
 use std::alloc::Global;
 use std::process::Abort;
 use sv_listener::{HandleFault, Handler, Heard, ListenEnd, Verdict, listen};
@@ -109,8 +110,8 @@ fn play(
         fault,
         faults: 0,
     };
-    assert!(rt; listen(alloc, &mut source, &mut sink, &mut judge) == end);
-    assert!(rt; sink.written() == said.as_bytes());
+    check(rt, listen(alloc, &mut source, &mut sink, &mut judge) == end);
+    check(rt, sink.written() == said.as_bytes());
 }
 
 #[test]

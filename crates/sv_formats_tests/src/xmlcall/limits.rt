@@ -1,5 +1,6 @@
 //! Calls, replies and logs of 1,048,576 bytes, with ample memory.
 
+use crate::checks::{check, check_of};
 use std::alloc::Global;
 use std::process::Abort;
 use sv_xmlcall::{Answered, Value, text_of_log, write_call, write_reply};
@@ -60,7 +61,7 @@ fn of_the_most_bytes(rt: &impl Abort, alloc: Global, around: (&str, &str)) -> Ve
     let left = MOST.saturating_sub(around.0.len());
     let letters = left.saturating_sub(around.1.len());
     let text = filled(rt, alloc, around, b"a", letters);
-    assert_eq!(rt; text.len(), MOST);
+    check(rt, text.len() == MOST);
     text
 }
 
@@ -70,7 +71,7 @@ fn a_call_of_the_most_bytes(rt: HostRuntime) {
     let text = of_the_most_bytes(&rt, alloc, CALL);
     let call = read_call(alloc, text.as_slice()).expect(&rt, "a call");
     let written = write_call(alloc, &call).expect(&rt, "memory");
-    assert!(rt; written.as_slice() == text.as_slice());
+    check(&rt, written.as_slice() == text.as_slice());
 }
 
 #[test]
@@ -85,7 +86,7 @@ fn a_reply_of_the_most_bytes(rt: HostRuntime) {
 /// The reply with this value has this text.
 fn is_written(rt: &impl Abort, alloc: Global, value: &Value, text: &[u8]) {
     let written = write_reply(alloc, value).expect(rt, "memory");
-    assert!(rt; written.as_slice() == text);
+    check(rt, written.as_slice() == text);
 }
 
 #[test]
@@ -100,10 +101,10 @@ fn logs_of_the_most_bytes(rt: HostRuntime) {
 /// What a log of the most bytes is kept as: this text, so often.
 fn kept_of(rt: &impl Abort, alloc: Global, bytes: &[u8], kept: &str) -> Value {
     let log = filled(rt, alloc, ("", ""), bytes, MOST / 8);
-    assert_eq!(rt; log.len(), MOST);
+    check(rt, log.len() == MOST);
     let text = text_of_log(alloc, log.as_slice()).expect(rt, "memory");
     drop(log);
     let wanted = filled(rt, alloc, ("", ""), kept.as_bytes(), MOST / 8);
-    assert!(rt; text.as_str().as_bytes() == wanted.as_slice(), "{kept}");
+    check_of(rt, text.as_str().as_bytes() == wanted.as_slice(), kept);
     Value::Text(text)
 }

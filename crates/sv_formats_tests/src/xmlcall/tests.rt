@@ -1,5 +1,6 @@
 //! What the texts of the tables spell, or where they are refused; nesting and numbers of values at their limits.
 
+use crate::checks::check;
 use crate::xmlcall::tables::{
     CALLS, LOGS, NO_CALLS, NO_FORMS, NO_REPLIES, NO_TAGS, NO_TEXTS, NO_UTF8, REPLIES, VALUES,
 };
@@ -30,7 +31,7 @@ fn joined(rt: &impl Abort, alloc: Global, parts: &[&[u8]]) -> Vec<u8> {
 /// The call is written so.
 fn is_written(rt: &impl Abort, alloc: Global, call: &Call, written: &[u8]) {
     let bytes = write_call(alloc, call).expect(rt, "memory");
-    assert!(rt; bytes.as_slice() == written);
+    check(rt, bytes.as_slice() == written);
 }
 
 /// The call that the text spells is written so.
@@ -42,13 +43,13 @@ fn spells(rt: &impl Abort, alloc: Global, text: &[u8], written: &[u8]) {
 /// The reply with this value is written so.
 fn is_value(rt: &impl Abort, alloc: Global, value: &Value, written: &[u8]) {
     let bytes = write_reply(alloc, value).expect(rt, "memory");
-    assert!(rt; bytes.as_slice() == written);
+    check(rt, bytes.as_slice() == written);
 }
 
 /// The reply with this fault is written so.
 fn is_fault(rt: &impl Abort, alloc: Global, number: i64, text: &str, written: &[u8]) {
     let bytes = write_fault(alloc, number, text).expect(rt, "memory");
-    assert!(rt; bytes.as_slice() == written);
+    check(rt, bytes.as_slice() == written);
 }
 
 /// The reply is written so.
@@ -70,7 +71,7 @@ fn refuses(rt: &impl Abort, alloc: Global, text: &[u8], fault: CallFault) {
         Ok(_) => false,
         Err(found) => found == fault,
     };
-    assert!(rt; refused);
+    check(rt, refused);
 }
 
 fn refuses_reply(rt: &impl Abort, alloc: Global, text: &[u8], fault: CallFault) {
@@ -78,7 +79,7 @@ fn refuses_reply(rt: &impl Abort, alloc: Global, text: &[u8], fault: CallFault) 
         Ok(_) => false,
         Err(found) => found == fault,
     };
-    assert!(rt; refused);
+    check(rt, refused);
 }
 
 /// A call with this value is written so.
@@ -227,7 +228,7 @@ fn many(rt: &impl Abort, alloc: Global, count: usize, behind: &[u8]) -> Vec<u8> 
 }
 
 fn reads(rt: &impl Abort, alloc: Global, text: &[u8]) {
-    assert!(rt; read_call(alloc, text).is_ok());
+    check(rt, read_call(alloc, text).is_ok());
 }
 
 /// A call with so many arrays, this in the innermost and that behind them, is refused.
@@ -327,7 +328,7 @@ fn checks_version_call(rt: &impl Abort, alloc: Global) {
     refuses_what_goes_on(rt, alloc, plain);
     let reply =
         b"<?xml version='1.0'?><methodResponse><params><param><value><string>3.0</string></value></param></params></methodResponse>".as_slice();
-    assert!(rt; reply.len() == 121);
+    check(rt, reply.len() == 121);
     replies(rt, alloc, reply, reply);
 }
 
@@ -340,7 +341,7 @@ fn one_call_in_three_spellings_and_its_reply(rt: HostRuntime) {
 /// What a log of these bytes is kept as.
 fn keeps(rt: &impl Abort, alloc: Global, bytes: &[u8], text: &str) {
     let kept = text_of_log(alloc, bytes).expect(rt, "memory");
-    assert!(rt; kept.as_str() == text);
+    check(rt, kept.as_str() == text);
 }
 
 fn checks_logs(rt: &impl Abort, alloc: Global) {

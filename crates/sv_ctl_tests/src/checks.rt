@@ -1,0 +1,13 @@
+//! What the tests demand. A test that holds values compares by a call, which is proved once, in place of a branch of its own.
+
+use std::process::Abort;
+
+/// Ends the test unless this is so.
+pub(crate) fn check(rt: &impl Abort, is: bool) {
+    assert!(rt; is);
+}
+
+/// Ends the test, and says both, unless the text that was found is the one that is wanted.
+pub(crate) fn same(rt: &impl Abort, found: &str, wanted: &str) {
+    assert!(rt; found == wanted, "{found} is not {wanted}");
+}
