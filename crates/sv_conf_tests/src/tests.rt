@@ -306,6 +306,7 @@ k=v => 1 Ini 3 OutsideSection 1
 @numprocs=1024~process_name=%(process_num)d~[program:q]~command=q~[group:g]~programs=q,x => 6 NoSuchProgram g x
 @numprocs=1024~process_name=%(process_num)d~[eventlistener:p]~command=c~events=EVENT => 8 TwiceNamed p"#;
 
+/// Adds a text.
 pub fn put(rt: &impl Abort, said: &mut String, text: &str) {
     said.push_str(text).expect(rt, "ample memory");
 }
@@ -320,6 +321,7 @@ pub fn put_ended(rt: &impl Abort, said: &mut String, text: &str, end: &str) {
     put(rt, said, end);
 }
 
+/// The host that the tests' configurations are read for.
 pub fn host(rt: &impl Abort, alloc: Global) -> Host {
     Host {
         name: Text::fixed("box"),
@@ -376,6 +378,7 @@ fn log_said(rt: &impl Abort, alloc: Global, log: &LogSpec) -> String {
     said.expect(rt, "ample memory")
 }
 
+/// The words of a process's command, each ended by a bar.
 pub fn words_said(rt: &impl Abort, alloc: Global, spec: &Spec) -> String {
     let mut said = String::new(alloc);
     for word in spec.words.as_slice() {
@@ -453,6 +456,7 @@ fn put_url(rt: &impl Abort, said: &mut String, variable: &(Text, Text)) {
     }
 }
 
+/// The processes in their order, each by the name of its group and its own, with a space between two.
 pub fn order_said(rt: &impl Abort, alloc: Global, config: &Config) -> String {
     let mut said = String::new(alloc);
     for group in config.groups.as_slice() {
@@ -616,6 +620,7 @@ pub fn included(rt: &impl Abort, alloc: Global, text: &str) -> Vec<(Text, Bytes)
     included
 }
 
+/// What is told of a fault.
 pub fn fault_said(rt: &impl Abort, alloc: Global, fault: &ConfFault) -> String {
     let text = fault.text(alloc).expect(rt, "ample memory");
     copy_of(rt, alloc, text.as_str())
