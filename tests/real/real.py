@@ -13,6 +13,9 @@ import xmlrpc.client
 
 USER, PASSWORD = "keeper", "pass-word-17"
 
+# Debian's Supervisor, beside which some scripts run the same.
+PEER = "/usr/bin/supervisord"
+
 
 def programs():
     """The folder of the programs."""
@@ -42,12 +45,21 @@ def passed():
     print(f"{os.path.basename(sys.argv[0])}: passed")
 
 
-class Daemon:
-    """A daemon over these sections; {dir} in them is its folder. It is ended, and its folder removed, at the end of a `with`."""
+LAUNCHER = os.path.join(os.path.dirname(os.path.abspath(__file__)), "../../contrib/launch/supervisord")
 
-    def __init__(self, sections, *, words=(), password=True, main_log="{dir}/supervisord.log"):
+
+class Daemon:
+    """A daemon over these sections; {dir} in them is its folder. It is ended, and its folder removed, at the end of a `with`. With
+    `shell`, a list of words, it is started by the launcher in that shell, whose number `pid` then is. `prepare` has further files of
+    its folder. `before` are the words of a program that becomes the daemon; `owner` is the number of the user that its folder is for."""
+
+    name = "ours"
+
+    def __init__(self, sections, *, words=(), password=True, main_log="{dir}/supervisord.log", shell=None, before=(), prepare=None, owner=None, **more):
         self.programs = programs()
         self.folder = tempfile.mkdtemp(prefix="real-")
+        if owner is not None:
+            os.chown(self.folder, owner, owner)
         self.port = free_port()
         credentials = f"username={USER}\npassword={PASSWORD}\n" if password else ""
         head = (
@@ -59,12 +71,23 @@ class Daemon:
         self.conf = f"{self.folder}/supervisord.conf"
         with open(self.conf, "w", encoding="utf-8") as file:
             file.write((head + sections).replace("{dir}", self.folder))
+        for name, text in (prepare or {}).items():
+            with open(f"{self.folder}/{name}", "w", encoding="utf-8") as file:
+                file.write(text.replace("{dir}", self.folder))
         self.out = open(f"{self.folder}/daemon.out", "wb")
         self.err = open(f"{self.folder}/daemon.err", "wb")
-        command = [f"{self.programs}/supervisord", "-c", self.conf, *words]
-        self.process = subprocess.Popen(command, stdin=subprocess.PIPE, stdout=self.out, stderr=self.err, cwd=self.folder)
-        self.pid = self.process.pid
+        command = [*before, *self.program(shell), "-c", self.conf, *words]
+        given = {"stdin": subprocess.PIPE, "stdout": self.out, "stderr": self.err, "cwd": self.folder, **more}
+        given["env"] = {**given.get("env", os.environ), **({"SUPERVISORD_PROGRAM": f"{self.programs}/supervisord"} if shell else {})}
+        self.start(command, given)
         until("the daemon takes links", self.takes_links)
+
+    def start(self, command, given):
+        self.process = subprocess.Popen(command, **given)
+        self.pid = self.process.pid
+
+    def program(self, shell):
+        return [*shell, LAUNCHER] if shell else [f"{self.programs}/supervisord"]
 
     def takes_links(self):
         assert self.process.poll() is None, f"the daemon ended with {self.process.returncode}: {self.text('daemon.err')}"
@@ -93,7 +116,8 @@ class Daemon:
             except (OSError, xmlrpc.client.Error, subprocess.TimeoutExpired, EOFError, ConnectionError):
                 self.process.kill()
         self.process.wait()
-        self.process.stdin.close()
+        if self.process.stdin:
+            self.process.stdin.close()
         self.out.close()
         self.err.close()
         return self.process.returncode
@@ -131,6 +155,60 @@ class Daemon:
         return Link(self.port)
 
 
+class Peer(Daemon):
+    """Debian's daemon in the foreground over the same sections."""
+
+    name = "Supervisor"
+    installed = os.access(PEER, os.X_OK)
+
+    def program(self, _):
+        return [PEER, "-n"]
+
+
+def both():
+    """Our daemon, and Debian's where it is installed."""
+    return [Daemon, Peer] if Peer.installed else [Daemon]
+
+
+def daemons():
+    """The same, each with its name."""
+    return [(kind.name, kind) for kind in both()]
+
+
+def beside(results):
+    """Prints what each daemon came to, by its name, beside each other."""
+    for name, result in results.items():
+        print(f"  {name}: {result}")
+
+
+def in_own_mounts():
+    """Begins the script again in a mount namespace of its own, so that what it mounts is seen by nobody else and ends with
+    it. Only root may do so: for others the script ends here."""
+    if os.environ.get("OWN_MOUNTS") == str(os.getpid()):
+        return
+    if os.geteuid() != 0:
+        print(f"{os.path.basename(sys.argv[0])}: not run, since it is for root alone")
+        sys.exit(0)
+    os.environ["OWN_MOUNTS"] = str(os.getpid())
+    os.execvp("unshare", ["unshare", "--mount", "--propagation", "private", sys.executable, *sys.argv])
+
+
+def children(pid):
+    """The processes whose parent this is: the state, and the words of each, by its number."""
+    found = {}
+    for entry in os.listdir("/proc"):
+        if entry.isdigit():
+            try:
+                with open(f"/proc/{entry}/stat", encoding="utf-8", errors="replace") as file:
+                    state, parent = file.read().rpartition(")")[2].split()[:2]
+                if int(parent) == pid:
+                    with open(f"/proc/{entry}/cmdline", encoding="utf-8", errors="replace") as file:
+                        found[int(entry)] = (state, file.read().split("\0")[:-1])
+            except (OSError, ValueError):
+                pass
+    return found
+
+
 def call_text(method, *params):
     return xmlrpc.client.dumps(tuple(params), method).encode()
 
@@ -145,8 +223,14 @@ def request(body, *, credentials=True, more=""):
 class Link:
     """A connection to a daemon, byte by byte."""
 
-    def __init__(self, port, seconds=90):
-        self.socket = socket.create_connection(("127.0.0.1", port), timeout=seconds)
+    def __init__(self, at, seconds=90):
+        """At a port of the loopback, or at the path of a socket."""
+        if isinstance(at, str):
+            self.socket = socket.socket(socket.AF_UNIX)
+            self.socket.settimeout(seconds)
+            self.socket.connect(at)
+        else:
+            self.socket = socket.create_connection(("127.0.0.1", at), timeout=seconds)
         self.held = b""
 
     def send(self, some):

@@ -6,8 +6,10 @@ use std::process::ExitCode;
 use std::{env, io, process};
 use sv_base::{Host, Text};
 use sv_ctl::control;
+use sv_disk::OsShelf;
 use sv_options::{Options, options_of, parted};
-use sv_os::{OsDial, OsShelf, ReadSource, WriteSink, host_of, words_of, words_untold};
+use sv_os::{ReadSource, WriteSink, host_of, words_of, words_untold};
+use sv_sockets::OsDial;
 
 /// The status where memory was refused.
 const NO_MEMORY: u8 = 6;

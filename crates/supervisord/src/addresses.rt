@@ -1,88 +1,109 @@
 //! The addresses at which the daemon accepts its clients.
 
-use std::alloc::{AllocError, Global};
-use std::io;
-use std::io::Eprint;
+use crate::unbegun::Unbegun;
+use std::alloc::Global;
+use std::fs::File;
 use std::net::Net;
 use std::rt::{Clock, Files};
-use sv_base::{Place, ServerSpec};
-use sv_os::{OsListen, opening_line, remove_socket};
+use std::sync::Wait;
+use sv_base::{Place, ServerSpec, Side};
+use sv_sockets::{
+    LinkTable, Listener, OpenFault, OsListen, OwnSocket, SocketRules, open_address, opening_line,
+};
+use sv_standard::Teller;
 
-/// What accepts the links of each side, and where the socket's file is.
+/// What accepts the links of each side, and the socket's file.
 #[derive(Drop)]
-pub struct Addresses<R: Net> {
+pub struct Addresses<R: Net + Files + Wait + Copy + Drop> {
     pub inet: Option<OsListen<R>>,
     pub unix: Option<OsListen<R>>,
-    pub socket: Option<Place>,
+    pub socket: Option<OwnSocket>,
 }
 
-/// Opens the addresses of these servers, at most one of each side. One that can't be opened is reported on standard error, and
-/// is tried again when its links are asked for.
-pub fn addresses_of<R: Net + Files + Clock + Eprint + Copy>(
-    rt: R,
-    alloc: Global,
+/// What an address is opened with.
+#[derive(Drop)]
+pub struct Opening<R> {
+    pub rt: R,
+    pub alloc: Global,
+    /// The number of this process.
+    pub pid: u32,
+    pub rules: SocketRules,
+    pub links: LinkTable,
+    pub teller: Teller<R>,
+}
+
+/// Opens the addresses of these servers, at most one of each side. Where one can't be opened none is, and no socket's file is
+/// left that this made.
+pub fn addresses_of<R: Net + Files<File = File> + Clock + Wait + Copy + Drop>(
+    opening: &Opening<R>,
     servers: &[ServerSpec],
-) -> Result<Addresses<R>, AllocError> {
+) -> Result<Addresses<R>, Unbegun> {
     let mut all = Addresses {
         inet: None,
         unix: None,
         socket: None,
     };
     for server in servers {
-        add_address(rt, alloc, &mut all, &server.place)?;
+        if let Err(unbegun) = add_address(opening, &mut all, &server.place) {
+            remove(&opening.rt, all.socket.take());
+            return Err(unbegun);
+        }
     }
     Ok(all)
 }
 
 /// Opens this address and takes it among them.
-fn add_address<R: Net + Files + Clock + Eprint + Copy>(
-    rt: R,
-    alloc: Global,
+fn add_address<R: Net + Files<File = File> + Clock + Wait + Copy + Drop>(
+    opening: &Opening<R>,
     all: &mut Addresses<R>,
     place: &Place,
-) -> Result<(), AllocError> {
-    match place {
-        Place::Inet(_, _) => all.inet = Some(opened(rt, alloc, place)?),
-        Place::Unix(_) => {
-            all.socket = Some(place.clone()?);
-            all.unix = Some(opened(rt, alloc, place)?);
-        }
-    }
-    Ok(())
-}
-
-/// The address, open, or reported.
-fn opened<R: Net + Files + Clock + Eprint + Copy>(
-    rt: R,
-    alloc: Global,
-    place: &Place,
-) -> Result<OsListen<R>, AllocError> {
-    let (listen, opened) = OsListen::open(rt, place.clone()?);
+) -> Result<(), Unbegun> {
+    let opened = open_address(
+        &opening.rt,
+        opening.alloc,
+        place,
+        &opening.rules,
+        opening.pid,
+    );
     match opened {
-        Ok(()) => Ok(listen),
-        Err(error) => {
-            report(rt, alloc, place, &error)?;
-            Ok(listen)
+        Ok((listener, socket)) => {
+            if socket.is_some() {
+                all.socket = socket;
+            }
+            add_listener(opening, all, listener)
+        }
+        Err(OpenFault::OutOfMemory) => Err(Unbegun::OutOfMemory),
+        Err(fault) => {
+            let reason = fault.reason(opening.alloc)?;
+            Err(Unbegun::Refused(opening_line(opening.alloc, place, reason.as_str())?))
         }
     }
 }
 
-/// Reports why an address isn't open. What standard error doesn't take is lost.
-fn report<R: Eprint + Copy>(
-    rt: R,
-    alloc: Global,
-    place: &Place,
-    error: &io::Error,
-) -> Result<(), AllocError> {
-    let reason = format!(in alloc; "{error}")?;
-    let line = opening_line(alloc, place, reason.as_str())?;
-    let _ = eprint!(rt; "{}", line.as_str());
+/// Takes an open address among them.
+fn add_listener<R: Net + Files + Clock + Wait + Copy + Drop>(
+    opening: &Opening<R>,
+    all: &mut Addresses<R>,
+    listener: Listener<R::Listener>,
+) -> Result<(), Unbegun> {
+    let side = listener.side();
+    let listen = OsListen::new(
+        opening.rt,
+        opening.alloc,
+        listener,
+        opening.links.another()?,
+        opening.teller.another()?,
+    );
+    match side {
+        Side::Inet => all.inet = Some(listen),
+        Side::Unix => all.unix = Some(listen),
+    }
     Ok(())
 }
 
 /// Removes the socket's file at the daemon's end, where there is one. What can't be removed stays.
-pub fn remove<R: Files>(rt: &R, socket: Option<Place>) {
-    if let Some(place) = socket {
-        let _ = remove_socket(rt, &place);
+pub fn remove<R: Files>(rt: &R, socket: Option<OwnSocket>) {
+    if let Some(socket) = socket {
+        socket.remove(rt);
     }
 }

@@ -1,27 +1,35 @@
 //! The daemon over the machine that it runs on.
 
-use crate::addresses::{Addresses, addresses_of, remove};
+use crate::addresses::{Addresses, remove};
+use crate::ending::end_programs;
+use crate::preparing::Prepared;
+use crate::streams::Streams;
 use std::alloc::{AllocError, Global};
 use std::io::Read;
 use std::net::Net;
 use std::process::Processes;
-use std::rt::Runtime;
+use std::rt::{Clock as Time, Files, Runtime};
 use std::sync::Wait;
-use sv_arguments::arguments_of;
 use sv_base::{Host, Text};
+use sv_disk::OsShelf;
 use sv_job_types::{AnyJob, NoBoard};
-use sv_os::{LinksAtWork, OsClock, OsListen, OsShelf, OsSpawner, ReadSource, host_of};
+use sv_os::OsClock;
 use sv_out::Shelf;
 use sv_out::sink::Sink;
 use sv_out::source::Source;
 use sv_outside::{Clock, Gate, Listen, Spawner};
-use sv_servers::servers;
+use sv_processes::OsSpawner;
+use sv_sockets::{LinksAtWork, OsListen, OwnSocket};
+use sv_standard::{Console, JournalSink};
 use sv_supervise::supervise;
 use sv_threads::ThreadWorld;
 use sv_world::World;
 
 /// How long the replies at the end may take, in milliseconds.
 const LAST_REPLIES: u32 = 500;
+
+/// The descriptor of standard input.
+const STANDARD_INPUT: i32 = 0;
 
 /// Any job of the daemon, whose console is such a reader. A job is moved to its thread by value, so the reader has no buffer in itself.
 pub type DaemonJob<R, I> = AnyJob<
@@ -30,7 +38,7 @@ pub type DaemonJob<R, I> = AnyJob<
     <OsSpawner<R> as Spawner>::Stderr,
     <OsSpawner<R> as Spawner>::Waiter,
     OsListen<R>,
-    ReadSource<I>,
+    Console<R, I>,
     OsClock<R>,
     NoBoard,
 >;
@@ -41,56 +49,23 @@ pub trait Course {
     fn over<W: World>(&mut self, world: &mut W) -> u8;
 }
 
-/// A daemon that isn't begun yet: its words, its machine, and where its journal and its last line go.
+/// The daemon's own call, with all that it is given but the world.
 #[derive(Drop)]
-pub struct Daemon<R, J, O> {
+struct Daemon<R, O> {
     rt: R,
     words: Vec<Text>,
     host: Host,
-    journal: J,
+    journal: JournalSink<R>,
     out: O,
 }
 
-impl<R: Runtime + Net + AllocGlobal + Copy, J: Sink, O: Sink> Daemon<R, J, O> {
-    /// The daemon of these words on this machine.
-    pub fn new(
-        rt: R,
-        words: Vec<Text>,
-        pid: u32,
-        journal: J,
-        out: O,
-    ) -> Result<Daemon<R, J, O>, AllocError>
-    where
-        J: Drop,
-        O: Drop,
-    {
-        let host = machine_of(&rt, words.as_slice(), pid)?;
-        Ok(Daemon {
-            rt,
-            words,
-            host,
-            journal,
-            out,
-        })
-    }
-
-    /// Opens the addresses of its configuration.
-    pub fn addresses(&self) -> Result<Addresses<R>, AllocError> {
-        let rt = self.rt;
-        let mut shelf = OsShelf::new(rt);
-        let servers = servers(rt.alloc(), self.words.as_slice(), &self.host, &mut shelf)?;
-        addresses_of(rt, rt.alloc(), servers.as_slice())
-    }
-}
-
-impl<R: Runtime + AllocGlobal + Copy, J: Sink, O: Sink> Course for Daemon<R, J, O> {
+impl<R: Runtime + AllocGlobal + Wait + Copy + Drop, O: Sink> Course for Daemon<R, O> {
     fn over<W: World>(&mut self, world: &mut W) -> u8 {
-        let mut shelf = OsShelf::new(self.rt);
         supervise(
             self.rt.alloc(),
             self.words.as_slice(),
             &self.host,
-            &mut shelf,
+            &mut OsShelf::new(self.rt),
             world,
             &mut self.journal,
             &mut self.out,
@@ -98,40 +73,66 @@ impl<R: Runtime + AllocGlobal + Copy, J: Sink, O: Sink> Course for Daemon<R, J, 
     }
 }
 
-/// Goes through a course over this machine and this console, waits until the last replies are sent, and removes the socket's file: the
-/// status.
+/// Runs a daemon that was prepared, over this console and this gate: the status. Then the programs that still live are ended,
+/// the last replies are sent and the last bytes written, and the socket's file is removed.
 pub fn run<
-    R: Runtime + Net + Processes + AllocGlobal + Wait + Copy,
+    R: Runtime + Net + Processes + AllocGlobal + Wait + Copy + Drop,
     I: Read + Drop,
+    O: Sink + Drop,
     G: Gate<DaemonJob<R, I>> + Drop,
-    D: Course,
->(
-    rt: R,
-    console: I,
-    addresses: Addresses<R>,
-    gate: G,
-    links: &LinksAtWork,
-    daemon: &mut D,
-) -> Result<u8, AllocError>
+>(rt: R, console: I, out: O, prepared: Prepared<R>, gate: G) -> Result<u8, AllocError>
     requires { G.ready gate }
 {
+    let alloc = rt.alloc();
+    let Prepared {
+        words,
+        host,
+        streams,
+        addresses,
+        work,
+        spawner,
+        living,
+        shelf,
+        ..
+    } = prepared;
     let Addresses { inet, unix, socket } = addresses;
+    let mut daemon = Daemon {
+        rt,
+        words,
+        host,
+        journal: JournalSink::new(alloc, streams.out.another()?, streams.teller.another()?),
+        out,
+    };
+    let console = Console::new(rt, console, STANDARD_INPUT);
+    let (ticker, clock) = (OsClock::new(rt), OsClock::new(rt));
     let status = over_threads(
         rt,
-        rt.alloc(),
-        OsSpawner::new(rt),
+        alloc,
+        spawner,
         inet,
         unix,
-        ReadSource::new(console),
-        OsClock::new(rt),
-        OsClock::new(rt),
-        OsShelf::new(rt),
+        console,
+        ticker,
+        clock,
+        shelf,
         gate,
-        daemon,
-    )?;
-    links.wait_for_none(&rt, LAST_REPLIES);
-    remove(&rt, socket);
+        &mut daemon,
+    );
+    let status = end_programs(rt, alloc, status, &living, &streams.teller);
+    close(rt, &work, socket, &streams);
     Ok(status)
+}
+
+/// Waits for the last replies, removes the socket's file, and waits for the last bytes of the streams.
+fn close<R: Files + Time + Wait + Copy>(
+    rt: R,
+    work: &LinksAtWork,
+    socket: Option<OwnSocket>,
+    streams: &Streams<R>,
+) {
+    work.wait_for_none(&rt, LAST_REPLIES);
+    remove(&rt, socket);
+    streams.finish(&rt);
 }
 
 /// Goes through a course over the world made of these parts: the status.
@@ -163,16 +164,4 @@ fn over_threads<
         rt, alloc, spawner, inet, unix, console, ticker, clock, shelf, gate,
     )?;
     Ok(daemon.over(&mut world))
-}
-
-/// The machine, with the configuration file that the words name.
-fn machine_of<R: Runtime + AllocGlobal>(
-    rt: &R,
-    words: &[Text],
-    pid: u32,
-) -> Result<Host, AllocError> {
-    match arguments_of(rt.alloc(), words)? {
-        Some(arguments) => host_of(rt, pid, Some(arguments.file.as_str())),
-        None => host_of(rt, pid, None),
-    }
 }

@@ -76,20 +76,20 @@ supervisor.rpcinterface_factory = supervisor.rpcinterface:make_main_rpcinterface
 [supervisorctl]                                          ; the client
 serverurl=unix:///var/run/supervisor.sock                ; where it finds the daemon
 [program:worker]                                         ; the processes that answer requests
-command=/usr/bin/serve --port=80%(process_num)02d        ; each listens on a port of its own
+command=/bin/sh %(here)s/web/serve --port=80%(process_num)02d ; each is told a port of its own
 process_name=%(program_name)s_%(process_num)02d          ; worker_01 to worker_04
 numprocs=4                                               ; four of them
 numprocs_start=1                                         ; counted from 1
-directory=/srv/web                                       ; where they start
-user=www                                                 ; whom they run as
+directory=%(here)s/web                                   ; where they start
+user=nobody                                              ; whom they run as: the daemon is started as root
 autorestart=true                                         ; started again whenever they exit
 startsecs=5                                              ; a start counts once a worker has stayed up for 5 seconds
 stopsignal=QUIT                                          ; QUIT lets them finish their requests
 stopwaitsecs=30                                          ; after 30 seconds they are killed
 stopasgroup=true                                         ; their own children are signalled as well
-environment=SECRET_FILE="%(here)s/secret",WORKERS="%(numprocs)d" ; variables of their own
+environment=GREETING="hello, world",WORKERS="%(numprocs)d" ; variables of their own
 [program:proxy]                                          ; the process in front of them
-command=/usr/sbin/proxy -c %(here)s/proxy.conf           ; with its configuration beside this file
+command=/bin/sh %(here)s/web/proxy 8001 8004             ; a script beside this file
 stdout_logfile=/var/log/proxy.log                        ; its output goes here
 redirect_stderr=true                                     ; and so do its errors
 [group:web]                                              ; both are started and stopped together
@@ -156,7 +156,7 @@ const EXAMPLES: [Example; 4] = [
         extra: "",
         patterns: "",
         order: "web:proxy web:worker_01 web:worker_02 web:worker_03 web:worker_04",
-        words: "/usr/sbin/proxy|-c|/etc/proxy.conf|~/usr/bin/serve|--port=8001|~/usr/bin/serve|--port=8002|~/usr/bin/serve|--port=8003|~/usr/bin/serve|--port=8004|~",
+        words: "/bin/sh|/etc/web/proxy|8001|8004|~/bin/sh|/etc/web/serve|--port=8001|~/bin/sh|/etc/web/serve|--port=8002|~/bin/sh|/etc/web/serve|--port=8003|~/bin/sh|/etc/web/serve|--port=8004|~",
     },
     Example {
         text: LISTENER,

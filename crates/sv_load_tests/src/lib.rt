@@ -1,4 +1,4 @@
-//! The tests of `sv_load`, `sv_sizes`, `sv_arguments`, `sv_daemon`, `sv_outcome`, `sv_record` and `sv_servers`, worked by hand: how
+//! The tests of `sv_load`, `sv_sizes`, `sv_arguments`, `sv_daemon`, `sv_outcome` and `sv_record`, worked by hand: how
 //! a daemon begins, goes on and ends. A crate of their own, so that these are proved once.
 #![tactic(auto)]
 

@@ -2,10 +2,12 @@
 
 use crate::checks::same;
 use std::alloc::Global;
+use std::mem;
 use std::process::Abort;
+use sv_arguments::arguments_of;
 use sv_base::{Bytes, Host, Items, Moment, Password, Place, ServerSpec, Text};
+use sv_load::load;
 use sv_out::MapShelf;
-use sv_servers::servers;
 
 /// The files of the shelf.
 static FILES: [(&str, &str); 4] = [
@@ -127,8 +129,23 @@ fn parts_of(rt: &impl Abort, alloc: Global, words: &str, failing: u64) -> Parts 
     }
 }
 
+/// The servers of the configuration that the words name; none where the words are refused, or it can't be read.
 fn servers_in(rt: &impl Abort, alloc: Global, parts: &mut Parts) -> Items<ServerSpec> {
-    servers(alloc, parts.words.as_slice(), &parts.host, &mut parts.shelf).expect(rt, "memory")
+    let Some(arguments) = arguments_of(alloc, parts.words.as_slice()).expect(rt, "memory") else {
+        return Items::new(alloc);
+    };
+    match load(
+        alloc,
+        arguments.file.as_str(),
+        &parts.host,
+        &mut parts.shelf,
+    ) {
+        Ok(loaded) => {
+            let mut loaded = loaded;
+            mem::replace(&mut loaded.config.servers, Items::new(alloc))
+        }
+        Err(_) => Items::new(alloc),
+    }
 }
 
 fn servers_of(rt: &impl Abort, alloc: Global, words: &str, failing: u64) -> Items<ServerSpec> {

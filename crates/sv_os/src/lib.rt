@@ -1,25 +1,16 @@
-//! The thin edge to the system: streams over std's readers and writers, a shelf over files, a dial and listeners over TCP
-//! and Unix sockets, programs, threads, the clock, the machine and the words of a call. Each counts its errors; of the content
-//! a stream tells what its reader or writer does, and the others nothing.
+//! The thin edge to the system that every program has: streams over std's readers and writers, the clock, the machine, its
+//! users and groups, and the words of a call. A stream counts its errors, and tells of its content what its reader or writer does; the clock tells
+//! nothing.
 #![tactic(auto)]
 
+mod accounts;
 mod clock;
-mod disk;
-mod gate;
 mod host;
-mod listening;
-mod listing;
-mod programs;
-mod sockets;
 mod streams;
 mod words;
 
+pub use accounts::{Owner, main_group_of, number_of, owner_of};
 pub use clock::{OsClock, moment_of};
-pub use disk::OsShelf;
-pub use gate::{Errand, LinksAtWork, OsGate, receive_and_work};
 pub use host::{directory_of, environment_of, host_of};
-pub use listening::{OsListen, opening_line, remove_socket};
-pub use programs::{OsSpawner, OsWaiter, fault_of, how_of, kill_line};
-pub use sockets::{OsDial, OsLink};
-pub use streams::{ReadSource, WriteSink};
+pub use streams::{ReadSource, WriteSink, read_some, write_some};
 pub use words::{words_of, words_untold};

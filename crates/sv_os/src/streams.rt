@@ -83,7 +83,7 @@ impl<W: Write> Sink for WriteSink<W> {
 const TRIES: u32 = 1_000;
 
 /// Reads once; a call that was interrupted has taken nothing, and is made again.
-pub(crate) fn read_some<R: Read>(reader: &mut R, into: &mut [u8]) -> io::Result<usize>
+pub fn read_some<R: Read>(reader: &mut R, into: &mut [u8]) -> io::Result<usize>
     ensures bound { ReadsAtMost result into.new }
     ensures bytes { ReadConsumes (R.remaining reader.old) (R.remaining reader.new)
         result into.new }
@@ -98,7 +98,7 @@ pub(crate) fn read_some<R: Read>(reader: &mut R, into: &mut [u8]) -> io::Result<
 }
 
 /// Writes once; a call that was interrupted has taken nothing, and is made again.
-pub(crate) fn write_some<W: Write>(writer: &mut W, piece: &[u8]) -> io::Result<usize>
+pub fn write_some<W: Write>(writer: &mut W, piece: &[u8]) -> io::Result<usize>
     ensures bound { WritesAtMost result piece.now }
     ensures bytes { WriteAppends (W.contents writer.old) (W.contents writer.new)
         result piece.now }

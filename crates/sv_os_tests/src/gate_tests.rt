@@ -1,6 +1,7 @@
 //! Jobs in threads of their own.
 
 use crate::checks::check;
+use crate::listen_tests::{table_of, teller_of};
 use crossbeam_channel::{Receiver, Sender, bounded};
 use std::alloc::Global;
 use std::process::Abort;
@@ -10,23 +11,33 @@ use std::thread;
 use std::thread::Threads;
 use sv_base::LinkId;
 use sv_gate::{Ready, hand};
-use sv_os::{Errand, LinksAtWork, OsGate, receive_and_work};
 use sv_outside::{Gate, Job, JobWord, PumpEnd};
+use sv_sockets::{
+    Errand, LinksAtWork, OsGate, SpareThreads, receive_and_work, receive_and_work_all,
+};
 
 /// Starts these jobs in threads, by one gate, which counts the links that are at work.
 pub(crate) fn start_in_threads<
-    R: Abort + Threads + Wait + Copy + Send + 'static,
+    R: Abort + Threads + Wait + Clock + Copy + Send + 'static,
     J: Job + Send + 'static,
 >(rt: R, alloc: Global, links: &LinksAtWork, jobs: Vec<J>) {
     let gate = OsGate::new(
         rt,
         alloc,
         another(&rt, links),
+        table_of(&rt, alloc),
+        teller_of(rt, alloc),
+        spare_of(&rt, alloc),
         move |from: Receiver<Errand<J>>| {
             thread::spawn(&rt, move || receive_and_work(&rt, &from)).is_ok()
         },
     );
     start_all(&rt, gate, jobs);
+}
+
+/// The way to threads that nobody makes.
+fn spare_of<J: Drop>(rt: &impl Abort, alloc: Global) -> SpareThreads<J> {
+    SpareThreads::new(alloc).expect(rt, "ample memory")
 }
 
 /// Starts these jobs, all of which the gate keeps.
@@ -165,9 +176,9 @@ fn jobs_run_in_threads(rt: HostRuntime) {
     check(&rt, links.wait_for_none(&rt, 10_000));
 }
 
-/// The job of a link with the number 7.
+/// The job of the console with the number 7.
 fn seventh_job(rt: &impl Abort, alloc: Global) -> Waits {
-    waiting_job(rt, JobWord::Link(LinkId(1)), 7, &talk_of(rt, alloc))
+    waiting_job(rt, JobWord::Console, 7, &talk_of(rt, alloc))
 }
 
 /// Whether the job with the number 7 came back.
@@ -178,14 +189,58 @@ fn came_back(answer: &Result<(), Waits>) -> bool {
     }
 }
 
-/// A gate that starts no thread gives its job back.
-fn gives_back<R: Abort + Wait + Copy>(rt: R, alloc: Global, others: LinksAtWork) {
-    let mut gate = OsGate::new(rt, alloc, others, |from: Receiver<Errand<Waits>>| {
-        drop(from);
-        false
-    });
-    let answer = gate.start(seventh_job(&rt, alloc));
+/// Starts this job by a gate that makes no thread, but has these ones.
+fn start_without<R: Abort + Wait + Clock + Copy>(
+    rt: R,
+    alloc: Global,
+    work: LinksAtWork,
+    spare: SpareThreads<Waits>,
+    job: Waits,
+) -> Result<(), Waits> {
+    let mut gate = OsGate::new(
+        rt,
+        alloc,
+        work,
+        table_of(&rt, alloc),
+        teller_of(rt, alloc),
+        spare,
+        |from: Receiver<Errand<Waits>>| {
+            drop(from);
+            false
+        },
+    );
+    gate.start(job)
+}
+
+/// A gate that starts no thread gives a job back that isn't of a link.
+fn gives_back<R: Abort + Wait + Clock + Copy>(rt: R, alloc: Global, others: LinksAtWork) {
+    let spare = spare_of(&rt, alloc);
+    let answer = start_without(rt, alloc, others, spare, seventh_job(&rt, alloc));
     check(&rt, came_back(&answer));
+}
+
+/// The job of a link is done by a thread that was made before.
+fn is_done_by_spare<R: Abort + Threads + Wait + Clock + Copy + Send + 'static>(
+    rt: R,
+    alloc: Global,
+    work: LinksAtWork,
+) {
+    let spare = spare_of(&rt, alloc);
+    let from = spare.receiver().expect(&rt, "ample memory");
+    let thread = thread::spawn(&rt, move || receive_and_work_all(&rt, &from));
+    check(&rt, thread.is_ok());
+    let talk = talk_of(&rt, alloc);
+    let job = waiting_job(&rt, JobWord::Link(LinkId(1)), 5, &talk);
+    check(&rt, start_without(rt, alloc, work, spare, job).is_ok());
+    check(&rt, talk.go.to.send(&rt, ()).is_ok());
+    check(&rt, matches!(talk.done.from.recv(&rt), Ok(5)));
+}
+
+#[test]
+fn a_link_without_a_thread_gets_a_spare_one(rt: HostRuntime) {
+    let links = links_of(&rt, rt.alloc());
+    is_done_by_spare(rt, rt.alloc(), another(&rt, &links));
+    check(&rt, links.wait_for_none(&rt, 10_000));
 }
 
 /// The same number of links at work, for another holder.

@@ -4,12 +4,13 @@ ghost use Rattle.std.specs.Prelude.{◌≤◌};
 
 use crate::checks::check;
 use crate::gate_tests::{add, links_of, start_in_threads};
+use crate::listen_tests::opening;
 use crate::os_tests::socket_at;
 use std::alloc::Global;
 use std::io::Stdin;
-use std::process::{Abort, ChildStderr, ChildStdin, ChildStdout, SystemProcess};
+use std::net::Net;
+use std::process::{Abort, ChildStdin};
 use std::sync::Wait;
-use std::thread::Threads;
 use std::{env, fs, io, process};
 use sv_base::{Bytes, How, Items, LinkId, Place, Run, Side, Stream, Text};
 use sv_job_types::{
@@ -17,28 +18,25 @@ use sv_job_types::{
 };
 use sv_jobs::{LinkWord, Note, StdinWord};
 use sv_lane::{Poster, Seats, Taker, lane};
-use sv_os::{LinksAtWork, OsClock, OsDial, OsListen, OsSpawner, OsWaiter, ReadSource, WriteSink};
+use sv_os::{OsClock, ReadSource, WriteSink};
 use sv_out::order::SpawnOrder;
 use sv_out::{Dial, Link};
-use sv_outside::{Listen, Spawner, Started};
+use sv_outside::{Clock, Listen, Spawner, Started, Waiter};
+use sv_processes::{OsSpawner, OsWaiter, PipeSource};
+use sv_sockets::{OsDial, OsLink, OsListen};
 
-type RealJob = AnyJob<
+type RealJob<W, L, C> = AnyJob<
     WriteSink<ChildStdin>,
-    ReadSource<ChildStdout>,
-    ReadSource<ChildStderr>,
-    OsWaiter<SystemProcess>,
-    OsListen<HostRuntime>,
+    PipeSource,
+    PipeSource,
+    W,
+    L,
     ReadSource<Stdin>,
-    OsClock<HostRuntime>,
+    C,
     NoBoard,
 >;
 
-type RealProgram = Started<
-    WriteSink<ChildStdin>,
-    ReadSource<ChildStdout>,
-    ReadSource<ChildStderr>,
-    OsWaiter<SystemProcess>,
->;
+type RealProgram<W> = Started<WriteSink<ChildStdin>, PipeSource, PipeSource, W>;
 
 /// The one word `cat`.
 fn word_cat(rt: &impl Abort, alloc: Global) -> Items<Text> {
@@ -86,11 +84,11 @@ fn seat_of<T: Drop>(rt: &impl Abort, seats: &mut Seats<T>) -> Poster<T> {
 }
 
 /// The job that writes the standard input of a program, which takes these words.
-fn stdin_job(
+fn stdin_job<W: Waiter + Drop, L: Listen + Drop, C: Clock + Drop>(
     sink: WriteSink<ChildStdin>,
     words: Taker<StdinWord>,
     poster: Poster<Note>,
-) -> RealJob {
+) -> RealJob<W, L, C> {
     AnyJob::Stdin(StdinJob {
         run: Run(1),
         sink,
@@ -100,7 +98,11 @@ fn stdin_job(
 }
 
 /// The job that reads the standard output of a program.
-fn out_job(alloc: Global, source: ReadSource<ChildStdout>, poster: Poster<Note>) -> RealJob {
+fn out_job<W: Waiter + Drop, L: Listen + Drop, C: Clock + Drop>(
+    alloc: Global,
+    source: PipeSource,
+    poster: Poster<Note>,
+) -> RealJob<W, L, C> {
     AnyJob::Out(OutPump {
         run: Run(1),
         source,
@@ -110,7 +112,11 @@ fn out_job(alloc: Global, source: ReadSource<ChildStdout>, poster: Poster<Note>)
 }
 
 /// The job that reads the standard error output of a program.
-fn err_job(alloc: Global, source: ReadSource<ChildStderr>, poster: Poster<Note>) -> RealJob {
+fn err_job<W: Waiter + Drop, L: Listen + Drop, C: Clock + Drop>(
+    alloc: Global,
+    source: PipeSource,
+    poster: Poster<Note>,
+) -> RealJob<W, L, C> {
     AnyJob::Err(ErrPump {
         run: Run(1),
         source,
@@ -120,7 +126,10 @@ fn err_job(alloc: Global, source: ReadSource<ChildStderr>, poster: Poster<Note>)
 }
 
 /// The job that waits for the end of a program.
-fn watch_job(waiter: OsWaiter<SystemProcess>, poster: Poster<Note>) -> RealJob {
+fn watch_job<W: Waiter + Drop, L: Listen + Drop, C: Clock + Drop>(
+    waiter: W,
+    poster: Poster<Note>,
+) -> RealJob<W, L, C> {
     AnyJob::Watch(WatchJob {
         run: Run(1),
         waiter,
@@ -129,7 +138,10 @@ fn watch_job(waiter: OsWaiter<SystemProcess>, poster: Poster<Note>) -> RealJob {
 }
 
 /// The job of the clock, for one tick.
-fn ticker_job(clock: OsClock<HostRuntime>, poster: Poster<Note>) -> RealJob {
+fn ticker_job<W: Waiter + Drop, L: Listen + Drop, C: Clock + Drop>(
+    clock: C,
+    poster: Poster<Note>,
+) -> RealJob<W, L, C> {
     AnyJob::Ticker(TickerJob {
         clock,
         turns: 1,
@@ -138,7 +150,11 @@ fn ticker_job(clock: OsClock<HostRuntime>, poster: Poster<Note>) -> RealJob {
 }
 
 /// The job of the console.
-fn console_job(alloc: Global, console: Stdin, poster: Poster<Note>) -> RealJob {
+fn console_job<W: Waiter + Drop, L: Listen + Drop, C: Clock + Drop>(
+    alloc: Global,
+    console: Stdin,
+    poster: Poster<Note>,
+) -> RealJob<W, L, C> {
     AnyJob::Console(ConsoleJob {
         source: ReadSource::new(console),
         poster,
@@ -147,11 +163,11 @@ fn console_job(alloc: Global, console: Stdin, poster: Poster<Note>) -> RealJob {
 }
 
 /// Adds the jobs of a program, whose standard input takes these words.
-fn add_program(
+fn add_program<W: Waiter + Drop, L: Listen + Drop, C: Clock + Drop>(
     rt: &impl Abort,
     alloc: Global,
-    jobs: &mut Vec<RealJob>,
-    program: RealProgram,
+    jobs: &mut Vec<RealJob<W, L, C>>,
+    program: RealProgram<W>,
     words: Taker<StdinWord>,
     seats: &mut Seats<Note>,
 ) {
@@ -165,38 +181,25 @@ fn add_program(
     add(rt, jobs, watch_job(program.waiter, seat_of(rt, seats)));
 }
 
-/// The jobs of `cat`, whose standard input takes these words, of the clock and of the console.
-fn all_jobs(
+/// The jobs of this program, whose standard input takes these words, of the clock and of the console.
+fn all_jobs<W: Waiter + Drop, L: Listen + Drop, C: Clock + Drop>(
     rt: &impl Abort,
-    host: HostRuntime,
+    alloc: Global,
+    program: RealProgram<W>,
+    clock: C,
+    console: Stdin,
     words: Taker<StdinWord>,
     seats: &mut Seats<Note>,
-) -> Vec<RealJob> {
-    let alloc = host.alloc();
+) -> Vec<RealJob<W, L, C>> {
     let mut jobs = Vec::new(alloc);
-    let cat = started_cat(rt, alloc, &mut OsSpawner::new(host));
-    add_program(rt, alloc, &mut jobs, cat, words, seats);
+    add_program(rt, alloc, &mut jobs, program, words, seats);
+    add(rt, &mut jobs, ticker_job(clock, seat_of(rt, seats)));
     add(
         rt,
         &mut jobs,
-        ticker_job(OsClock::new(host), seat_of(rt, seats)),
-    );
-    add(
-        rt,
-        &mut jobs,
-        console_job(alloc, host.stdin(), seat_of(rt, seats)),
+        console_job(alloc, console, seat_of(rt, seats)),
     );
     jobs
-}
-
-/// Starts these jobs in threads.
-fn start<R: Abort + Threads + Wait + Copy + Send + 'static>(
-    rt: R,
-    alloc: Global,
-    links: &LinksAtWork,
-    jobs: Vec<RealJob>,
-) {
-    start_in_threads(rt, alloc, links, jobs);
 }
 
 /// Writes `hello` to the standard input, and closes it.
@@ -241,28 +244,19 @@ fn hear_hello<R: Abort + Wait>(rt: &R, notes: &mut Taker<Note>) {
     check(rt, heard.seen == 63 && heard.said == 5);
 }
 
-/// Starts the jobs of `cat`, of the clock and of the console: what posts the words of the program's standard input.
-fn start_cat<R: Abort + Threads + Wait + Copy + Send + 'static>(
-    rt: R,
-    host: HostRuntime,
-    seats: &mut Seats<Note>,
-) -> Poster<StdinWord> {
-    let links = links_of(&rt, host.alloc());
-    let (taker, words) = lane_of(&rt, host.alloc(), 65);
-    start(rt, host.alloc(), &links, all_jobs(&rt, host, taker, seats));
-    words
-}
-
-/// Starts `cat`, which is given `hello` and gives it back.
-fn runs_cat<R: Abort + Threads + Wait + Copy + Send + 'static>(rt: R, host: HostRuntime) {
-    let (mut notes, mut seats) = lane(host.alloc(), 256).expect(&rt, "ample memory");
-    write_hello(&rt, host.alloc(), &mut start_cat(rt, host, &mut seats));
-    hear_hello(&rt, &mut notes);
-}
-
 #[test]
 fn a_program_has_its_jobs(rt: HostRuntime) {
-    runs_cat(rt, rt);
+    let alloc = rt.alloc();
+    let (mut notes, mut seats) = lane(alloc, 256).expect(&rt, "ample memory");
+    let (taker, mut words) = lane_of(&rt, alloc, 65);
+    write_hello(&rt, alloc, &mut words);
+    let mut spawner = OsSpawner::plain(rt, alloc).expect(&rt, "ample memory");
+    let cat = started_cat(&rt, alloc, &mut spawner);
+    let (clock, console) = (OsClock::new(rt), rt.stdin());
+    let jobs: Vec<RealJob<OsWaiter<HostRuntime>, OsListen<HostRuntime>, OsClock<HostRuntime>>> =
+        all_jobs(&rt, alloc, cat, clock, console, taker, &mut seats);
+    start_in_threads(rt, alloc, &links_of(&rt, alloc), jobs);
+    hear_hello(&rt, &mut notes);
 }
 
 /// The path of a socket of this process alone.
@@ -272,8 +266,6 @@ fn socket_path(rt: &HostRuntime) -> io::Result<String> {
     let pid = process::id(rt.process());
     Ok(format!(in rt.alloc(); "{above}/sv_os_jobs_{pid}")?)
 }
-
-type RealLink = <OsListen<HostRuntime> as Listen>::Link;
 
 /// A lane: its taker, and its seats.
 struct Hall<T: Drop> {
@@ -296,13 +288,13 @@ fn hall_of<T: Drop>(rt: &impl Abort, alloc: Global, room: u32) -> Hall<T>
 }
 
 /// An address, and what hears the jobs of it and takes its links.
-struct Address {
+struct Address<K: Link + Drop> {
     place: Place,
     notes: Hall<Note>,
-    links: Hall<RealLink>,
+    links: Hall<K>,
 }
 
-impl Drop for Address {
+impl<K: Link + Drop> Drop for Address<K> {
     fn drop(self) {
         let Self {
             place: _,
@@ -313,7 +305,7 @@ impl Drop for Address {
 }
 
 /// The address of this path.
-fn address_of(rt: &impl Abort, alloc: Global, path: &str) -> Address {
+fn address_of<K: Link + Drop>(rt: &impl Abort, alloc: Global, path: &str) -> Address<K> {
     Address {
         place: socket_at(rt, alloc, path),
         notes: hall_of(rt, alloc, 256),
@@ -321,36 +313,19 @@ fn address_of(rt: &impl Abort, alloc: Global, path: &str) -> Address {
     }
 }
 
-/// What accepts the links of this place.
-fn opened_at(rt: &impl Abort, host: HostRuntime, place: &Place) -> OsListen<HostRuntime> {
-    let place = place.clone().expect(rt, "ample memory");
-    let (listen, opened) = OsListen::open(host, place);
-    opened.expect(rt, "the system does it");
-    listen
-}
-
-/// The job that accepts one link.
-fn accepting_job(
-    listen: OsListen<HostRuntime>,
-    poster: Poster<Note>,
-    links: Poster<RealLink>,
-) -> RealJob {
+/// The job that accepts one link at the address.
+fn links_job<W: Waiter + Drop, L: Listen + Drop, C: Clock + Drop>(
+    rt: &impl Abort,
+    listen: L,
+    address: &mut Address<L::Link>,
+) -> RealJob<W, L, C> {
     AnyJob::Links(LinksJob {
         side: Side::Unix,
         listen,
         turns: 1,
-        poster,
-        links,
+        poster: seat_of(rt, &mut address.notes.seats),
+        links: seat_of(rt, &mut address.links.seats),
     })
-}
-
-/// The job that accepts one link at the address.
-fn links_job(rt: &impl Abort, host: HostRuntime, address: &mut Address) -> RealJob {
-    accepting_job(
-        opened_at(rt, host, &address.place),
-        seat_of(rt, &mut address.notes.seats),
-        seat_of(rt, &mut address.links.seats),
-    )
 }
 
 /// A new link is told.
@@ -359,39 +334,32 @@ fn is_told<R: Abort + Wait>(rt: &R, notes: &mut Taker<Note>) {
 }
 
 /// A client of the address, which is told as a new link.
-fn client_of<R: Abort + Wait>(rt: &R, host: HostRuntime, address: &mut Address) -> RealLink {
-    let client = OsDial::new(&host)
-        .connect(host.alloc(), &address.place)
+fn client_of<R: Abort + Wait + Net, K: Link + Drop>(
+    rt: &R,
+    alloc: Global,
+    address: &mut Address<K>,
+) -> OsLink<R::Stream> {
+    let client = OsDial::new(rt)
+        .connect(alloc, &address.place)
         .expect(rt, "a client");
     is_told(rt, &mut address.notes.taker);
     client
 }
 
-/// The job that serves a link, which takes these words.
-fn serving_job(
+/// The job that serves the accepted link, which takes these words.
+fn link_job<R: Abort + Wait, W: Waiter + Drop, L: Listen + Drop, C: Clock + Drop>(
+    rt: &R,
     alloc: Global,
-    link: RealLink,
-    poster: Poster<Note>,
+    address: &mut Address<L::Link>,
     words: Taker<LinkWord>,
-) -> RealJob {
+) -> RealJob<W, L, C> {
     AnyJob::Link(LinkJob {
         number: LinkId(1),
-        link,
-        poster,
+        link: address.links.taker.take(rt),
+        poster: seat_of(rt, &mut address.notes.seats),
         words,
         alloc,
     })
-}
-
-/// The job that serves the accepted link, which takes these words.
-fn link_job<R: Abort + Wait>(
-    rt: &R,
-    alloc: Global,
-    address: &mut Address,
-    words: Taker<LinkWord>,
-) -> RealJob {
-    let poster = seat_of(rt, &mut address.notes.seats);
-    serving_job(alloc, address.links.taker.take(rt), poster, words)
 }
 
 /// Has `pong` sent, and the link closed.
@@ -423,80 +391,37 @@ fn talk<R: Abort + Wait, K: Link>(
     check(rt, matches!(client.read(&mut piece), Ok(0)));
 }
 
-/// Starts this job in a thread.
-fn start_one<R: Abort + Threads + Wait + Copy + Send + 'static>(
-    rt: R,
-    alloc: Global,
-    links: &LinksAtWork,
-    job: RealJob,
-) {
+/// This job alone.
+fn only<J: Drop>(rt: &impl Abort, alloc: Global, job: J) -> Vec<J> {
     let mut jobs = Vec::new(alloc);
-    add(&rt, &mut jobs, job);
-    start(rt, alloc, links, jobs);
+    add(rt, &mut jobs, job);
+    jobs
 }
 
-/// Starts the job of the address's link: what posts its words.
-fn start_link<R: Abort + Threads + Wait + Copy + Send + 'static>(
-    rt: R,
-    alloc: Global,
-    links: &LinksAtWork,
-    address: &mut Address,
-) -> Poster<LinkWord> {
-    let (words, poster) = lane_of(&rt, alloc, 18);
-    start_one(rt, alloc, links, link_job(&rt, alloc, address, words));
-    poster
-}
-
-/// The address's link is served by a job, and talks with this client.
-fn serve_client<R: Abort + Threads + Wait + Copy + Send + 'static, K: Link>(
-    rt: R,
-    alloc: Global,
-    links: &LinksAtWork,
-    address: &mut Address,
-    client: &mut K,
-) {
-    let mut poster = start_link(rt, alloc, links, address);
-    check(&rt, links.number() == 1);
-    talk(&rt, alloc, client, &mut address.notes.taker, &mut poster);
-}
-
-/// The address's link is served at one end by a job, and talks at the other.
-fn serve_link<R: Abort + Threads + Wait + Copy + Send + 'static>(
-    rt: R,
-    host: HostRuntime,
-    links: &LinksAtWork,
-    address: &mut Address,
-) {
-    let mut client = client_of(&rt, host, address);
-    serve_client(rt, host.alloc(), links, address, &mut client);
-    check(&rt, links.wait_for_none(&host, 10_000));
-}
-
-/// The address is opened, and serves a link.
-fn open_and_serve<R: Abort + Threads + Wait + Copy + Send + 'static>(
-    rt: R,
-    host: HostRuntime,
-    links: &LinksAtWork,
-    address: &mut Address,
-) {
-    start_one(rt, host.alloc(), links, links_job(&rt, host, address));
-    serve_link(rt, host, links, address);
-}
-
-/// An address of this path is opened, and serves a link.
-fn serve_address<R: Abort + Threads + Wait + Copy + Send + 'static>(
-    rt: R,
-    host: HostRuntime,
-    path: &str,
-) {
-    let links = links_of(&rt, host.alloc());
-    let mut address = address_of(&rt, host.alloc(), path);
-    open_and_serve(rt, host, &links, &mut address);
-}
+type AddressJob = RealJob<OsWaiter<HostRuntime>, OsListen<HostRuntime>, OsClock<HostRuntime>>;
 
 #[test]
 fn an_address_has_its_jobs(rt: HostRuntime) {
+    let alloc = rt.alloc();
     let path = socket_path(&rt).expect(&rt, "the system does it");
-    serve_address(rt, rt, path.as_str());
+    let links = links_of(&rt, alloc);
+    let mut address = address_of(&rt, alloc, path.as_str());
+    let (listen, _socket) = opening(rt, alloc, &address.place)
+        .ok()
+        .expect(&rt, "it opens");
+    let accepting: AddressJob = links_job(&rt, listen, &mut address);
+    start_in_threads(rt, alloc, &links, only(&rt, alloc, accepting));
+    let mut client = client_of(&rt, alloc, &mut address);
+    let (words, mut poster) = lane_of(&rt, alloc, 18);
+    let serving: AddressJob = link_job(&rt, alloc, &mut address, words);
+    start_in_threads(rt, alloc, &links, only(&rt, alloc, serving));
+    talk(
+        &rt,
+        alloc,
+        &mut client,
+        &mut address.notes.taker,
+        &mut poster,
+    );
+    check(&rt, links.wait_for_none(&rt, 10_000));
     fs::remove_file(&rt, path.as_str()).expect(&rt, "the system does it");
 }

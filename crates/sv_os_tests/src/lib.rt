@@ -21,3 +21,5 @@ mod os_tests;
 mod program_tests;
 #[cfg(test)]
 mod report_tests;
+#[cfg(test)]
+mod start_tests;

@@ -1,22 +1,24 @@
 //! Real addresses: what their links are.
 
 use crate::checks::check;
-use crate::listen_tests::is_taken;
+use crate::listen_tests::{is_taken, opening};
 use crate::os_tests::{new_directory, path_in, socket_at};
 use std::alloc::Global;
 use std::fs;
-use std::net::{Ipv4Addr, Net, OpenListener, OpenStream, SocketAddr, TcpListener};
+use std::fs::File;
+use std::net::{Ipv4Addr, Net, OpenListener, SocketAddr, TcpListener};
 use std::os::unix::net::UnixListener;
 use std::process::Abort;
 use std::rt::{Clock, Files};
+use std::sync::Wait;
 use std::time::Duration;
 use sv_base::{Place, Text};
-use sv_os::{OsDial, OsLink, OsListen, remove_socket};
 use sv_out::{Dial, Link};
 use sv_outside::Listen;
+use sv_sockets::{AcceptedLink, OsDial, OsListen, OwnSocket};
 
 /// A read and a write of a link may wait for a minute.
-fn has_limits<S: OpenStream>(rt: &impl Abort, link: &OsLink<S>) {
+fn has_limits<R: Net + Wait + Clock + Drop>(rt: &impl Abort, link: &AcceptedLink<R>) {
     let limit = Some(Duration::from_secs(60));
     check(rt, matches!(link.read_limit(), Ok(read) if read == limit));
     check(
@@ -49,7 +51,7 @@ fn serves<L: Link, K: Link + Drop>(rt: &impl Abort, link: &mut L, peer: K) {
 }
 
 /// The next link is accepted, and serves.
-fn accepted_serves<R: Abort + Net + Files + Clock, K: Link + Drop>(
+fn accepted_serves<R: Abort + Net + Files + Clock + Wait + Copy, K: Link + Drop>(
     rt: &R,
     listen: &mut OsListen<R>,
     peer: K,
@@ -60,7 +62,7 @@ fn accepted_serves<R: Abort + Net + Files + Clock, K: Link + Drop>(
 }
 
 /// The link of a client at this place is accepted, and serves.
-fn is_served<R: Abort + Net + Files + Clock>(
+fn is_served<R: Abort + Net + Files + Clock + Wait + Copy>(
     rt: &R,
     alloc: Global,
     listen: &mut OsListen<R>,
@@ -70,32 +72,39 @@ fn is_served<R: Abort + Net + Files + Clock>(
     accepted_serves(rt, listen, peer);
 }
 
-/// What accepts the links of this address.
-fn opened_at<R: Abort + Net + Files + Clock + Copy>(rt: R, place: Place) -> OsListen<R> {
-    let (listen, opened) = OsListen::open(rt, place);
-    opened.expect(&rt, "the system does it");
-    listen
+/// What accepts the links of this address, and the socket's file.
+fn opened_at<R: Abort + Net + Files<File = File> + Clock + Wait + Copy>(
+    rt: R,
+    alloc: Global,
+    place: &Place,
+) -> (OsListen<R>, Option<OwnSocket>) {
+    opening(rt, alloc, place)
+        .ok()
+        .expect(&rt, "the system does it")
 }
 
 /// A port of this machine that is free again, after it was taken.
-fn taken_port<R: Abort + Net + Files + Clock + Copy>(rt: R) -> u16 {
+fn taken_port<R: Abort + Net + Files<File = File> + Clock + Wait + Copy>(
+    rt: R,
+    alloc: Global,
+) -> u16 {
     let free = TcpListener::bind(&rt, SocketAddr::from((Ipv4Addr::LOCALHOST, 0))).expect(
         &rt,
         "the system does it",
     );
     let port = free.local_addr().expect(&rt, "the system does it").port();
-    is_taken(rt, Place::Inet(Text::fixed("localhost"), port));
+    is_taken(rt, alloc, &Place::Inet(Text::fixed("localhost"), port));
     port
 }
 
 /// Links are served at this host's port.
-fn serves_host<R: Abort + Net + Files + Clock + Copy>(
+fn serves_host<R: Abort + Net + Files<File = File> + Clock + Wait + Copy>(
     rt: R,
     alloc: Global,
     host: &'static str,
     port: u16,
 ) {
-    let mut listen = opened_at(rt, Place::Inet(Text::fixed(host), port));
+    let (mut listen, _) = opened_at(rt, alloc, &Place::Inet(Text::fixed(host), port));
     is_served(
         &rt,
         alloc,
@@ -106,37 +115,34 @@ fn serves_host<R: Abort + Net + Files + Clock + Copy>(
 
 #[test]
 fn links_come_over_tcp(rt: HostRuntime) {
-    let port = taken_port(rt);
+    let port = taken_port(rt, rt.alloc());
     for host in ["localhost", "127.0.0.1", ""] {
         serves_host(rt, rt.alloc(), host, port);
     }
 }
 
-/// Nobody else opens this socket's file, and whoever tries looks whether somebody accepts there.
-fn is_kept<R: Abort + Net + Files + Clock + Copy>(
+/// Links are served at this socket's file, which nobody else opens meanwhile.
+fn serves_file<R: Abort + Net + Files<File = File> + Clock + Wait + Copy>(
     rt: R,
     alloc: Global,
-    listen: &mut OsListen<R>,
     path: &str,
-) {
-    is_taken(rt, socket_at(&rt, alloc, path));
-    check(&rt, listen.accept().is_ok());
-}
-
-/// Links are served at this socket's file, which nobody else opens meanwhile.
-fn serves_file<R: Abort + Net + Files + Clock + Copy>(rt: R, alloc: Global, path: &str) {
-    let mut listen = opened_at(rt, socket_at(&rt, alloc, path));
-    is_kept(rt, alloc, &mut listen, path);
+) -> Option<OwnSocket> {
+    let (mut listen, socket) = opened_at(rt, alloc, &socket_at(&rt, alloc, path));
+    is_taken(rt, alloc, &socket_at(&rt, alloc, path));
     is_served(&rt, alloc, &mut listen, &socket_at(&rt, alloc, path));
+    socket
 }
 
 /// A socket's file at which nobody accepts is replaced, twice, and is removed.
-fn is_replaced<R: Abort + Net + Files + Clock + Copy>(rt: R, alloc: Global, path: &str) {
+fn is_replaced<R: Abort + Net + Files<File = File> + Clock + Wait + Copy>(
+    rt: R,
+    alloc: Global,
+    path: &str,
+) {
     drop(UnixListener::bind(&rt, path).expect(&rt, "the system does it"));
-    for _ in 0..2 {
-        serves_file(rt, alloc, path);
-    }
-    remove_socket(&rt, &socket_at(&rt, alloc, path)).expect(&rt, "the system does it");
+    drop(serves_file(rt, alloc, path));
+    let socket = serves_file(rt, alloc, path);
+    socket.expect(&rt, "a socket's file").remove(&rt);
     check(
         &rt,
         !fs::exists(&rt, path).expect(&rt, "the system does it"),
@@ -144,7 +150,11 @@ fn is_replaced<R: Abort + Net + Files + Clock + Copy>(rt: R, alloc: Global, path
 }
 
 /// A socket's file in this directory is replaced.
-fn is_replaced_in<R: Abort + Net + Files + Clock + Copy>(rt: R, alloc: Global, directory: &str) {
+fn is_replaced_in<R: Abort + Net + Files<File = File> + Clock + Wait + Copy>(
+    rt: R,
+    alloc: Global,
+    directory: &str,
+) {
     let path = path_in(&rt, alloc, directory, "socket");
     is_replaced(rt, alloc, path.as_str());
 }

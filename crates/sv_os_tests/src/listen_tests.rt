@@ -3,19 +3,19 @@
 use crate::checks::{check, same};
 use crate::os_tests::{new_directory, path_in, socket_at};
 use std::alloc::Global;
-use std::io::ErrorKind;
+use std::fs;
+use std::fs::File;
 use std::net::Net;
 use std::os::unix::fs::symlink;
 use std::os::unix::net::UnixListener;
 use std::process::Abort;
 use std::rt::{Clock, Files};
-use std::thread::{JoinHandle, Threads};
-use std::time::{Duration, Instant};
-use std::{fs, io, thread};
+use std::sync::Wait;
 use sv_base::{Place, Text};
-use sv_os::{OsDial, OsListen, opening_line, remove_socket};
-use sv_out::Dial;
-use sv_outside::Listen;
+use sv_sockets::{
+    LinkTable, OpenFault, OsListen, OwnSocket, SocketRules, open_address, opening_line,
+};
+use sv_standard::{AfterFailure, Outlet, Teller};
 
 /// Makes a file.
 fn make_plain<R: Abort + Files>(rt: &R, alloc: Global, directory: &str) {
@@ -44,14 +44,17 @@ fn make_others<R: Abort + Files + Net>(rt: &R, alloc: Global, directory: &str) {
     make_link(rt, named.as_str(), link.as_str());
 }
 
-/// No address is opened at this path, and what is there isn't removed as a socket.
-fn is_no_socket<R: Abort + Net + Files + Clock + Copy>(rt: R, alloc: Global, path: &str) {
-    is_taken(rt, socket_at(&rt, alloc, path));
-    remove_socket(&rt, &socket_at(&rt, alloc, path)).expect(&rt, "the system does it");
+/// No address is opened at this path.
+fn is_no_socket<R: Abort + Net + Files<File = File> + Clock + Wait + Copy>(
+    rt: R,
+    alloc: Global,
+    path: &str,
+) {
+    is_taken(rt, alloc, &socket_at(&rt, alloc, path));
 }
 
-/// No address is opened at this name, and what is there isn't removed as a socket.
-fn is_no_address<R: Abort + Net + Files + Clock + Copy>(
+/// No address is opened at this name.
+fn is_no_address<R: Abort + Net + Files<File = File> + Clock + Wait + Copy>(
     rt: R,
     alloc: Global,
     directory: &str,
@@ -61,19 +64,44 @@ fn is_no_address<R: Abort + Net + Files + Clock + Copy>(
     is_no_socket(rt, alloc, path.as_str());
 }
 
-/// Whether an address wasn't opened since something else has it.
-fn is_in_use(opened: &io::Result<()>) -> bool {
-    match opened {
-        Ok(()) => false,
-        Err(error) => error.kind() == ErrorKind::AddrInUse,
-    }
+/// What tells what was lost, to nobody.
+pub(crate) fn teller_of<R: Abort + Wait + Copy>(rt: R, alloc: Global) -> Teller<R> {
+    let (outlet, end) = Outlet::new(rt, alloc, 4_096, AfterFailure::GoesOn).expect(
+        &rt,
+        "ample memory",
+    );
+    drop(end);
+    Teller::new(outlet)
+}
+
+/// No link is open yet.
+pub(crate) fn table_of<R: Abort + Clock>(rt: &R, alloc: Global) -> LinkTable {
+    LinkTable::new(rt, alloc).expect(rt, "ample memory")
+}
+
+/// What accepts the links of this address, and the socket's file; why it couldn't be opened else.
+pub(crate) fn opening<R: Abort + Net + Files<File = File> + Clock + Wait + Copy>(
+    rt: R,
+    alloc: Global,
+    place: &Place,
+) -> Result<(OsListen<R>, Option<OwnSocket>), OpenFault> {
+    let (listener, socket) = open_address(&rt, alloc, place, &SocketRules::private(), 7)?;
+    let links = table_of(&rt, alloc);
+    let teller = teller_of(rt, alloc);
+    Ok((OsListen::new(rt, alloc, listener, links, teller), socket))
 }
 
 /// Something else has this address.
-pub(crate) fn is_taken<R: Abort + Net + Files + Clock + Copy>(rt: R, place: Place) {
-    let (listen, opened) = OsListen::open(rt, place);
-    drop(listen);
-    check(&rt, is_in_use(&opened));
+pub(crate) fn is_taken<R: Abort + Net + Files<File = File> + Clock + Wait + Copy>(
+    rt: R,
+    alloc: Global,
+    place: &Place,
+) {
+    let opened = opening(rt, alloc, place);
+    check(
+        &rt,
+        matches!(&opened, Err(OpenFault::InUse | OpenFault::NoSocket)),
+    );
 }
 
 /// The file of this path holds what was written to it.
@@ -110,7 +138,10 @@ fn are_left_alone<R: Abort + Files + AllocGlobal>(rt: &R, directory: &str) {
 }
 
 /// Other files in this directory are left alone.
-fn others_are_left<R: Abort + Net + Files + Clock + AllocGlobal + Copy>(rt: R, directory: &str) {
+fn others_are_left<R: Abort + Net + Files<File = File> + Clock + Wait + AllocGlobal + Copy>(
+    rt: R,
+    directory: &str,
+) {
     make_others(&rt, rt.alloc(), directory);
     for name in ["plain", "folder", "link"] {
         is_no_address(rt, rt.alloc(), directory, name);
@@ -122,81 +153,6 @@ fn others_are_left<R: Abort + Net + Files + Clock + AllocGlobal + Copy>(rt: R, d
 fn other_files_are_left_alone(rt: HostRuntime) {
     let directory = new_directory(&rt, "others").expect(&rt, "a new directory");
     others_are_left(rt, directory.as_str());
-    fs::remove_dir_all(&rt, directory.as_str()).expect(&rt, "the system does it");
-}
-
-/// An accept fails, after a second at the earliest.
-fn fails_late<R: Abort + Clock, L: Listen>(rt: &R, listen: &mut L) {
-    let before = Instant::now(rt).expect(rt, "the system does it");
-    check(rt, listen.accept().is_err());
-    let passed = before.elapsed(rt).expect(rt, "the system does it");
-    check(rt, Duration::from_millis(1_000) <= passed);
-}
-
-/// Whether somebody accepts at this address within some ten seconds.
-fn is_reached<R: Net + Clock>(rt: &R, alloc: Global, place: &Place) -> bool {
-    let mut dial = OsDial::new(rt);
-    for _ in 0..10_000 {
-        if dial.connect(alloc, place).is_ok() {
-            return true;
-        }
-        thread::sleep(rt, Duration::from_millis(1));
-    }
-    false
-}
-
-/// What accepts the links of this address, which isn't opened yet.
-fn unopened_at<R: Abort + Net + Files + Clock + Copy>(rt: R, place: Place) -> OsListen<R> {
-    let (listen, opened) = OsListen::open(rt, place);
-    check(&rt, opened.is_err());
-    listen
-}
-
-/// What accepts the links of this path, which a file has at first, and nobody then.
-fn refused_at<R: Abort + Net + Files + Clock + Copy>(
-    rt: R,
-    alloc: Global,
-    path: &str,
-) -> OsListen<R> {
-    fs::write(&rt, path, b"kept".as_slice()).expect(&rt, "the system does it");
-    let mut listen = unopened_at(rt, socket_at(&rt, alloc, path));
-    fails_late(&rt, &mut listen);
-    fs::remove_file(&rt, path).expect(&rt, "the system does it");
-    listen
-}
-
-/// The path of the socket in this directory.
-fn socket_in(rt: &impl Abort, alloc: Global, directory: &str) -> Place {
-    let path = path_in(rt, alloc, directory, "socket");
-    socket_at(rt, alloc, path.as_str())
-}
-
-/// What accepts the links of the socket in this directory, which a file has at first, and nobody then.
-fn refused_in<R: Abort + Net + Files + Clock + Copy>(
-    rt: R,
-    alloc: Global,
-    directory: &str,
-) -> OsListen<R> {
-    let path = path_in(&rt, alloc, directory, "socket");
-    refused_at(rt, alloc, path.as_str())
-}
-
-/// A client is accepted, which says so.
-fn is_accepted<R: Abort + Threads, L: Listen>(rt: &R, listen: &mut L, client: JoinHandle<bool>) {
-    check(rt, listen.accept().is_ok());
-    check(rt, client.join(rt));
-}
-
-#[test]
-fn an_address_is_opened_later(rt: HostRuntime) {
-    let directory = new_directory(&rt, "later").expect(&rt, "a new directory");
-    let mut listen = refused_in(rt, rt.alloc(), directory.as_str());
-    let place = socket_in(&rt, rt.alloc(), directory.as_str());
-    let client = thread::spawn(&rt, move || is_reached(&rt, rt.alloc(), &place)).expect(
-        &rt,
-        "the system does it",
-    );
-    is_accepted(&rt, &mut listen, client);
     fs::remove_dir_all(&rt, directory.as_str()).expect(&rt, "the system does it");
 }
 

@@ -9,10 +9,12 @@ use std::process::Abort;
 use std::rt::Files;
 use std::{env, fs, io, process};
 use sv_base::{Place, Text};
-use sv_os::{OsDial, OsShelf, ReadSource, WriteSink};
+use sv_disk::OsShelf;
+use sv_os::{ReadSource, WriteSink};
 use sv_out::sink::{Sink, write_all};
 use sv_out::source::Source;
 use sv_out::{Dial, DialFault, Link, Shelf, ShelfFault};
+use sv_sockets::OsDial;
 
 /// The path of a new directory of this process alone.
 fn new_path(rt: &HostRuntime, name: &str) -> io::Result<String> {
@@ -100,8 +102,25 @@ fn read_file<S: Shelf>(rt: &impl Abort, alloc: Global, shelf: &mut S, file: &str
 fn read_part<S: Shelf>(rt: &impl Abort, alloc: Global, shelf: &mut S, file: &str) {
     let size = shelf.size(alloc, file).expect(rt, "a file has a size");
     check(rt, size == 5);
-    let part = shelf.part(alloc, file, 1, 3).expect(rt, "a part is read");
-    check(rt, part.as_slice() == b"bcd".as_slice());
+    is_part(rt, alloc, shelf, file, (1, 3), b"bcd");
+    is_part(rt, alloc, shelf, file, (3, 4), b"bcde");
+    is_part(rt, alloc, shelf, file, (90, 9), b"abcde");
+    is_part(rt, alloc, shelf, file, (90, 0), b"");
+}
+
+/// This part of the file, where it begins and how long it is, has these bytes.
+fn is_part<S: Shelf>(
+    rt: &impl Abort,
+    alloc: Global,
+    shelf: &mut S,
+    file: &str,
+    part: (u64, u64),
+    bytes: &[u8],
+) {
+    let found = shelf
+        .part(alloc, file, part.0, part.1)
+        .expect(rt, "a part is read");
+    check(rt, found.as_slice() == bytes);
 }
 
 /// Renames a file that isn't there, and then one that is.

@@ -8,13 +8,14 @@ use std::fs::{File, Permissions};
 use std::net::{Ipv4Addr, Net, SocketAddr, TcpListener};
 use std::os::unix::fs::PermissionsExt;
 use std::process::{Abort, Processes};
-use std::rt::Files;
+use std::rt::{Env, Files};
+use std::sync::Wait;
 use sv_base::{ExitSignal, How, Items, Pid, Run, Signal, Text};
-use sv_os::OsSpawner;
 use sv_out::order::SpawnOrder;
 use sv_out::sink::Sink;
 use sv_out::source::Source;
 use sv_outside::{KillFault, Refusal, SpawnFault, Spawner, Started, Waiter};
+use sv_processes::OsSpawner;
 
 /// A text that is made anew.
 fn text_of(rt: &impl Abort, alloc: Global, text: &str) -> Text {
@@ -183,7 +184,8 @@ fn gives_hello<S: Source>(rt: &impl Abort, alloc: Global, source: &mut S, direct
 #[test]
 fn a_program_gets_what_its_order_says(rt: HostRuntime) {
     let directory = new_directory(&rt, "program").expect(&rt, "a new directory");
-    tells(&rt, rt.alloc(), &mut OsSpawner::new(rt), directory.as_str());
+    let mut spawner = OsSpawner::plain(rt, rt.alloc()).expect(&rt, "ample memory");
+    tells(&rt, rt.alloc(), &mut spawner, directory.as_str());
     fs::remove_dir_all(&rt, directory.as_str()).expect(&rt, "the system does it");
 }
 
@@ -204,12 +206,16 @@ fn names_three_beside<S: Spawner>(rt: &impl Abort, alloc: Global, spawner: &mut 
 }
 
 /// Starts the programs while a socket is open.
-fn names_three_beside_socket<R: Abort + Net + Processes + Files + Copy>(rt: R, alloc: Global) {
+fn names_three_beside_socket<R: Abort + Net + Processes + Files + Env + Wait + Copy + Drop>(
+    rt: R,
+    alloc: Global,
+) {
     let listener = TcpListener::bind(&rt, SocketAddr::from((Ipv4Addr::LOCALHOST, 0))).expect(
         &rt,
         "the system does it",
     );
-    names_three_beside(&rt, alloc, &mut OsSpawner::new(rt));
+    let mut spawner = OsSpawner::plain(rt, alloc).expect(&rt, "ample memory");
+    names_three_beside(&rt, alloc, &mut spawner);
     drop(listener);
 }
 
@@ -256,7 +262,7 @@ fn has_begun<S: Source>(rt: &impl Abort, source: &mut S) {
 
 /// Starts a group of two programs, both of which are ended by one signal.
 fn signal_group<S: Spawner>(rt: &impl Abort, alloc: Global, spawner: &mut S) {
-    let words = ["setsid", "sh", "-c", "sleep 50 & echo go; sleep 50"];
+    let words = ["sh", "-c", "sleep 50 & echo go; sleep 50"];
     let mut started = started_in(rt, alloc, spawner, words.as_slice(), "");
     has_begun(rt, &mut started.stdout);
     let row = (Signal::Kill, true, 9);
@@ -282,7 +288,7 @@ fn signal_none<S: Spawner>(rt: &impl Abort, alloc: Global, spawner: &mut S) {
 
 #[test]
 fn programs_are_signalled(rt: HostRuntime) {
-    let mut spawner = OsSpawner::new(rt);
+    let mut spawner = OsSpawner::plain(rt, rt.alloc()).expect(&rt, "ample memory");
     signal_three(&rt, rt.alloc(), &mut spawner);
     signal_group(&rt, rt.alloc(), &mut spawner);
     signal_none(&rt, rt.alloc(), &mut spawner);
@@ -344,7 +350,7 @@ fn make_files<R: Abort + Files>(rt: &R, plain: &str, noise: &str) {
     fs::set_permissions(rt, noise, Permissions::from_mode(0o755)).expect(rt, "the system does it");
 }
 
-/// A program is refused whose directory is a file, and one with a user.
+/// A program is refused whose directory is a file, and one whose user nobody knows.
 fn are_refused_in_file<S: Spawner>(rt: &impl Abort, alloc: Global, spawner: &mut S, plain: &str) {
     let words = ["/bin/true"];
     let wanted = format!(in alloc; "can't change to directory {plain}").expect(rt, "ample memory");
@@ -362,9 +368,9 @@ fn are_refused_in_file<S: Spawner>(rt: &impl Abort, alloc: Global, spawner: &mut
         alloc,
         spawner,
         words.as_slice(),
-        plain,
-        "nobody",
-        "can't become user nobody",
+        "",
+        "sv-os-no-such-user",
+        "can't become user sv-os-no-such-user: there is no such user",
     );
 }
 
@@ -393,7 +399,7 @@ fn are_refused<'a, S: Spawner>(
 }
 
 /// Programs are refused by their names; of this directory and of two files that are made in it none is executed.
-fn are_refused_at<R: Abort + Processes + Files + Copy>(
+fn are_refused_at<R: Abort + Net + Processes + Files + Env + Wait + Copy + Drop>(
     rt: R,
     alloc: Global,
     directory: &str,
@@ -401,13 +407,17 @@ fn are_refused_at<R: Abort + Processes + Files + Copy>(
     noise: &str,
 ) {
     make_files(&rt, plain, noise);
-    let mut spawner = OsSpawner::new(rt);
+    let mut spawner = OsSpawner::plain(rt, alloc).expect(&rt, "ample memory");
     are_refused(&rt, alloc, &mut spawner, directory, plain, noise);
     are_refused_in_file(&rt, alloc, &mut spawner, plain);
 }
 
 /// Programs are refused by their names, which stand in this directory.
-fn are_refused_in<R: Abort + Processes + Files + Copy>(rt: R, alloc: Global, directory: &str) {
+fn are_refused_in<R: Abort + Net + Processes + Files + Env + Wait + Copy + Drop>(
+    rt: R,
+    alloc: Global,
+    directory: &str,
+) {
     let plain = path_in(&rt, alloc, directory, "plain");
     let noise = path_in(&rt, alloc, directory, "noise");
     are_refused_at(rt, alloc, directory, plain.as_str(), noise.as_str());

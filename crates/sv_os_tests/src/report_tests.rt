@@ -7,8 +7,8 @@ use std::io::ErrorKind;
 use std::os::unix::process::ExitStatusExt;
 use std::process::{Abort, ExitStatus};
 use sv_base::{ExitSignal, How, Pid, Signal};
-use sv_os::{fault_of, how_of, kill_line};
 use sv_outside::{Refusal, SpawnFault};
+use sv_processes::{fault_of, how_of, kill_line};
 
 /// Memory was refused in this process.
 fn is_own_memory(rt: &impl Abort, alloc: Global, error: &io::Error) {

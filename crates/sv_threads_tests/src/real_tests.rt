@@ -7,17 +7,20 @@ use crate::daemon::{bytes_of, journal_of, orders_of, text_of};
 use crate::start_gate::{StartGate, receive_and_work};
 use crossbeam_channel::Receiver;
 use std::alloc::Global;
+use std::net::Net;
 use std::process::{Abort, Processes};
-use std::rt::Files;
+use std::rt::{Env, Files};
+use std::sync::Wait;
 use std::thread;
 use std::time::Duration;
 use sv_job_types::{AnyJob, NoBoard};
-use sv_os::{OsClock, OsSpawner};
+use sv_os::OsClock;
 use sv_out::MapShelf;
 use sv_out::failed::Failed;
 use sv_out::sink::ListSink;
 use sv_out::source::{ListSource, Source};
 use sv_outside::{ScriptListen, Spawner};
+use sv_processes::OsSpawner;
 use sv_world::World;
 
 /// The configuration: one program, which copies its standard input to its output until it gets a signal.
@@ -84,13 +87,13 @@ fn has_all_states(rt: &impl Abort, orders: &str) {
 }
 
 /// The parts: the real spawner and the real clock.
-fn parts<R: Abort + Processes + Files + std::time::Clock + Copy>(
+fn parts<R: Abort + Net + Processes + Files + Env + Wait + std::time::Clock + Copy + Drop>(
     rt: R,
     alloc: Global,
 ) -> Parts<OsSpawner<R>, ScriptListen, PausedConsole<R>, OsClock<R>, MapShelf> {
     let text = Vec::from_slice(alloc, b"signal TERM\n").expect(&rt, "ample memory");
     Parts {
-        spawner: OsSpawner::new(rt),
+        spawner: OsSpawner::plain(rt, alloc).expect(&rt, "ample memory"),
         inet: None,
         console: PausedConsole {
             rt,
