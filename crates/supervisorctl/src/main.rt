@@ -5,9 +5,8 @@ use std::alloc::AllocError;
 use std::process::ExitCode;
 use std::{env, io, process};
 use sv_base::{Host, Text};
-use sv_ctl::control;
+use sv_ctl::{Options, control, options_of, parted};
 use sv_disk::OsShelf;
-use sv_options::{Options, options_of, parted};
 use sv_os::{ReadSource, WriteSink, host_of, words_of, words_untold};
 use sv_sockets::OsDial;
 

@@ -14,16 +14,15 @@ use std::net::Net;
 use std::process::Processes;
 use std::rt::{Files, Runtime};
 use std::sync::Wait;
-use sv_arguments::arguments_of;
 use sv_base::{Host, Text};
 use sv_disk::{DaemonShelf, OsShelf};
 use sv_os::host_of;
 use sv_out::sink::{ListSink, Sink};
+use sv_outside::ScriptWorld;
 use sv_processes::{Living, OsSpawner};
 use sv_sockets::{LinkTable, LinksAtWork, SpareThreads};
 use sv_standard::Teller;
-use sv_supervise::supervise;
-use sv_world::ScriptWorld;
+use sv_supervise::{arguments_of, supervise};
 
 /// The variable by which the launcher says its number.
 const LAUNCHER: &str = "SUPERVISORD_LAUNCHER";

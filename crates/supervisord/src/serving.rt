@@ -12,18 +12,17 @@ use std::rt::{Clock as Time, Files, Runtime};
 use std::sync::Wait;
 use sv_base::{Host, Text};
 use sv_disk::OsShelf;
-use sv_job_types::{AnyJob, NoBoard};
+use sv_jobs::{AnyJob, NoBoard};
 use sv_os::OsClock;
 use sv_out::Shelf;
 use sv_out::sink::Sink;
 use sv_out::source::Source;
-use sv_outside::{Clock, Gate, Listen, Spawner};
+use sv_outside::{Clock, Gate, Listen, Spawner, World};
 use sv_processes::OsSpawner;
 use sv_sockets::{LinksAtWork, OsListen, OwnSocket};
 use sv_standard::{Console, JournalSink};
 use sv_supervise::supervise;
 use sv_threads::ThreadWorld;
-use sv_world::World;
 
 /// How long the replies at the end may take, in milliseconds.
 const LAST_REPLIES: u32 = 500;

@@ -2,7 +2,6 @@
 
 use crate::unbegun::Unbegun;
 use std::alloc::{AllocError, Global};
-use sv_arguments::arguments_of;
 use sv_base::{Config, Host, Text};
 use sv_load::{LoadFault, Loaded, load};
 use sv_out::Shelf;
@@ -10,6 +9,7 @@ use sv_sections::ConfFault;
 use sv_sections::includes::sections_in;
 use sv_sections::sections::with_included;
 use sv_settings::{Settings, settings_of};
+use sv_supervise::arguments_of;
 
 /// The words of the daemon's own start, and what its configuration says.
 pub struct Told {

@@ -1,2 +1,3 @@
+pub mod AnswersLemmas
 pub mod Ended
 pub mod Parts

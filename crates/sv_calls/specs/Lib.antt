@@ -1,2 +1,4 @@
+pub mod Waits
+pub mod Answers
 pub mod CallBook
 pub mod StandsFor

@@ -4,12 +4,15 @@
 #![tactic(auto)]
 
 mod answer;
+pub mod answers;
 mod call_in_hand;
 mod calls;
 mod setback;
 mod several;
 mod task;
+mod waits;
 
+pub use crate::waits::check;
 pub use answer::Answer;
 pub use calls::Calls;
 pub use setback::Setback;

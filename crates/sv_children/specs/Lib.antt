@@ -7,3 +7,5 @@ pub mod Rewound
 pub mod Spans
 pub mod Wake
 pub mod Watch
+pub mod EdgeFacts
+pub mod Lines

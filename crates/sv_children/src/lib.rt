@@ -4,7 +4,9 @@
 #![tactic(auto)]
 
 mod children;
+mod edge_facts;
 pub mod laws;
+pub mod lines;
 mod news;
 mod orders;
 mod rewind;
@@ -13,3 +15,4 @@ mod watch;
 
 pub use crate::children::{Children, Member};
 pub use crate::news::{News, Told};
+pub use edge_facts::{fact_at, is_expected, kind_of, pid_at};

@@ -6,7 +6,7 @@ use Rattle.sv_base.specs.declared.config.Config.{Config}
 use Rattle.sv_base.specs.declared.config.Host.{Host}
 use Rattle.sv_base.specs.declared.spec.GroupSpec.{GroupSpec}
 use Rattle.sv_conf.specs.Configuration.{all_groups, has_rpc, each_once, sorted_groups, ◌>>=◌, with_groups, config_of, of_groups, of_parts, of_sections, configuration_of}
-use Rattle.sv_programs.specs.Programs.{all_parts}
+use Rattle.sv_sections.specs.Programs.Programs.{all_parts}
 use Rattle.sv_sections.specs.AllSections.{with_included, all_supported}
 use Rattle.sv_sections.specs.Includes.{sections_in, section_named, patterns_of}
 use Rattle.sv_sections.specs.ServerSections.{others_of, common_of}

@@ -13,11 +13,11 @@ use Rattle.sv_conf.proofs.FewEnough.{too_many_past_the_limits}
 use Rattle.sv_conf.specs.Configuration.{is_missing, missing_in, members_of, group_at, groups_by, groups_from, all_groups, twice_in, or_twice, each_once, has_rpc, of_groups, of_parts, of_sections}
 use Rattle.sv_conf.specs.Crowded.{are_single, is_over, judged_crowd, built, of_others}
 use Rattle.sv_conf.specs.Limits.{processes, AreTooMany}
-use Rattle.sv_crowd.proofs.CrowdFolds.{then_mapped, fault_kept}
-use Rattle.sv_crowd.specs.Crowds.{size_of, total, crowd_of}
-use Rattle.sv_crowd.specs.Duplicates.{first_twice}
-use Rattle.sv_crowd.specs.Emptied.{mapped, kept_if, emptied}
-use Rattle.sv_crowd.specs.declared.crowd.Crowd.{Crowd}
+use Rattle.sv_conf.proofs.CrowdFolds.{then_mapped, fault_kept}
+use Rattle.sv_conf.specs.Crowds.{size_of, total, crowd_of}
+use Rattle.sv_conf.specs.Duplicates.{first_twice}
+use Rattle.sv_conf.specs.Emptied.{mapped, kept_if, emptied}
+use Rattle.sv_conf.specs.declared.crowd.Crowd.{Crowd}
 use Rattle.sv_expand.specs.Results.{and_then}
 use Rattle.sv_expand.specs.declared.names.Names.{Names}
 use Rattle.sv_ini.specs.declared.section.Section.{Section}
@@ -27,10 +27,10 @@ use Rattle.sv_keys.specs.ProgramNames.{titled}
 use Rattle.sv_keys.specs.Rows.{needed}
 use Rattle.sv_keys.specs.Values.{programs_of}
 use Rattle.sv_keys.specs.declared.key.Key.TheVariants as key
-use Rattle.sv_programs.specs.Homes.{all_named, with_part, with_parts}
-use Rattle.sv_programs.specs.Programs.{parts_at, after_programs, no_parts, all_parts}
-use Rattle.sv_programs.specs.declared.homes.Named.{Named}
-use Rattle.sv_programs.specs.declared.homes.Part.{Part}
+use Rattle.sv_sections.specs.Programs.Homes.{all_named, with_part, with_parts}
+use Rattle.sv_sections.specs.Programs.Programs.{parts_at, after_programs, no_parts, all_parts}
+use Rattle.sv_sections.specs.declared.programs.homes.Named.{Named}
+use Rattle.sv_sections.specs.declared.programs.homes.Part.{Part}
 use Rattle.sv_sections.specs.AllSections.{all_supported}
 use Rattle.sv_sections.specs.FaultTexts.{IsFault}
 use Rattle.sv_sections.specs.ServerSections.{others_of, common_of}

@@ -6,7 +6,7 @@ use Rattle.std.specs.Str.{bytes_eq}
 use Rattle.sv_base.specs.declared.spec.GroupSpec.{GroupSpec}
 use Rattle.sv_conf.specs.Configuration.{twice_in, each_once}
 use Rattle.sv_sections.proofs.Folds.{parted, taken_more}
-use Rattle.sv_crowd.specs.Duplicates.{first_twice}
+use Rattle.sv_conf.specs.Duplicates.{first_twice}
 use Rattle.sv_sections.specs.declared.fault.ConfFault.TheVariants.{TwiceNamed}
 
 module _ (groups left : List GroupSpec) (place : ℕ) (group : GroupSpec) (some : 1 ≤ length left) (read : group ≡ get_or left 0 group)

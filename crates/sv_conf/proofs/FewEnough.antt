@@ -7,7 +7,7 @@ use Rattle.sv_base.specs.Roster.{is_membership, are_memberships, fit_within, is_
 use Rattle.sv_base.specs.declared.spec.GroupSpec.{GroupSpec}
 use Rattle.sv_base.specs.declared.spec.Spec.{Spec}
 use Rattle.sv_conf.specs.Configuration.{twice_in, or_twice, each_once, ◌>>=◌, sorted_members, with_sorted, sorted_groups, with_groups, config_of, of_groups}
-use Rattle.sv_crowd.specs.Duplicates.{twice_at, first_twice}
+use Rattle.sv_conf.specs.Duplicates.{twice_at, first_twice}
 use Rattle.sv_conf.specs.Limits.{processes, AreTooMany}
 use Rattle.sv_ranks.proofs.Placing.{and_true, has_name, length_total, total}
 use Rattle.sv_ranks.proofs.Sorting.{all_sorted, are_new, new_map, sorted_is_good, total_sorted}

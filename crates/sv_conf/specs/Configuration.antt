@@ -26,8 +26,8 @@ use Rattle.sv_keys.specs.declared.key.Key.TheVariants as key
 use Rattle.sv_sections.specs.declared.server.Others.{Others}
 use Rattle.sv_expand.specs.declared.names.Names.{Names}
 use Rattle.sv_ini.specs.declared.section.Section.{Section}
-use Rattle.sv_crowd.specs.Duplicates.{first_twice}
-use Rattle.sv_programs.specs.Programs.{all_parts}
+use Rattle.sv_conf.specs.Duplicates.{first_twice}
+use Rattle.sv_sections.specs.Programs.Programs.{all_parts}
 use Rattle.sv_ranks.specs.Ranks.{sorted_from}
 use Rattle.sv_sections.specs.AllSections.{all_supported, with_included}
 use Rattle.sv_sections.specs.SectionFaults.{check_name}

@@ -7,9 +7,9 @@ use Rattle.sv_base.specs.declared.config.Config.{Config}
 use Rattle.sv_base.specs.declared.config.Host.{Host}
 use Rattle.sv_base.specs.declared.spec.GroupSpec.{GroupSpec}
 use Rattle.sv_conf.specs.Configuration.{◌>>=◌, all_groups, each_once, of_parts}
-use Rattle.sv_crowd.specs.declared.crowd.Crowd.{Crowd}
+use Rattle.sv_conf.specs.declared.crowd.Crowd.{Crowd}
 use Rattle.sv_ini.specs.declared.section.Section.{Section}
-use Rattle.sv_programs.specs.Programs.{all_parts}
+use Rattle.sv_sections.specs.Programs.Programs.{all_parts}
 use Rattle.sv_sections.specs.declared.fault.ConfFault.{ConfFault}
 use Rattle.sv_sections.specs.declared.fault.ConfFault.TheVariants.{TooMany}
 use Rattle.sv_sections.specs.declared.server.Common.{Common}

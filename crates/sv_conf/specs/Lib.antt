@@ -1,3 +1,8 @@
+pub mod Crowds
+pub mod Duplicates
+pub mod Emptied
+pub mod Once
+pub mod Promised
 pub mod Configuration
 pub mod Crowded
 pub mod Limits

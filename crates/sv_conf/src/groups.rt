@@ -16,6 +16,7 @@ ghost use Rattle.sv_conf.specs.Configuration.{group_at, groups_by, groups_from, 
 ghost use Rattle.sv_conf.specs.Configuration.{each_once};
 ghost use Rattle.sv_conf.specs.Configuration.{sorted_members, with_sorted, sorted_groups};
 
+use crate::duplicates::{add_name, first_twice};
 use std::alloc::{AllocError, Global};
 use std::collections::HashSet;
 use std::marker::Model;
@@ -24,7 +25,6 @@ use sv_base::config::Host;
 use sv_base::items::Items;
 use sv_base::spec::{GroupSpec, Spec};
 use sv_base::text::Text;
-use sv_crowd::duplicates::{add_name, first_twice};
 use sv_expand::names::Names;
 use sv_ini::section::Section;
 use sv_keys::judged::Unread;

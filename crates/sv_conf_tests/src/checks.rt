@@ -7,6 +7,11 @@ pub(crate) fn check(rt: &impl Abort, is: bool) {
     assert!(rt; is);
 }
 
+/// Ends the test unless this is so of what it names.
+pub(crate) fn check_of(rt: &impl Abort, is: bool, what: &str) {
+    assert!(rt; is, "{what}");
+}
+
 /// Ends the test, and says both, unless the text that was found is the one that is wanted.
 pub(crate) fn same(rt: &impl Abort, found: &str, wanted: &str) {
     assert!(rt; found == wanted, "{found} is not {wanted}");

@@ -1,6 +1,6 @@
 -- What is left of step 5 at a question, as the question and how it goes on; and how each part of step 5 goes on from another.
 use Rattle.std.proofs.Common.{◌≡◌, Option, Some, None, List, drop, refl, sym, ap, ◌∙◌}
-use Rattle.sv_answers.specs.declared.read.LogRead.{LogRead}
+use Rattle.sv_calls.specs.declared.answers.read.LogRead.{LogRead}
 use Rattle.sv_base.specs.declared.ids.LinkId.{LinkId}
 use Rattle.sv_core.specs.Calling.{acts_left, asks_read, calls_all, calls_left, checks_wait, ends_call}
 use Rattle.sv_core.specs.Left.{acting, acting_answered, acting_of, asking, asking_answered, asking_of, calling, calling_answered, clearing, going, going_answered, going_of, question_called, question_wanted, reading, serving, serving_answered, starting, wanting, wanting_answered}

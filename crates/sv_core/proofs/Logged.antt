@@ -3,7 +3,7 @@ use Rattle.std.proofs.Common.{◌≡◌, ℕ, List, [], ◌∷◌, ◌++◌, ap,
 use Rattle.sv_base.specs.declared.spec.LogSpec.{LogSpec}
 use Rattle.sv_core.specs.Logging.{logs, tells_drop, tells_drops}
 use Rattle.sv_core.specs.World.{World}
-use Rattle.sv_files.specs.Logging.{log_orders, logged}
+use Rattle.sv_logs.specs.Logging.{log_orders, logged}
 use Rattle.sv_out.specs.declared.order.Order.{Order}
 
 -- a piece was added to a log

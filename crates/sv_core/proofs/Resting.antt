@@ -19,9 +19,9 @@ use Rattle.sv_core.specs.declared.place.Suspended.{Suspended}
 use Rattle.sv_links.specs.LinkBook.{LinkRecord, busy_links}
 use Rattle.sv_links.specs.StandsFor as kept_links
 use Rattle.sv_out.specs.declared.order.Order.{Order}
-use Rattle.sv_pools.specs.EventPools.{EventPools}
-use Rattle.sv_pools.specs.Listeners.{some_wait}
-use Rattle.sv_pools.specs.StandsFor as kept_pools
+use Rattle.sv_pool.specs.EventPools.{EventPools}
+use Rattle.sv_pool.specs.Listeners.{some_wait}
+use Rattle.sv_pool.specs.StandsFor as kept_pools
 
 -- time passes by all
 none_swept : (n c : ℕ) (w : World) (k : World → Turn) → ((place : ℕ) → passes_by news_is.Time (member_at w.children place) w.moment ≡ true)

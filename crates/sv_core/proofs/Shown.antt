@@ -28,26 +28,26 @@ use Rattle.sv_core.specs.Sweeps.{Turn}
 use Rattle.sv_core.specs.World.{World, gives}
 use Rattle.sv_core.specs.declared.machine.Machine.{Machine}
 use Rattle.sv_events.specs.declared.fact.Fact.{Fact}
-use Rattle.sv_facts.specs.EdgeFacts.{fact_at, kind_of, pid_at}
-use Rattle.sv_lines.specs.EdgeLines.{line_at}
-use Rattle.sv_lines.specs.declared.line.Line.{Line}
+use Rattle.sv_children.specs.EdgeFacts.{fact_at, kind_of, pid_at}
+use Rattle.sv_children.specs.Lines.EdgeLines.{line_at}
+use Rattle.sv_children.specs.declared.lines.line.Line.{Line}
 use Rattle.sv_links.specs.LinkBook.{LinkRecord}
 use Rattle.sv_links.specs.StandsFor as kept_links
 use Rattle.sv_links.specs.declared.links.Links.{Links}
 use Rattle.sv_out.specs.declared.order.Order.{Order}
 use Rattle.sv_pipes.specs.declared.parts.Part.{Part}
 use Rattle.sv_pipes.specs.declared.tokens.Token.{Token}
-use Rattle.sv_pools.specs.EventPools.{EventPools}
-use Rattle.sv_pools.specs.StandsFor as kept_pools
-use Rattle.sv_pools.specs.Listeners.{holds}
-use Rattle.sv_pools.specs.declared.pools.Pools.{Pools}
+use Rattle.sv_pool.specs.EventPools.{EventPools}
+use Rattle.sv_pool.specs.StandsFor as kept_pools
+use Rattle.sv_pool.specs.Listeners.{holds}
+use Rattle.sv_pool.specs.declared.pools.Pools.{Pools}
 use Rattle.sv_runs.specs.RunBook.{RunBook, heard, lost, new_tokens, teller}
 use Rattle.sv_runs.specs.StandsFor as kept_runs
 use Rattle.sv_runs.specs.declared.runs.Runs.{Runs}
-use Rattle.sv_streams.specs.StandsFor as kept_streams
-use Rattle.sv_streams.specs.StreamBook.{StreamRecord}
-use Rattle.sv_streams.specs.declared.owner.Owner.{Owner}
-use Rattle.sv_streams.specs.declared.streams.Streams.{Streams}
+use Rattle.sv_runs.specs.Streams.StandsFor as kept_streams
+use Rattle.sv_runs.specs.Streams.StreamBook.{StreamRecord}
+use Rattle.sv_runs.specs.declared.streams.owner.Owner.{Owner}
+use Rattle.sv_runs.specs.declared.streams.streams.Streams.{Streams}
 
 -- what is made of each world that is written out from the fields is made of each that is shown
 pub made : (f : World → World) (x y : Machine)

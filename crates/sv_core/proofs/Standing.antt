@@ -45,12 +45,12 @@ use Rattle.sv_links.specs.StandsFor.{follows}
 use Rattle.sv_links.specs.declared.links.Links.{Links}
 use Rattle.sv_out.specs.declared.input.Input.{Input}
 use Rattle.sv_out.specs.declared.order.Order.{Order}
-use Rattle.sv_pools.specs.StandsFor as kept_pools
-use Rattle.sv_pools.specs.declared.pools.Pools.{Pools}
+use Rattle.sv_pool.specs.StandsFor as kept_pools
+use Rattle.sv_pool.specs.declared.pools.Pools.{Pools}
 use Rattle.sv_runs.specs.StandsFor as kept_runs
 use Rattle.sv_runs.specs.declared.runs.Runs.{Runs}
-use Rattle.sv_streams.specs.StandsFor as kept_streams
-use Rattle.sv_streams.specs.declared.streams.Streams.{Streams}
+use Rattle.sv_runs.specs.Streams.StandsFor as kept_streams
+use Rattle.sv_runs.specs.declared.streams.streams.Streams.{Streams}
 
 -- where step 5 stopped, its question stands
 links_ask : (p : Serving) (w : World)

@@ -28,12 +28,12 @@ use Rattle.sv_core.specs.StandsFor.{Shows, shown}
 use Rattle.sv_core.specs.World.{World}
 use Rattle.sv_core.specs.declared.machine.Machine.{Machine}
 use Rattle.sv_groups.specs.StartOrder.{pairs_of}
-use Rattle.sv_lines.specs.EdgeLines.{how_of}
+use Rattle.sv_children.specs.Lines.EdgeLines.{how_of}
 use Rattle.sv_pool.specs.PoolLists.{holding}
 use Rattle.sv_pool.specs.declared.taken.Taken.{Taken}
-use Rattle.sv_pools.specs.EventPools.{EventPool, EventPools}
-use Rattle.sv_pools.specs.Listeners.{handed_by, has_waiting, may_get, orders_to, some_wait}
-use Rattle.sv_pools.specs.StandsFor as kept
+use Rattle.sv_pool.specs.EventPools.{EventPool, EventPools}
+use Rattle.sv_pool.specs.Listeners.{handed_by, has_waiting, may_get, orders_to, some_wait}
+use Rattle.sv_pool.specs.StandsFor as kept
 
 -- a child put where it stands
 set_there : (xs : List Child) (i : ℕ) (x : Child) → slice_get xs i ≡ Some x → slice_set xs i x ≡ xs

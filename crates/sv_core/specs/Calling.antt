@@ -3,12 +3,12 @@
 -- Several calls in one are begun one after the other, each once the one before is answered.
 use Rattle.std.specs.Prelude.{ℕ, zero, suc, pos, List, length, Option, Some, None, Bool, true}
 use Rattle.std.specs.Prelude.{false, if◌then◌else◌}
-use Rattle.sv_answers.specs.Served.{Request as Heard, Refuses as Refused, Calls as Asks, is_several}
-use Rattle.sv_answers.specs.Served.{no_parts, parts_in, reads_back, said, subject_of}
-use Rattle.sv_answers.specs.declared.read.FileReply.{FileReply}
-use Rattle.sv_answers.specs.declared.read.FileReply.TheVariants as file
-use Rattle.sv_answers.specs.declared.read.LogRead.{LogRead}
-use Rattle.sv_answers.specs.declared.sent.Sent.{Sent}
+use Rattle.sv_calls.specs.Answers.Served.{Request as Heard, Refuses as Refused, Calls as Asks, is_several}
+use Rattle.sv_calls.specs.Answers.Served.{no_parts, parts_in, reads_back, said, subject_of}
+use Rattle.sv_calls.specs.declared.answers.read.FileReply.{FileReply}
+use Rattle.sv_calls.specs.declared.answers.read.FileReply.TheVariants as file
+use Rattle.sv_calls.specs.declared.answers.read.LogRead.{LogRead}
+use Rattle.sv_calls.specs.declared.answers.sent.Sent.{Sent}
 use Rattle.sv_base.specs.declared.ids.LinkId.{LinkId}
 use Rattle.sv_calls.specs.CallBook.{AnswerTree, acting, answer_at, answered, begun, end_at, ended}
 use Rattle.sv_calls.specs.CallBook.{new_call, new_several, part_at, part_taken, parts_left}
@@ -24,7 +24,7 @@ use Rattle.sv_links.specs.LinkBook.{answered as replied_to, is_sent}
 use Rattle.sv_methods.specs.MethodTable.{planned}
 use Rattle.sv_methods.specs.Outcomes as planned_is
 use Rattle.sv_methods.specs.Scenes.{Scene}
-use Rattle.sv_waits.specs.Waits.{checked}
+use Rattle.sv_calls.specs.Waits.{checked}
 use Rattle.sv_methods.specs.declared.planned.Request.{Request}
 use Rattle.sv_methods.specs.declared.planned.Waiting.{Waiting}
 use Rattle.sv_multi.specs.Views.{PartTree, Calls, Refuses}

@@ -8,7 +8,7 @@ use Rattle.sv_core.specs.World.{World}
 use Rattle.sv_events.specs.TickSlice.{tick}
 use Rattle.sv_events.specs.declared.fact.Fact.{Fact}
 use Rattle.sv_events.specs.declared.fact.Fact.TheVariants as fact
-use Rattle.sv_pools.specs.Offers.{offer_reports, offered}
+use Rattle.sv_pool.specs.Offers.{offer_reports, offered}
 
 -- an event of this type, that tells of this fact
 abbrev pub offers : Kind → Fact → World → World

@@ -9,7 +9,7 @@ use Rattle.sv_base.specs.declared.state.State.TheVariants.{Running}
 use Rattle.sv_child.specs.declared.child.Child.{Child}
 use Rattle.sv_core.specs.Listening.{id_of}
 use Rattle.sv_core.specs.World.{World}
-use Rattle.sv_pools.specs.Listeners.{hand_orders, handed, is_handed}
+use Rattle.sv_pool.specs.Listeners.{hand_orders, handed, is_handed}
 use Rattle.sv_runs.specs.RunBook.{RunBook, is_ready, sent}
 
 -- the process is up

@@ -1,7 +1,7 @@
 -- What is left of step 5 where it stopped at a question: from the request that asked outwards to
 -- the links. And how each goes on with the answer.
 use Rattle.std.specs.Prelude.{Option, Some, None, drop}
-use Rattle.sv_answers.specs.declared.read.LogRead.{LogRead}
+use Rattle.sv_calls.specs.declared.answers.read.LogRead.{LogRead}
 use Rattle.sv_base.specs.declared.ids.LinkId.{LinkId}
 use Rattle.sv_core.specs.Calling.{acts_left, asks_read, calls_all, calls_left, checks_wait}
 use Rattle.sv_core.specs.Calling.{ends_call, read_answered}

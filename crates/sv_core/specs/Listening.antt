@@ -11,7 +11,7 @@ use Rattle.sv_core.specs.Moves.{comes}
 use Rattle.sv_core.specs.World.{World}
 use Rattle.sv_pipes.specs.declared.tokens.Token.{Token}
 use Rattle.sv_pipes.specs.declared.tokens.Token.TheVariants.{Ready, Result, Wrong}
-use Rattle.sv_pools.specs.Listeners.{acknowledges, holds, rejection_reports, rejects}
+use Rattle.sv_pool.specs.Listeners.{acknowledges, holds, rejection_reports, rejects}
 use Rattle.sv_runs.specs.RunBook.{heard, living, lost, new_tokens, process_ended, stdin_lost}
 use Rattle.sv_runs.specs.RunBook.{teller}
 

@@ -3,10 +3,10 @@
 use Rattle.std.specs.Prelude.{ℕ, List, [], ◌∷◌, ◌++◌, Option, Some, None}
 use Rattle.sv_base.specs.declared.spec.LogSpec.{LogSpec}
 use Rattle.sv_core.specs.World.{World}
-use Rattle.sv_files.specs.Logging.{log_orders, logged}
-use Rattle.sv_lines.specs.Rows.{overflow_line}
-use Rattle.sv_lines.specs.Written.{written}
-use Rattle.sv_lines.specs.declared.line.Line.{Line}
+use Rattle.sv_logs.specs.Logging.{log_orders, logged}
+use Rattle.sv_children.specs.Lines.Rows.{overflow_line}
+use Rattle.sv_children.specs.Lines.Written.{written}
+use Rattle.sv_children.specs.declared.lines.line.Line.{Line}
 use Rattle.sv_out.specs.declared.order.Order.{Order}
 use Rattle.sv_out.specs.declared.order.Order.TheVariants as order
 

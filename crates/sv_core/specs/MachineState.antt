@@ -25,12 +25,12 @@ use Rattle.sv_core.specs.declared.part.Followed.TheVariants as followed
 use Rattle.sv_core.specs.declared.part.Part.{Part}
 use Rattle.sv_core.specs.declared.part.Part.TheVariants.{Begins, Answers, Fails}
 use Rattle.sv_core.specs.declared.part.Question.{Question}
-use Rattle.sv_files.specs.Opening.{opening_sizes}
+use Rattle.sv_logs.specs.Opening.{opening_sizes}
 use Rattle.sv_groups.specs.StartOrder.{processes}
 use Rattle.sv_links.specs.LinkBook.{LinkRecord, is_issued, is_next, takes_piece}
 use Rattle.sv_out.specs.declared.input.Input.{Input}
 use Rattle.sv_out.specs.declared.order.Order.{Order}
-use Rattle.sv_pools.specs.EventPools as all_pools
+use Rattle.sv_pool.specs.EventPools as all_pools
 use Rattle.sv_runs.specs.RunBook as all_runs
 
 -- what begins a turn: its moment and its cause

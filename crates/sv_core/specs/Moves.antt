@@ -20,12 +20,12 @@ use Rattle.sv_core.specs.Logging.{notes_if}
 use Rattle.sv_core.specs.World.{World}
 use Rattle.sv_core.specs.declared.part.Reply.{Reply}
 use Rattle.sv_core.specs.declared.part.Reply.TheVariants.{Started, NoFile, NotExecutable, Refused}
-use Rattle.sv_facts.specs.EdgeFacts.{fact_at, kind_of, pid_at}
-use Rattle.sv_lines.specs.EdgeLines.{line_at, spawned_at}
+use Rattle.sv_children.specs.EdgeFacts.{fact_at, kind_of, pid_at}
+use Rattle.sv_children.specs.Lines.EdgeLines.{line_at, spawned_at}
 use Rattle.sv_out.specs.declared.order.Order.TheVariants as order
 use Rattle.sv_out.specs.declared.order.SpawnOrder.{SpawnOrder}
 use Rattle.sv_runs.specs.RunBook.{begun}
-use Rattle.sv_streams.specs.StreamBook as output
+use Rattle.sv_runs.specs.Streams.StreamBook as output
 
 -- what the table says to the child of a place, at the moment and in the mood of the turn
 abbrev pub says : (Child → Option Stimulus) → ℕ → World → Option Answer

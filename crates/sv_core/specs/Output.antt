@@ -20,8 +20,8 @@ use Rattle.sv_events.specs.declared.fact.Fact.TheVariants as fact
 use Rattle.sv_pipes.specs.declared.parts.Part.{Part}
 use Rattle.sv_pipes.specs.declared.parts.Part.TheVariants as part
 use Rattle.sv_runs.specs.RunBook as runs_of
-use Rattle.sv_streams.specs.StreamBook as output
-use Rattle.sv_streams.specs.declared.owner.Owner.{Owner}
+use Rattle.sv_runs.specs.Streams.StreamBook as output
+use Rattle.sv_runs.specs.declared.streams.owner.Owner.{Owner}
 
 -- the log of a channel
 abbrev pub log_of : Stream → Spec → LogSpec

@@ -27,7 +27,7 @@ use Rattle.sv_core.specs.declared.part.Question.TheVariants as question
 use Rattle.sv_core.specs.declared.part.Reply.{Reply}
 use Rattle.sv_core.specs.declared.part.Reply.TheVariants as reply_is
 use Rattle.sv_events.specs.declared.fact.Fact.TheVariants as fact
-use Rattle.sv_files.specs.Sizes.{cleared}
+use Rattle.sv_logs.specs.Sizes.{cleared}
 use Rattle.sv_methods.specs.declared.planned.Request.{Request}
 use Rattle.sv_methods.specs.declared.planned.Request.TheVariants as request
 use Rattle.sv_out.specs.declared.order.Order.TheVariants as order

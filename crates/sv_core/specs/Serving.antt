@@ -2,7 +2,7 @@
 -- the order in which they came (RFC 9112, section 9.3). Where a call asks a question the turn
 -- stops.
 use Rattle.std.specs.Prelude.{ℕ, zero, suc, List, [], ◌∷◌, Option, Some, None, if◌then◌else◌}
-use Rattle.sv_answers.specs.Served.{heard}
+use Rattle.sv_calls.specs.Answers.Served.{heard}
 use Rattle.sv_base.specs.declared.ids.LinkId.{LinkId}
 use Rattle.sv_core.specs.Calling.{goes_on, takes_up}
 use Rattle.sv_core.specs.Sweeps.{Turn}

@@ -35,12 +35,12 @@ use Rattle.sv_links.specs.StandsFor.{follows, has_opened, may_bring}
 use Rattle.sv_links.specs.declared.links.Links.{Links}
 use Rattle.sv_out.specs.declared.input.Input.{Input}
 use Rattle.sv_out.specs.declared.order.Order.{Order}
-use Rattle.sv_pools.specs.EventPools.{EventPools}
-use Rattle.sv_pools.specs.StandsFor as kept_pools
+use Rattle.sv_pool.specs.EventPools.{EventPools}
+use Rattle.sv_pool.specs.StandsFor as kept_pools
 use Rattle.sv_runs.specs.RunBook.{RunBook}
 use Rattle.sv_runs.specs.StandsFor as kept_runs
-use Rattle.sv_streams.specs.StandsFor as kept_streams
-use Rattle.sv_streams.specs.StreamBook.{StreamRecord}
+use Rattle.sv_runs.specs.Streams.StandsFor as kept_streams
+use Rattle.sv_runs.specs.Streams.StreamBook.{StreamRecord}
 
 -- the world that the machine's fields show, after these older orders and with these pools, runs,
 -- output, links and calls

@@ -18,7 +18,7 @@ use Rattle.sv_core.specs.declared.part.Question.{Question}
 use Rattle.sv_core.specs.declared.part.Question.TheVariants as question
 use Rattle.sv_core.specs.declared.part.Reply.{Reply}
 use Rattle.sv_groups.specs.declared.order.Span.{Span}
-use Rattle.sv_lines.specs.EdgeLines.{how_of, killing_at}
+use Rattle.sv_children.specs.Lines.EdgeLines.{how_of, killing_at}
 use Rattle.sv_out.specs.declared.order.SpawnOrder.{SpawnOrder}
 
 -- a turn that is done, or that stopped at a question of a kind and goes on with its answer, in the

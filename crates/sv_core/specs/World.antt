@@ -6,9 +6,9 @@ use Rattle.sv_children.specs.Crew.{Crew}
 use Rattle.sv_core.specs.declared.course.Course.{Course}
 use Rattle.sv_links.specs.LinkBook.{LinkRecord}
 use Rattle.sv_out.specs.declared.order.Order.{Order}
-use Rattle.sv_pools.specs.EventPools.{EventPools}
+use Rattle.sv_pool.specs.EventPools.{EventPools}
 use Rattle.sv_runs.specs.RunBook.{RunBook}
-use Rattle.sv_streams.specs.StreamBook.{StreamRecord}
+use Rattle.sv_runs.specs.Streams.StreamBook.{StreamRecord}
 
 -- the configuration, and the daemon's process number; the groups with their children, both in start
 -- order; what the daemon is about; the number that the next run gets; the moment of the turn, and

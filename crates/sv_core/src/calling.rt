@@ -1,8 +1,8 @@
 //! The calls of the links, up to a question.
 ghost use Rattle.std.specs.Prelude.{◌≡◌, List, IfOk, OnOk, pos};
 ghost use Rattle.std.specs.Option.{option_map};
-ghost use Rattle.sv_answers.specs.Heard.{found_parts, request_view};
-ghost use Rattle.sv_answers.specs.Served.{parts_in};
+ghost use Rattle.sv_calls.specs.Answers.Heard.{found_parts, request_view};
+ghost use Rattle.sv_calls.specs.Answers.Served.{parts_in};
 ghost use Rattle.sv_calls.specs.StandsFor.{answer_view};
 ghost use Rattle.sv_core.specs.Calling.{acts_for, acts_left, answers_call, answers_if, begins_call};
 ghost use Rattle.sv_core.specs.Calling.{begins_one, begins_part, begins_part_if, begins_several};
@@ -18,7 +18,7 @@ ghost use Rattle.sv_core.specs.World.{World};
 ghost use Rattle.sv_methods.specs.MethodTable.{planned};
 ghost use Rattle.sv_methods.specs.Outcomes.{outcome};
 ghost use Rattle.sv_methods.specs.Scenes.{scene};
-ghost use Rattle.sv_waits.specs.Waits.{checked};
+ghost use Rattle.sv_calls.specs.Waits.{checked};
 ghost use Rattle.sv_multi.specs.Views.{part_view};
 ghost use Rattle.sv_out.specs.declared.order.Order.{Order};
 ghost use Rattle.sv_xmlcall.specs.Trees.{Faults, call_view, reply_view};
@@ -27,17 +27,16 @@ use crate::machine::Machine;
 use crate::part::Reply;
 use crate::place::{Acting, Calling, Going};
 use std::alloc::AllocError;
-use sv_answers::{
-    FileReply, Heard, LogRead, Sent, is_several, no_parts, parts_asked, read_back, say, subject_of,
-};
 use sv_base::ids::LinkId;
 use sv_base::items::Items;
 use sv_base::text::Text;
-use sv_calls::Answer;
+use sv_calls::answers::{
+    FileReply, Heard, LogRead, Sent, is_several, no_parts, parts_asked, read_back, say, subject_of,
+};
+use sv_calls::{Answer, check};
 use sv_methods::{Planned, Request, Stand, Waiting, plan};
 use sv_multi::Part;
 use sv_out::order::Order;
-use sv_waits::check;
 use sv_xmlcall::{Answered, Call};
 
 /// What became of a read.

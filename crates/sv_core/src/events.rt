@@ -11,9 +11,9 @@ use std::alloc::AllocError;
 use sv_base::kind::Kind;
 use sv_base::state::How;
 use sv_child::step::Edge;
+use sv_children::lines::line_at;
+use sv_children::{fact_at, kind_of};
 use sv_events::Fact;
-use sv_facts::{fact_at, kind_of};
-use sv_lines::line_at;
 
 impl Machine {
     /// Offers an event of this type to each pool; what they drop for it is reported.

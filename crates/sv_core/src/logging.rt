@@ -7,7 +7,7 @@ ghost use Rattle.sv_core.specs.Logging.{tells_drops};
 use crate::machine::Machine;
 use std::alloc::{AllocError, Global};
 use sv_base::bytes::Bytes;
-use sv_lines::{Line, overflowed, written};
+use sv_children::lines::{Line, overflowed, written};
 use sv_out::order::Order;
 
 /// The line of a report that a full pool dropped an event.

@@ -19,13 +19,13 @@ use sv_base::text::Text;
 use sv_calls::Calls;
 use sv_children::Children;
 use sv_events::Ticks;
-use sv_files::KnownSizes;
 use sv_links::Links;
+use sv_logs::KnownSizes;
 use sv_out::input::Input;
 use sv_out::order::Order;
-use sv_pools::Pools;
+use sv_pool::Pools;
 use sv_runs::Runs;
-use sv_streams::Streams;
+use sv_runs::streams::Streams;
 
 /// The daemon's machine.
 pub struct Machine {
@@ -84,7 +84,7 @@ impl Drop for Machine {
 }
 
 impl Machine {
-    ghost use Rattle.sv_files.specs.Sizes.{rise};
+    ghost use Rattle.sv_logs.specs.Sizes.{rise};
     ghost use Rattle.sv_core.specs.MachineState.{Model, opening, accepts, next, orders, hand};
     ghost use Rattle.sv_core.specs.MachineState.{is_issued_run, now};
     ghost use Rattle.sv_core.specs.Parts.{part_of};

@@ -16,7 +16,7 @@ use sv_base::state::Stream;
 use sv_children::Children;
 use sv_events::Fact;
 use sv_pipes::Part;
-use sv_streams::Owner;
+use sv_runs::streams::Owner;
 
 fn log_of(channel: Stream, spec: &Spec) -> &LogSpec
     ensures { result.now ≡ log_of channel spec.now }

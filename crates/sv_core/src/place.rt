@@ -4,10 +4,10 @@ ghost use Rattle.sv_core.specs.Left.{question_called, question_wanted};
 ghost use Rattle.sv_core.specs.StandsFor.{question_of};
 
 use crate::part::Question;
-use sv_answers::LogRead;
 use sv_base::ids::{LinkId, Run};
 use sv_base::items::Items;
 use sv_base::text::Text;
+use sv_calls::answers::LogRead;
 use sv_children::News;
 
 /// A spawn that was asked for: of a child, as this run.

@@ -10,8 +10,8 @@ use crate::machine::Machine;
 use crate::part::Reply;
 use crate::place::{Asking, Going, Serving};
 use std::alloc::AllocError;
-use sv_answers::hear;
 use sv_base::ids::LinkId;
+use sv_calls::answers::hear;
 use sv_out::order::Order;
 
 /// The link in this place of a list.

@@ -10,7 +10,7 @@ ghost use Rattle.sv_core.specs.StandsFor.{Shows, paused, stopped, swept};
 ghost use Rattle.sv_core.specs.Sweeps.{IsMet, PassBy, carries_out, spawns, does, does_noted, meets};
 ghost use Rattle.sv_core.specs.Sweeps.{sweeps};
 ghost use Rattle.sv_core.specs.World.{World};
-ghost use Rattle.sv_lines.specs.EdgeLines.{how_of};
+ghost use Rattle.sv_children.specs.Lines.EdgeLines.{how_of};
 ghost use Rattle.sv_out.specs.declared.order.Order.{Order};
 
 use crate::machine::Machine;
@@ -22,9 +22,8 @@ use sv_base::signal::Signal;
 use sv_base::state::How;
 use sv_base::text::Text;
 use sv_child::step::{ChildDeed, Step};
-use sv_children::{News, Told};
-use sv_facts::pid_at;
-use sv_lines::{how_of, killing_at, spawned_at};
+use sv_children::lines::{how_of, killing_at, spawned_at};
+use sv_children::{News, Told, pid_at};
 use sv_out::order::Order;
 
 /// The last number of a run.

@@ -25,9 +25,9 @@ use Rattle.sv_pool.specs.Account.{IsAccount, Step, after, after_all, holds_one, 
 use Rattle.sv_pool.specs.PoolLists.{Lists, accepted, acknowledged, has_room, opened, rejected, report, took}
 use Rattle.sv_pool.specs.declared.taken.Dropped.{Dropped}
 use Rattle.sv_pool.specs.declared.taken.Taken.{Taken}
-use Rattle.sv_pools.specs.EventPools.{EventPool, EventPools, opened_for, pool_of, pools_from}
-use Rattle.sv_pools.specs.Listeners.{acknowledged_by, front_written, handed_by, is_holding, may_get, orders_to, rejected_by, reports_of_rejection, written}
-use Rattle.sv_pools.specs.Offers.{drop_report, event_of, offered_to, reports_of_offer, room_reports, takes}
+use Rattle.sv_pool.specs.EventPools.{EventPool, EventPools, opened_for, pool_of, pools_from}
+use Rattle.sv_pool.specs.Listeners.{acknowledged_by, front_written, handed_by, is_holding, may_get, orders_to, rejected_by, reports_of_rejection, written}
+use Rattle.sv_pool.specs.Offers.{drop_report, event_of, offered_to, reports_of_offer, room_reports, takes}
 
 -- ---- steps of one pool
 

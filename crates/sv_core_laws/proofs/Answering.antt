@@ -12,11 +12,11 @@ use Rattle.sv_core.specs.Logging.{logs, logs_if, notes_if}
 use Rattle.sv_core.specs.Moves.{answered, begins_as, begins_output, begins_output_of, comes, is_listener_of, started_as, told_of}
 use Rattle.sv_core.specs.World.{World}
 use Rattle.sv_core.specs.declared.part.Reply.{Reply}
-use Rattle.sv_lines.specs.EdgeLines.{spawned_at}
-use Rattle.sv_lines.specs.Written.{written as line_bytes}
-use Rattle.sv_lines.specs.declared.line.Line.{Line}
+use Rattle.sv_children.specs.Lines.EdgeLines.{spawned_at}
+use Rattle.sv_children.specs.Lines.Written.{written as line_bytes}
+use Rattle.sv_children.specs.declared.lines.line.Line.{Line}
 use Rattle.sv_runs.specs.RunBook.{RunBook, begun}
-use Rattle.sv_streams.specs.StreamBook.{StreamRecord}
+use Rattle.sv_runs.specs.Streams.StreamBook.{StreamRecord}
 use Rattle.sv_child.specs.ChildTable.Stimulus.{Start, Time, Ended}
 use Rattle.sv_children.specs.declared.news.Told.{Told}
 use Rattle.sv_children.specs.declared.news.Told.TheVariants as told_is

@@ -4,8 +4,8 @@ use Rattle.std.proofs.Common.{◌≡◌, ℕ, zero, suc, List, [], ◌∷◌, �
 use Rattle.std.specs.Prelude.{is_some, length, slice_get}
 use Rattle.std.specs.List.{list_any}
 use Rattle.std.proofs.lemmas.List.{map-append}
-use Rattle.sv_answers.specs.Served.{said}
-use Rattle.sv_answers.specs.declared.sent.Sent.{Sent}
+use Rattle.sv_calls.specs.Answers.Served.{said}
+use Rattle.sv_calls.specs.declared.answers.sent.Sent.{Sent}
 use Rattle.sv_base.specs.Roster.{is_roster}
 use Rattle.sv_base.specs.declared.config.Config.{Config}
 use Rattle.sv_base.specs.declared.config.Host.{Host}
@@ -53,12 +53,12 @@ use Rattle.sv_links.specs.LinkBook.{LinkRecord, has_room, more_is_due}
 use Rattle.sv_links.specs.LinkBook.Ending.{Closed, Ended, Failed}
 use Rattle.sv_links.specs.LinkDeeds.{Deed}
 use Rattle.sv_links.specs.LinkDeeds.Deed.{Open, Feed, End, Take, Answer, GiveMore}
-use Rattle.sv_waits.specs.Waits.{child_of, is_due, is_due_of, is_waited_for, waits}
+use Rattle.sv_calls.specs.Waits.{child_of, is_due, is_due_of, is_waited_for, waits}
 use Rattle.sv_methods.specs.declared.planned.Aim.{Aim}
 use Rattle.sv_methods.specs.declared.planned.Aim.TheVariants.{Started}
 use Rattle.sv_methods.specs.declared.planned.Asked.{Asked}
 use Rattle.sv_methods.specs.declared.planned.Waiting.{Waiting}
-use Rattle.sv_pools.specs.Listeners.{hand_orders}
+use Rattle.sv_pool.specs.Listeners.{hand_orders}
 use Rattle.sv_out.specs.declared.input.Input.{Input}
 use Rattle.sv_out.specs.declared.order.Order.{Order}
 use Rattle.sv_out.specs.declared.order.Order.TheVariants as order

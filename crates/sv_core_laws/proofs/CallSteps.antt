@@ -2,8 +2,8 @@
 use Rattle.std.proofs.Common.{ℕ, pos, zero, suc, List, [], ◌∷◌, Bool, true, false, Option, Some, None, if◌then◌else◌, ◌≡◌, ◌==◌, ◌∙◌, ap, refl, sym}
 use Rattle.std.proofs.lemmas.Bool.{eq-eqb}
 use Rattle.std.specs.Prelude.{is_some, length, nat_le, slice_get}
-use Rattle.sv_answers.specs.Served.{Request as Asked, Refuses as Refused_by, Calls as Asks, heard as ask_heard, is_several, no_parts, parts_in, reads_back, said, subject_of}
-use Rattle.sv_answers.specs.declared.read.LogRead.{LogRead}
+use Rattle.sv_calls.specs.Answers.Served.{Request as Asked, Refuses as Refused_by, Calls as Asks, heard as ask_heard, is_several, no_parts, parts_in, reads_back, said, subject_of}
+use Rattle.sv_calls.specs.declared.answers.read.LogRead.{LogRead}
 use Rattle.sv_base.specs.declared.ids.LinkId.{LinkId}
 use Rattle.sv_base.specs.declared.ids.Run.{Run}
 use Rattle.sv_base.specs.declared.kind.Kind.TheVariants as kind
@@ -37,7 +37,7 @@ use Rattle.sv_methods.specs.MethodTable.{planned}
 use Rattle.sv_methods.specs.Outcomes as planned_is
 use Rattle.sv_methods.specs.declared.planned.Request.{Request as Wish}
 use Rattle.sv_methods.specs.declared.planned.Request.TheVariants as wish
-use Rattle.sv_waits.specs.Waits.{answer, waits}
+use Rattle.sv_calls.specs.Waits.{answer, waits}
 use Rattle.sv_methods.specs.declared.planned.Waiting.{Waiting}
 use Rattle.sv_multi.specs.Views.{PartTree, Calls, Refuses}
 use Rattle.sv_out.specs.declared.order.Order.TheVariants as order

@@ -1,7 +1,7 @@
 -- Step 5 of a turn begins all requests of a link that is open and whose call doesn't wait.
 use Rattle.std.proofs.Common.{◌≡◌, ◌==◌, ℕ, zero, suc, List, [], ◌∷◌, Bool, true, false, Option, Some, None, if◌then◌else◌, ◌⊎◌, inl, inr, refl, ◌∙◌}
 use Rattle.std.proofs.lemmas.Bool.{false≢true, eqb-true}
-use Rattle.sv_answers.specs.Served.{heard}
+use Rattle.sv_calls.specs.Answers.Served.{heard}
 use Rattle.sv_base.specs.declared.ids.LinkId.{LinkId}
 use Rattle.sv_child.specs.Moves.{is_running}
 use Rattle.sv_core.specs.HandingOut.{hands_out}

@@ -1,3 +1,4 @@
+mod BodiesLemmas
 -- the walk through a turn, for any relation that its small steps keep
 mod Steps
 mod PlainSteps

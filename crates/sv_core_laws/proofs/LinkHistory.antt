@@ -19,7 +19,7 @@ use Rattle.sv_links.specs.LinkDeeds.{Deed}
 use Rattle.sv_out.specs.declared.input.Input.{Input}
 use Rattle.sv_out.specs.declared.order.Order.TheVariants as order
 use Rattle.sv_out.specs.declared.order.Order.{Order}
-use Rattle.sv_pools.specs.Listeners.{hand_orders}
+use Rattle.sv_pool.specs.Listeners.{hand_orders}
 use Rattle.sv_core.specs.Moves.{comes}
 use Rattle.sv_core_laws.proofs.PlainSteps.{PlainSteps, plainly}
 use Rattle.sv_core_laws.proofs.LinkTells.{Tells, follow, same, silent, still}

@@ -37,24 +37,24 @@ use Rattle.sv_core.specs.MachineState.{now, opening}
 use Rattle.sv_core.specs.Moves.{changed, goes_edge, goes_edge_if, goes_edges, moves, reported, says}
 use Rattle.sv_core.specs.World.{World}
 use Rattle.sv_events.specs.declared.fact.Fact.{Fact}
-use Rattle.sv_facts.specs.EdgeFacts.{fact_at, kind_of, pid_at}
-use Rattle.sv_files.specs.LogDeeds.{LogDeed, all_orders, all_sizes, deed_orders, sizes_after}
-use Rattle.sv_files.specs.LogDeeds.LogDeed.{Adds, Empties}
-use Rattle.sv_files.specs.Logging.{log_orders, order_of, orders_if, plan_as}
-use Rattle.sv_files.specs.Sizes.{Sizes, size_in}
+use Rattle.sv_children.specs.EdgeFacts.{fact_at, kind_of, pid_at}
+use Rattle.sv_logs.specs.LogDeeds.{LogDeed, all_orders, all_sizes, deed_orders, sizes_after}
+use Rattle.sv_logs.specs.LogDeeds.LogDeed.{Adds, Empties}
+use Rattle.sv_logs.specs.Logging.{log_orders, order_of, orders_if, plan_as}
+use Rattle.sv_logs.specs.Sizes.{Sizes, size_in}
 use Rattle.sv_groups.specs.StartOrder.{pairs_of}
-use Rattle.sv_lines.specs.EdgeLines.{line_at}
-use Rattle.sv_lines.specs.Written.{written}
-use Rattle.sv_lines.specs.declared.line.Line.{Line}
+use Rattle.sv_children.specs.Lines.EdgeLines.{line_at}
+use Rattle.sv_children.specs.Lines.Written.{written}
+use Rattle.sv_children.specs.declared.lines.line.Line.{Line}
 use Rattle.sv_logs.specs.Rotation.{orders_of}
 use Rattle.sv_links.specs.LinkBook.{LinkRecord}
 use Rattle.sv_out.specs.declared.input.Input.{Input}
 use Rattle.sv_out.specs.declared.order.Order.{Order}
 use Rattle.sv_out.specs.declared.order.Order.TheVariants as order
 use Rattle.sv_pool.specs.declared.taken.Taken.{Taken}
-use Rattle.sv_pools.specs.EventPools.{EventPool}
-use Rattle.sv_pools.specs.Listeners.{front_written, hand_orders, may_get, orders_to, rejection_reports, rejects, written as order_written}
-use Rattle.sv_pools.specs.Offers.{offer_reports, offered as pools_after}
+use Rattle.sv_pool.specs.EventPools.{EventPool}
+use Rattle.sv_pool.specs.Listeners.{front_written, hand_orders, may_get, orders_to, rejection_reports, rejects, written as order_written}
+use Rattle.sv_pool.specs.Offers.{offer_reports, offered as pools_after}
 
 -- from one world to a later one: what was logged meanwhile, and which orders tell of it
 pub record Keeps (w v : World) : Type 0 where

@@ -17,7 +17,7 @@ use Rattle.sv_core.specs.Moves.{comes, fails, kills, moves, orders_spawn, says}
 use Rattle.sv_core.specs.World.{World}
 use Rattle.sv_core.specs.declared.part.Reply.TheVariants.{Refused}
 use Rattle.sv_out.specs.declared.order.SpawnOrder.{SpawnOrder}
-use Rattle.sv_lines.specs.EdgeLines.{how_of, killing_at}
+use Rattle.sv_children.specs.Lines.EdgeLines.{how_of, killing_at}
 use Rattle.sv_calls.specs.declared.setback.Setback.{Setback}
 use Rattle.sv_calls.specs.declared.setback.Setback.TheVariants as setback
 use Rattle.sv_core.specs.Requests.{start_fails, tells_call}

@@ -12,11 +12,11 @@ use Rattle.sv_core.specs.World.{World}
 use Rattle.sv_core.specs.declared.part.Cause.{Cause}
 use Rattle.sv_core.specs.declared.part.Cause.TheVariants as cause_is
 use Rattle.sv_events.specs.declared.fact.Fact.TheVariants as fact
-use Rattle.sv_lines.specs.Written.{written}
-use Rattle.sv_lines.specs.declared.line.Line.{Line}
+use Rattle.sv_children.specs.Lines.Written.{written}
+use Rattle.sv_children.specs.declared.lines.line.Line.{Line}
 use Rattle.sv_links.specs.LinkBook.{LinkRecord, is_next}
 use Rattle.sv_out.specs.declared.order.Order.{Order}
-use Rattle.sv_pools.specs.Offers.{offer_reports, offered}
+use Rattle.sv_pool.specs.Offers.{offer_reports, offered}
 
 -- what is opened has the next number
 abbrev pub OpensNext : Cause → List LinkRecord → Type 0

@@ -1,7 +1,7 @@
 -- The steps of a turn for a relation that asks nothing of calls: whatever the calls become, and whatever is done with a link.
 use Rattle.std.proofs.Common.{ℕ, List, [], ◌∷◌, ◌++◌, Bool, true, false, Option, Some, None, if◌then◌else◌, ◌≡◌, refl, sym, ap, subst, append-nil, append_assoc}
-use Rattle.sv_answers.specs.Served.{said}
-use Rattle.sv_answers.specs.declared.sent.Sent.{Sent}
+use Rattle.sv_calls.specs.Answers.Served.{said}
+use Rattle.sv_calls.specs.declared.answers.sent.Sent.{Sent}
 use Rattle.sv_base.specs.declared.ids.LinkId.{LinkId}
 use Rattle.sv_base.specs.declared.ids.Run.{Run}
 use Rattle.sv_base.specs.declared.kind.Kind.{Kind}
@@ -26,7 +26,7 @@ use Rattle.sv_core_laws.proofs.Steps.{MayReply, Steps, does_with_link}
 use Rattle.sv_core_laws.specs.CallHistory.{done as call_done}
 use Rattle.sv_core_laws.specs.LinkHistory.{LinkEntry, reply_orders}
 use Rattle.sv_events.specs.declared.fact.Fact.{Fact}
-use Rattle.sv_files.specs.Sizes.{cleared}
+use Rattle.sv_logs.specs.Sizes.{cleared}
 use Rattle.sv_links.specs.LinkBook as link_book
 use Rattle.sv_links.specs.LinkDeeds.{Deed}
 use Rattle.sv_links.specs.LinkDeeds.Deed.{Answer}
@@ -34,7 +34,7 @@ use Rattle.sv_out.specs.declared.order.Order.{Order}
 use Rattle.sv_out.specs.declared.order.Order.TheVariants as order
 use Rattle.sv_out.specs.declared.order.SpawnOrder.{SpawnOrder}
 use Rattle.sv_runs.specs.RunBook.{RunBook}
-use Rattle.sv_streams.specs.StreamBook.{StreamRecord}
+use Rattle.sv_runs.specs.Streams.StreamBook.{StreamRecord}
 use Rattle.sv_xmlcall.specs.Trees.{Reply as CallReply}
 
 -- links and calls: whatever is done with a link, and whatever the calls become

@@ -38,18 +38,18 @@ use Rattle.sv_core.specs.Moves.{changed, goes_edges, moves, says}
 use Rattle.sv_core_laws.specs.Path.{ChildrenWalk}
 use Rattle.sv_core.specs.World.{World}
 use Rattle.sv_events.specs.declared.fact.Fact.{Fact}
-use Rattle.sv_facts.specs.EdgeFacts.{fact_at, kind_of, pid_at}
-use Rattle.sv_files.specs.Logging.{log_orders}
+use Rattle.sv_children.specs.EdgeFacts.{fact_at, kind_of, pid_at}
+use Rattle.sv_logs.specs.Logging.{log_orders}
 use Rattle.sv_groups.specs.StartOrder.{pairs_of, processes}
-use Rattle.sv_lines.specs.EdgeLines.{line_at}
-use Rattle.sv_lines.specs.Written.{written}
-use Rattle.sv_lines.specs.declared.line.Line.{Line}
+use Rattle.sv_children.specs.Lines.EdgeLines.{line_at}
+use Rattle.sv_children.specs.Lines.Written.{written}
+use Rattle.sv_children.specs.declared.lines.line.Line.{Line}
 use Rattle.sv_links.specs.LinkBook.{LinkRecord}
 use Rattle.sv_out.specs.declared.input.Input.{Input}
 use Rattle.sv_out.specs.declared.order.Order.{Order}
 use Rattle.sv_out.specs.declared.order.Order.TheVariants as order
-use Rattle.sv_pools.specs.Listeners.{hand_orders, rejection_reports, rejects}
-use Rattle.sv_pools.specs.Offers.{offer_reports, offered as pools_after}
+use Rattle.sv_pool.specs.Listeners.{hand_orders, rejection_reports, rejects}
+use Rattle.sv_pool.specs.Offers.{offer_reports, offered as pools_after}
 
 -- from one world to a later one: the same roster, more orders, and what these report of a child leads from its state in
 -- the one to its state in the other

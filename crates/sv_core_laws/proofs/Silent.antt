@@ -28,22 +28,22 @@ use Rattle.sv_core.specs.Logging.{drop_line, logs, logs_if, notes_if, tells_drop
 use Rattle.sv_core.specs.Moves.{changed, goes_edge, goes_edge_if, goes_edges, moves, reported}
 use Rattle.sv_core.specs.World.{World}
 use Rattle.sv_events.specs.declared.fact.Fact.{Fact}
-use Rattle.sv_facts.specs.EdgeFacts.{fact_at, kind_of, pid_at}
-use Rattle.sv_files.specs.Logging.{log_orders, order_of, orders_if, plan_as}
-use Rattle.sv_files.specs.Sizes.{Sizes, size_in}
+use Rattle.sv_children.specs.EdgeFacts.{fact_at, kind_of, pid_at}
+use Rattle.sv_logs.specs.Logging.{log_orders, order_of, orders_if, plan_as}
+use Rattle.sv_logs.specs.Sizes.{Sizes, size_in}
 use Rattle.sv_groups.specs.StartOrder.{pairs_of}
-use Rattle.sv_lines.specs.EdgeLines.{line_at}
-use Rattle.sv_lines.specs.Written.{written}
-use Rattle.sv_lines.specs.declared.line.Line.{Line}
+use Rattle.sv_children.specs.Lines.EdgeLines.{line_at}
+use Rattle.sv_children.specs.Lines.Written.{written}
+use Rattle.sv_children.specs.declared.lines.line.Line.{Line}
 use Rattle.sv_logs.specs.Rotation.{orders_of}
 use Rattle.sv_out.specs.declared.order.Order.TheVariants as order
 use Rattle.sv_out.specs.declared.order.Order.{Order}
 use Rattle.sv_pool.specs.declared.taken.Taken.{Taken}
-use Rattle.sv_pools.specs.EventPools.{EventPool}
-use Rattle.sv_pools.specs.Listeners.{front_written, may_get, orders_to, rejection_reports, rejects, written as order_written}
-use Rattle.sv_pools.specs.Offers.{offer_reports, offered as pools_after}
+use Rattle.sv_pool.specs.EventPools.{EventPool}
+use Rattle.sv_pool.specs.Listeners.{front_written, may_get, orders_to, rejection_reports, rejects, written as order_written}
+use Rattle.sv_pool.specs.Offers.{offer_reports, offered as pools_after}
 use Rattle.sv_core.specs.Listening.{loses_of, loses_stdin}
-use Rattle.sv_pools.specs.Listeners.{holds}
+use Rattle.sv_pool.specs.Listeners.{holds}
 use Rattle.sv_runs.specs.RunBook.{living, lost, stdin_lost}
 
 -- an order to a link, or a spawn

@@ -54,15 +54,15 @@ use Rattle.sv_core_laws.proofs.Walk.{kept_after}
 use Rattle.sv_core_laws.specs.CallHistory.{done as call_done}
 use Rattle.sv_core_laws.specs.LinkHistory.{LinkEntry, entry_orders}
 use Rattle.sv_core_laws.specs.Starts.{EachStartIsSpawned, spawn_told, spawns_told, starting_told, starts_told}
-use Rattle.sv_facts.specs.EdgeFacts.{pid_at}
+use Rattle.sv_children.specs.EdgeFacts.{pid_at}
 use Rattle.sv_groups.specs.StartOrder.{pairs_of}
-use Rattle.sv_lines.specs.EdgeLines.{how_of, killing_at}
-use Rattle.sv_lines.specs.declared.line.Line.{Line}
+use Rattle.sv_children.specs.Lines.EdgeLines.{how_of, killing_at}
+use Rattle.sv_children.specs.declared.lines.line.Line.{Line}
 use Rattle.sv_links.specs.LinkBook.{LinkRecord}
 use Rattle.sv_out.specs.declared.input.Input.{Input}
 use Rattle.sv_out.specs.declared.order.Order.{Order}
 use Rattle.sv_out.specs.declared.order.Order.TheVariants as order
-use Rattle.sv_pools.specs.Listeners.{hand_orders}
+use Rattle.sv_pool.specs.Listeners.{hand_orders}
 
 -- processes, each by the names of its group and of itself
 abbrev Names : Type 0

@@ -3,7 +3,7 @@
 use Rattle.std.proofs.Common.{ℕ, zero, suc, ◌+◌, ◌++◌, List, [], ◌∷◌, Bool, true, false, ◌||◌, Option, Some, None, if◌then◌else◌, ◌≡◌, ◌∙◌, refl, sym, ap, subst, append-nil}
 use Rattle.std.specs.Prelude.{◌-◌, length, nat_le, codes, slice_get}
 use Rattle.std.specs.Str.{bytes_eq}
-use Rattle.sv_answers.specs.declared.sent.Sent.{Sent}
+use Rattle.sv_calls.specs.declared.answers.sent.Sent.{Sent}
 use Rattle.sv_base.specs.declared.ids.LinkId.{LinkId}
 use Rattle.sv_base.specs.declared.ids.Run.{Run}
 use Rattle.sv_base.specs.declared.kind.Kind.{Kind}
@@ -48,12 +48,12 @@ use Rattle.sv_core.specs.declared.part.Reply.{Reply}
 use Rattle.sv_events.specs.TickSlice.{tick}
 use Rattle.sv_events.specs.declared.fact.Fact.{Fact}
 use Rattle.sv_events.specs.declared.fact.Fact.TheVariants as fact
-use Rattle.sv_files.specs.Sizes.{cleared}
+use Rattle.sv_logs.specs.Sizes.{cleared}
 use Rattle.sv_groups.specs.StartOrder.{span_of}
 use Rattle.sv_groups.specs.declared.order.Span.{Span}
 use Rattle.sv_http.specs.declared.guard.Guard.{Guard}
 use Rattle.sv_links.specs.LinkBook as link_book
-use Rattle.sv_waits.specs.Waits.{waits}
+use Rattle.sv_calls.specs.Waits.{waits}
 use Rattle.sv_methods.specs.declared.planned.Waiting.{Waiting}
 use Rattle.sv_xmlcall.specs.Trees.{Reply as CallReply}
 use Rattle.sv_links.specs.LinkBook.Ending.{Closed, Failed as Lost}
@@ -62,16 +62,16 @@ use Rattle.sv_links.specs.LinkDeeds.Deed.{Open, End, Answer, GiveMore}
 use Rattle.sv_out.specs.declared.order.Order.{Order}
 use Rattle.sv_out.specs.declared.order.Order.TheVariants as order
 use Rattle.sv_out.specs.declared.order.SpawnOrder.{SpawnOrder}
-use Rattle.sv_lines.specs.EdgeLines.{how_of, killing_at}
+use Rattle.sv_children.specs.Lines.EdgeLines.{how_of, killing_at}
 use Rattle.sv_pipes.specs.declared.parts.Part.{Part as Heard}
 use Rattle.sv_pipes.specs.declared.parts.Part.TheVariants as part
 use Rattle.sv_pipes.specs.declared.tokens.Token.{Token}
 use Rattle.sv_pipes.specs.declared.tokens.Token.TheVariants as token
-use Rattle.sv_pools.specs.Listeners.{holds}
+use Rattle.sv_pool.specs.Listeners.{holds}
 use Rattle.sv_runs.specs.RunBook.{RunBook, heard, living, lost, new_tokens, pipe_ended, process_ended, stdin_lost, teller}
-use Rattle.sv_streams.specs.StreamBook as output
-use Rattle.sv_streams.specs.StreamBook.{StreamRecord}
-use Rattle.sv_streams.specs.declared.owner.Owner.{Owner}
+use Rattle.sv_runs.specs.Streams.StreamBook as output
+use Rattle.sv_runs.specs.Streams.StreamBook.{StreamRecord}
+use Rattle.sv_runs.specs.declared.streams.owner.Owner.{Owner}
 use Rattle.sv_core_laws.proofs.LinkTells.{Tells}
 use Rattle.sv_core_laws.proofs.Answering.{Answering, kept_answered, NeverStarts, never_exits}
 use Rattle.sv_core_laws.proofs.Moving.{acts, met, spawn_begun, spawn_begun_as, start_met}

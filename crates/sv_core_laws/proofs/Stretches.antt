@@ -47,13 +47,13 @@ use Rattle.sv_core_laws.proofs.Tries.{AreFew, Leads, begun, count_by, leads_on, 
 use Rattle.sv_core_laws.proofs.Walk.{kept_after}
 use Rattle.sv_core_laws.specs.LinkHistory.{LinkEntry, entry_orders}
 use Rattle.sv_core_laws.specs.Stretch.{AllTryFewTimes, ChildrenTryFewTimes, TryFewTimes}
-use Rattle.sv_facts.specs.EdgeFacts.{pid_at}
+use Rattle.sv_children.specs.EdgeFacts.{pid_at}
 use Rattle.sv_groups.specs.StartOrder.{pairs_of, processes}
 use Rattle.sv_links.specs.LinkBook.{LinkRecord}
 use Rattle.sv_out.specs.declared.input.Input.{Input}
 use Rattle.sv_out.specs.declared.order.Order.{Order}
 use Rattle.sv_out.specs.declared.order.Order.TheVariants as order
-use Rattle.sv_pools.specs.Listeners.{hand_orders}
+use Rattle.sv_pool.specs.Listeners.{hand_orders}
 
 -- ---- the edges among what is told
 

@@ -18,8 +18,8 @@ use Rattle.sv_children.specs.Crew.{Crew}
 use Rattle.sv_children.specs.Orders.{reports_at, reports_of}
 use Rattle.sv_children.specs.Reported.{edge_told, edges_told}
 use Rattle.sv_events.specs.declared.fact.Fact.{Fact}
-use Rattle.sv_files.specs.Logging.{log_orders, order_of, orders_if, plan_as}
-use Rattle.sv_files.specs.Sizes.{Sizes, size_in}
+use Rattle.sv_logs.specs.Logging.{log_orders, order_of, orders_if, plan_as}
+use Rattle.sv_logs.specs.Sizes.{Sizes, size_in}
 use Rattle.sv_groups.specs.StartOrder.{pairs_of}
 use Rattle.sv_logs.specs.Rotation.{orders_of}
 use Rattle.sv_out.specs.declared.order.Order.{Order}
@@ -27,9 +27,9 @@ use Rattle.sv_out.specs.declared.order.Order.TheVariants as order
 use Rattle.sv_pool.specs.declared.taken.Dropped.{Dropped}
 use Rattle.sv_pool.specs.declared.taken.Taken.{Taken}
 use Rattle.sv_pool.specs.PoolLists.{dropped_for_room}
-use Rattle.sv_pools.specs.EventPools.{EventPool, EventPools}
-use Rattle.sv_pools.specs.Listeners.{front_written, hand_orders, is_holding, may_get, orders_to, rejection_reports, reports_of_rejection, written}
-use Rattle.sv_pools.specs.Offers.{drop_report, event_of, offer_reports, reports_of_offer, room_reports, takes}
+use Rattle.sv_pool.specs.EventPools.{EventPool, EventPools}
+use Rattle.sv_pool.specs.Listeners.{front_written, hand_orders, is_holding, may_get, orders_to, rejection_reports, reports_of_rejection, written}
+use Rattle.sv_pool.specs.Offers.{drop_report, event_of, offer_reports, reports_of_offer, room_reports, takes}
 use Rattle.std.specs.Prelude.{slice_get}
 
 -- these orders report nothing of any child

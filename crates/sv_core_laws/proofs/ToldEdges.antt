@@ -10,8 +10,8 @@ use Rattle.sv_core.specs.Moves.{goes_edges}
 use Rattle.sv_core.specs.World.{World}
 use Rattle.sv_core_laws.proofs.Reported.{adds_follow, no_reports, noted, offered_if}
 use Rattle.sv_core_laws.proofs.Told.{IsSilent, reports_more, reports_skip}
-use Rattle.sv_facts.specs.EdgeFacts.{fact_at, kind_of}
-use Rattle.sv_lines.specs.EdgeLines.{line_at}
+use Rattle.sv_children.specs.EdgeFacts.{fact_at, kind_of}
+use Rattle.sv_children.specs.Lines.EdgeLines.{line_at}
 use Rattle.sv_out.specs.declared.order.Order.{Order}
 
 -- the reports of a child's edges, with those of what their events drop between them, tell the same

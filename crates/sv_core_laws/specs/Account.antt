@@ -15,9 +15,9 @@ use Rattle.sv_out.specs.declared.order.Order.TheVariants as order
 use Rattle.sv_pool.specs.Account.{IsAccount}
 use Rattle.sv_pool.specs.PoolLists.{report}
 use Rattle.sv_pool.specs.declared.taken.Dropped.{Dropped}
-use Rattle.sv_pools.specs.EventPools.{EventPool, EventPools, opening}
-use Rattle.sv_pools.specs.Listeners.{acknowledges, hand_orders, handed, rejection_reports, rejects}
-use Rattle.sv_pools.specs.Offers.{offer_reports, offered}
+use Rattle.sv_pool.specs.EventPools.{EventPool, EventPools, opening}
+use Rattle.sv_pool.specs.Listeners.{acknowledges, hand_orders, handed, rejection_reports, rejects}
+use Rattle.sv_pool.specs.Offers.{offer_reports, offered}
 
 -- the report of an event that the pool of this group dropped, if the order is one
 abbrev pub drop_told : List ℕ → Order → List Dropped

@@ -4,8 +4,8 @@
 use Rattle.std.specs.Prelude.{◌≡◌, ◌++◌, ◌∷◌, ℕ, List, [], Bool, true, false, Option, Some, None}
 use Rattle.std.specs.Prelude.{filter, is_some, slice_get, if◌then◌else◌}
 use Rattle.std.specs.List.{list_any}
-use Rattle.sv_answers.specs.Served.{said}
-use Rattle.sv_answers.specs.declared.sent.Sent.{Sent}
+use Rattle.sv_calls.specs.Answers.Served.{said}
+use Rattle.sv_calls.specs.declared.answers.sent.Sent.{Sent}
 use Rattle.sv_base.specs.declared.config.Config.{Config}
 use Rattle.sv_base.specs.declared.ids.ChildId.{ChildId}
 use Rattle.sv_base.specs.declared.ids.LinkId.{LinkId}

@@ -1,3 +1,4 @@
+pub mod Bodies
 pub mod Account
 pub mod CallHistory
 pub mod HaltReplies

@@ -3,8 +3,8 @@
 use Rattle.std.specs.Prelude.{◌≡◌, ℕ, List, Bool, true, false, filter}
 use Rattle.sv_base.specs.declared.config.Config.{Config}
 use Rattle.sv_core.specs.MachineState.{Model, now}
-use Rattle.sv_files.specs.LogDeeds.{LogDeed, all_orders, all_sizes}
-use Rattle.sv_files.specs.Opening.{opening_sizes}
+use Rattle.sv_logs.specs.LogDeeds.{LogDeed, all_orders, all_sizes}
+use Rattle.sv_logs.specs.Opening.{opening_sizes}
 use Rattle.sv_out.specs.declared.order.Order.{Order}
 use Rattle.sv_out.specs.declared.order.Order.TheVariants as order
 

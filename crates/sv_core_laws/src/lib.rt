@@ -2,6 +2,8 @@
 //! `sv_core`, which its machine keeps.
 #![tactic(auto)]
 
+pub mod bodies;
+
 ghost use Rattle.std.specs.Prelude.{◌≡◌, ◌≤◌, List, ℕ, IfSome, true};
 ghost use Rattle.sv_base.specs.declared.config.Config.{Config};
 ghost use Rattle.sv_base.specs.declared.config.Host.{Host};
@@ -54,7 +56,7 @@ pub fn each_event_is_accounted_for(config: &Config)
 
 /// Whatever the machine is told, its orders about files are those of pieces that were logged, each to its log, and of files that
 /// were cleared for a client or weren't there, one after the other, where the first known sizes are those that were told, and 0
-/// for each further log file of the configuration. `sv_files` says what these make of the files.
+/// for each further log file of the configuration. `sv_logs::files` says what these make of the files.
 pub fn each_log_has_a_history()
     ensures { (config : Config) (sizes : List (List ℕ × ℕ)) (host : Host) (inputs : List Input) →
         LogsHaveAHistory config sizes (after (opening config sizes host) inputs)

@@ -8,17 +8,17 @@ use Rattle.sv_ctl.specs.Controls.{Answers, ComesTo, Converses, Refuses}
 use Rattle.sv_ctl.specs.Refusals.{refusal_told}
 use Rattle.sv_ctl.specs.Serving.{Freely, Serves}
 use Rattle.sv_ctl.specs.declared.refusal.Refusal.{Refusal}
-use Rattle.sv_options.specs.Span.{command_in, options_in}
+use Rattle.sv_ctl.specs.Span.{command_in, options_in}
 use Rattle.sv_out.specs.Files.{Files}
 use Rattle.sv_out.specs.declared.connection.Exchange.{Exchange}
 use Rattle.sv_out.specs.Written.{AppendsFront}
-use Rattle.sv_talk.specs.Conversation.{command_said, stops}
-use Rattle.sv_talk.specs.Courses.{IsLost, IsSayable, IsUnprinted, number}
-use Rattle.sv_talk.specs.Doings.{Comes, Says}
-use Rattle.sv_talk.specs.Hearings.{Talks}
-use Rattle.sv_talk.specs.declared.course.Course.{Course}
-use Rattle.sv_talk.specs.declared.course.Course.TheVariants.{On, Broken, Quit, Lost, NoMemory, Unprinted}
-use Rattle.sv_talk.specs.declared.server.Server.{Server}
+use Rattle.sv_ctl.specs.Talk.Conversation.{command_said, stops}
+use Rattle.sv_ctl.specs.Talk.Courses.{IsLost, IsSayable, IsUnprinted, number}
+use Rattle.sv_ctl.specs.Talk.Doings.{Comes, Says}
+use Rattle.sv_ctl.specs.Talk.Hearings.{Talks}
+use Rattle.sv_ctl.specs.declared.talk.course.Course.{Course}
+use Rattle.sv_ctl.specs.declared.talk.course.Course.TheVariants.{On, Broken, Quit, Lost, NoMemory, Unprinted}
+use Rattle.sv_ctl.specs.declared.talk.server.Server.{Server}
 
 pub comes_to_server : (words options command : List (List ℕ)) (host : Host) (files : Option Files)
     (before after : Option (List Exchange)) (left left_after old new : Option (List ℕ)) (server : Server) (result : Course)

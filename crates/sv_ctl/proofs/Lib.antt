@@ -1,2 +1,5 @@
+mod AskLemmas
+mod Values
 mod Answering
 mod Free
+mod TalkLemmas

@@ -3,18 +3,18 @@ use Rattle.std.specs.Prelude.{◌≡◌, ◌∷◌, ℕ, List, [], Option, Resul
 use Rattle.std.specs.Io.KnownBytes.{Appends}
 use Rattle.std.specs.Option.{ForSome}
 use Rattle.sv_base.specs.declared.config.Host.{Host}
-use Rattle.sv_talk.specs.Conversation.{command_said, stops}
-use Rattle.sv_talk.specs.Courses.{number}
-use Rattle.sv_talk.specs.Doings.{Comes}
-use Rattle.sv_talk.specs.Hearings.{Talks}
+use Rattle.sv_ctl.specs.Talk.Conversation.{command_said, stops}
+use Rattle.sv_ctl.specs.Talk.Courses.{number}
+use Rattle.sv_ctl.specs.Talk.Doings.{Comes}
+use Rattle.sv_ctl.specs.Talk.Hearings.{Talks}
 use Rattle.sv_ctl.specs.Refusals.{refusal_told}
 use Rattle.sv_ctl.specs.Serving.{Freely, Serves}
-use Rattle.sv_talk.specs.declared.course.Course.{Course}
-use Rattle.sv_talk.specs.declared.course.Course.TheVariants.{NoMemory, Unprinted}
+use Rattle.sv_ctl.specs.declared.talk.course.Course.{Course}
+use Rattle.sv_ctl.specs.declared.talk.course.Course.TheVariants.{NoMemory, Unprinted}
 use Rattle.sv_ctl.specs.declared.refusal.Refusal.{Refusal}
 use Rattle.sv_ctl.specs.declared.refusal.Refusal.TheVariants.{OutOfMemory}
-use Rattle.sv_talk.specs.declared.server.Server.{Server}
-use Rattle.sv_options.specs.Span.{command_in, options_in}
+use Rattle.sv_ctl.specs.declared.talk.server.Server.{Server}
+use Rattle.sv_ctl.specs.Span.{command_in, options_in}
 use Rattle.sv_out.specs.Files.{Files}
 use Rattle.sv_out.specs.Written.{AppendsFront}
 use Rattle.sv_out.specs.declared.connection.Exchange.{Exchange}

@@ -3,11 +3,11 @@ use Rattle.std.specs.Prelude.{◌++◌, ◌∷◌, ℕ, List, [], codes}
 use Rattle.sv_base.specs.Ascii.{line_feed}
 use Rattle.sv_commands.specs.declared.status.Status.TheVariants as status
 use Rattle.sv_sections.specs.FaultTexts.{fault_text}
-use Rattle.sv_talk.specs.declared.course.Course.TheVariants.{On, Lost, NoMemory}
+use Rattle.sv_ctl.specs.declared.talk.course.Course.TheVariants.{On, Lost, NoMemory}
 use Rattle.sv_ctl.specs.declared.refusal.Refusal.{Refusal}
 use Rattle.sv_ctl.specs.declared.refusal.Refusal.TheVariants.{Words, Missing, Conf, Unreadable}
 use Rattle.sv_ctl.specs.declared.refusal.Refusal.TheVariants.{OutOfMemory}
-use Rattle.sv_talk.specs.declared.told.Told.{Told}
+use Rattle.sv_ctl.specs.declared.talk.told.Told.{Told}
 
 -- a line of these words and this name
 abbrev pub line_with : List ℕ → List ℕ → List ℕ

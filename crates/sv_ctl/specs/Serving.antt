@@ -1,6 +1,6 @@
 -- The server that is asked, by the client's options and the configuration that they name.
 use Rattle.std.specs.Prelude.{◌≡◌, ℕ, List, [], Option, Some, None, Result, Ok, Err, codes}
-use Rattle.sv_ask.specs.ServerUrl.{place_of}
+use Rattle.sv_ctl.specs.Ask.ServerUrl.{place_of}
 use Rattle.sv_base.specs.declared.config.ClientSpec.{ClientSpec}
 use Rattle.sv_base.specs.declared.config.Host.{Host}
 use Rattle.sv_base.specs.declared.config.Place.{Place}
@@ -8,13 +8,13 @@ use Rattle.sv_load.specs.Loading.{Loads}
 use Rattle.sv_load.specs.declared.fault.LoadFault.{LoadFault}
 use Rattle.sv_load.specs.declared.fault.LoadFault.TheVariants as load
 use Rattle.sv_load.specs.declared.loading.Loaded.{Loaded}
-use Rattle.sv_options.specs.Options.{options_of}
-use Rattle.sv_options.specs.declared.options.Options.{Options}
+use Rattle.sv_ctl.specs.Options.{options_of}
+use Rattle.sv_ctl.specs.declared.options.Options.{Options}
 use Rattle.sv_out.specs.Files.{Files}
 use Rattle.sv_ctl.specs.declared.refusal.Refusal.{Refusal}
 use Rattle.sv_ctl.specs.declared.refusal.Refusal.TheVariants.{Words, Missing, Conf, Unreadable}
 use Rattle.sv_ctl.specs.declared.refusal.Refusal.TheVariants.{OutOfMemory}
-use Rattle.sv_talk.specs.declared.server.Server.{Server}
+use Rattle.sv_ctl.specs.declared.talk.server.Server.{Server}
 
 -- this holds of what is given, or memory was refused
 abbrev pub Freely : {A : Type 0} → (Result A Refusal → Type 0) → Result A Refusal → Type 0

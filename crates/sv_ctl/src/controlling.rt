@@ -1,20 +1,20 @@
 //! The call of the program.
 ghost use Rattle.std.specs.Prelude.{◌≡◌, ◌≤◌, ◌⊎◌};
 ghost use Rattle.sv_out.specs.Faults.{RisesWhere, Rose};
-ghost use Rattle.sv_options.specs.Span.{command_in};
+ghost use Rattle.sv_ctl.specs.Span.{command_in};
 ghost use Rattle.sv_ctl.specs.Controls.{ComesTo, Controls, Converses, Refuses};
-ghost use Rattle.sv_talk.specs.Courses.{IsLost, IsUnprinted};
+ghost use Rattle.sv_ctl.specs.Talk.Courses.{IsLost, IsUnprinted};
 ghost use Rattle.sv_ctl.specs.Serving.{IsUnreadable};
 
+use crate::parted;
 use crate::refusal::{Refusal, refusal_told};
 use crate::serving::server_of;
+use crate::talk::{Course, Server, run_command, say, talk};
 use std::alloc::Global;
 use sv_base::{Host, Text};
-use sv_options::parted;
 use sv_out::sink::Sink;
 use sv_out::source::Source;
 use sv_out::{Dial, Shelf};
-use sv_talk::{Course, Server, run_command, say, talk};
 
 /// Does what the words of the client ask for, those after the program's name: one command, or those of the lines of the
 /// input. Answers the status:

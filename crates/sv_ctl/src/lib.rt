@@ -2,9 +2,15 @@
 //! prints of the answers.
 #![tactic(auto)]
 
+pub mod ask;
 pub mod controlling;
+pub mod options;
 pub mod refusal;
 mod serving;
+mod span;
+pub mod talk;
 
 pub use controlling::control;
+pub use options::{Options, options_of};
 pub use refusal::Refusal;
+pub use span::parted;

@@ -1,14 +1,14 @@
 //! Why there is no conversation.
 ghost use Rattle.std.specs.Prelude.{◌≡◌, ◌++◌, IfOk};
 ghost use Rattle.sv_ctl.specs.Refusals.{line_with, refusal_told, refused};
-ghost use Rattle.sv_talk.specs.Courses.{IsLost, IsSayable};
+ghost use Rattle.sv_ctl.specs.Talk.Courses.{IsLost, IsSayable};
 ghost use Rattle.sv_ctl.specs.Serving.{IsUnreadable};
 
+use crate::talk::{Course, Told};
 use std::alloc::{AllocError, Global};
 use sv_base::{Bytes, Text};
 use sv_commands::Status;
 use sv_sections::ConfFault;
-use sv_talk::{Course, Told};
 
 /// Why there is no server to ask.
 #[derive(Debug, Drop)]

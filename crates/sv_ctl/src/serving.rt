@@ -2,19 +2,19 @@
 ghost use Rattle.std.specs.Prelude.{◌≡◌, ◌≤◌};
 ghost use Rattle.std.specs.Option.{ForSome};
 ghost use Rattle.sv_out.specs.Faults.{RisesWhere};
-ghost use Rattle.sv_ask.specs.ServerUrl.{place_of};
+ghost use Rattle.sv_ctl.specs.Ask.ServerUrl.{place_of};
 ghost use Rattle.sv_load.specs.Loading as load;
 ghost use Rattle.sv_ctl.specs.Serving.{EndsUnreadable, Freely, Reads, Serves, chosen, client_in};
 ghost use Rattle.sv_ctl.specs.Serving.{default_client, server_at, with_options};
 
+use crate::ask::place_of;
 use crate::refusal::Refusal;
+use crate::talk::Server;
+use crate::{Options, options_of};
 use std::alloc::Global;
-use sv_ask::place_of;
 use sv_base::{ClientSpec, Host, Text};
 use sv_load::{LoadFault, Loaded, load};
-use sv_options::{Options, options_of};
 use sv_out::Shelf;
-use sv_talk::Server;
 
 /// The server that the words of the options name, with the configuration that they name.
 #[tactic(auto, using(crate::proofs::Free::freely_from, crate::proofs::Free::freely))]

@@ -6,8 +6,8 @@ use crate::replies::one_call;
 use std::alloc::Global;
 use std::collections::VecDeque;
 use std::process::Abort;
-use sv_ask::{AskFault, ask_server, host_of, place_of};
 use sv_base::{ClientSpec, Place, Text};
+use sv_ctl::ask::{AskFault, ask_server, host_of, place_of};
 use sv_out::{Script, ScriptDial};
 use sv_xmlcall::{Answered, Call, Value};
 

@@ -1,4 +1,4 @@
-//! The tests of `sv_ask` and `sv_ctl`: calls and conversations over dials in memory, worked by hand. A crate of their own, so
+//! The tests of `sv_ctl::ask` and `sv_ctl`: calls and conversations over dials in memory, worked by hand. A crate of their own, so
 //! that these are proved once and not a second time with their tests.
 #![tactic(auto)]
 

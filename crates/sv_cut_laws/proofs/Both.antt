@@ -1,9 +1,9 @@
 -- A turn goes on in the same way whatever orders were given before it.
 use Rattle.std.proofs.Common.{◌≡◌, ℕ, zero, suc, pos, ◌+◌, ◌++◌, List, [], ◌∷◌, Bool, true, false, Option, Some, None, if◌then◌else◌, ◌∙◌, refl, ap, sym, subst}
 use Rattle.std.specs.Prelude.{◌-◌, length, nat_le, slice_get}
-use Rattle.sv_answers.specs.Served.{Request as Asked, Refuses as Refused_by, Calls as Asks, heard as ask_heard, is_several, no_parts, parts_in, reads_back, said, subject_of}
-use Rattle.sv_answers.specs.declared.read.LogRead.{LogRead}
-use Rattle.sv_answers.specs.declared.sent.Sent.{Sent}
+use Rattle.sv_calls.specs.Answers.Served.{Request as Asked, Refuses as Refused_by, Calls as Asks, heard as ask_heard, is_several, no_parts, parts_in, reads_back, said, subject_of}
+use Rattle.sv_calls.specs.declared.answers.read.LogRead.{LogRead}
+use Rattle.sv_calls.specs.declared.answers.sent.Sent.{Sent}
 use Rattle.sv_base.specs.declared.ids.LinkId.{LinkId}
 use Rattle.sv_base.specs.declared.ids.Run.{Run}
 use Rattle.sv_base.specs.declared.kind.Kind.TheVariants as kind
@@ -48,7 +48,7 @@ use Rattle.sv_events.specs.declared.fact.Fact.TheVariants as fact
 use Rattle.sv_groups.specs.declared.order.Span.{Span}
 use Rattle.sv_http.specs.declared.ask.Ask.{Ask as Request}
 use Rattle.sv_http.specs.declared.guard.Guard.{Guard}
-use Rattle.sv_lines.specs.EdgeLines.{how_of, killing_at}
+use Rattle.sv_children.specs.Lines.EdgeLines.{how_of, killing_at}
 use Rattle.sv_links.specs.LinkBook as link_book
 use Rattle.sv_links.specs.LinkBook.{LinkRecord}
 use Rattle.sv_links.specs.LinkBook.Ending.{Ended, Closed}

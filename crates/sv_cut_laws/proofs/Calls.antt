@@ -2,9 +2,9 @@
 use Rattle.std.proofs.Common.{◌≡◌, ◌==◌, ◌⊎◌, inl, inr, ℕ, pos, zero, suc, List, [], ◌∷◌, Bool, true, false, Option, Some, None, if◌then◌else◌, drop, length, arith, ◌∙◌, refl, ap, sym, subst}
 use Rattle.std.specs.Prelude.{slice_get}
 use Rattle.std.proofs.lemmas.Bool.{eq-eqb}
-use Rattle.sv_answers.specs.Served.{said, subject_of}
-use Rattle.sv_answers.specs.declared.read.LogRead.{LogRead}
-use Rattle.sv_answers.specs.declared.sent.Sent.{Sent}
+use Rattle.sv_calls.specs.Answers.Served.{said, subject_of}
+use Rattle.sv_calls.specs.declared.answers.read.LogRead.{LogRead}
+use Rattle.sv_calls.specs.declared.answers.sent.Sent.{Sent}
 use Rattle.sv_base.specs.declared.ids.LinkId.{LinkId}
 use Rattle.sv_calls.specs.CallBook as call_book
 use Rattle.sv_calls.specs.CallBook.{AnswerTree, CallBook, CallRecord, SeveralRecord, TaskRecord, acting, acts, answer_at, answer_of, answered, begins_part, call_at, changed_at, end_at, end_of, free_parts, is_answered, new_call, new_several, part_at, part_taken, parts_left, request_at, request_of, request_taken, takes_part, takes_request, task_of, waiting_of}
@@ -24,7 +24,7 @@ use Rattle.sv_cut_laws.proofs.Wishes.Quiet.{quiet, loud}
 use Rattle.sv_links.specs.LinkBook.{LinkRecord, answered as replied_to, is_sent}
 use Rattle.sv_methods.specs.MethodTable.{planned}
 use Rattle.sv_methods.specs.Outcomes as planned_is
-use Rattle.sv_waits.specs.Waits.{answer, waits}
+use Rattle.sv_calls.specs.Waits.{answer, waits}
 use Rattle.sv_methods.specs.declared.planned.Request.{Request as Wish}
 use Rattle.sv_methods.specs.declared.planned.Request.TheVariants as wish
 use Rattle.sv_methods.specs.declared.planned.Waiting.{Waiting}

@@ -15,9 +15,9 @@ use Rattle.sv_cut_laws.proofs.Both.{as_they_are, later, to}
 use Rattle.sv_cut_laws.proofs.Loud.{IsNatural, Loud, loud_at}
 use Rattle.sv_cut_laws.proofs.Past.{edges_past, notes_past, offers_if_past}
 use Rattle.sv_cut_laws.proofs.Turns.{IsLater, of_questions}
-use Rattle.sv_facts.specs.EdgeFacts.{fact_at, kind_of, pid_at}
+use Rattle.sv_children.specs.EdgeFacts.{fact_at, kind_of, pid_at}
 use Rattle.sv_groups.specs.StartOrder.{pairs_of}
-use Rattle.sv_lines.specs.EdgeLines.{line_at}
+use Rattle.sv_children.specs.Lines.EdgeLines.{line_at}
 use Rattle.sv_out.specs.declared.order.Order.{Order}
 use Rattle.sv_out.specs.declared.order.Order.TheVariants as order
 

@@ -43,16 +43,16 @@ use Rattle.sv_cut_laws.proofs.Both.{turn_both}
 use Rattle.sv_cut_laws.proofs.Handing.{IsFollowed}
 use Rattle.sv_cut_laws.proofs.Handing.IsFollowed.{runs, over, waits}
 use Rattle.sv_cut_laws.proofs.Tells.{Tells, are_plain, plain_both, plain_report, tells_each, tells_note, tells_offer_if}
-use Rattle.sv_facts.specs.EdgeFacts.{fact_at, kind_of, pid_at}
+use Rattle.sv_children.specs.EdgeFacts.{fact_at, kind_of, pid_at}
 use Rattle.sv_groups.specs.StartOrder.{span_of}
-use Rattle.sv_lines.specs.EdgeLines.{line_at}
+use Rattle.sv_children.specs.Lines.EdgeLines.{line_at}
 use Rattle.sv_links.specs.LinkBook.{open_links}
 use Rattle.sv_out.specs.declared.input.Input.{Input}
 use Rattle.sv_out.specs.declared.order.Order.{Order}
 use Rattle.sv_pool.specs.PoolLists.{dropped_for_room}
-use Rattle.sv_pools.specs.EventPools.{EventPool}
-use Rattle.sv_pools.specs.Listeners.{holds, is_holding, rejection_reports, rejects, reports_of_rejection}
-use Rattle.sv_pools.specs.Offers.{room_reports}
+use Rattle.sv_pool.specs.EventPools.{EventPool}
+use Rattle.sv_pool.specs.Listeners.{holds, is_holding, rejection_reports, rejects, reports_of_rejection}
+use Rattle.sv_pool.specs.Offers.{room_reports}
 use Rattle.sv_runs.specs.RunBook.{living, lost, stdin_lost}
 
 -- ---- what keeps the daemon's course

@@ -20,8 +20,8 @@ use Rattle.sv_out.specs.declared.order.Order.TheVariants as order
 use Rattle.sv_pool.specs.Account.{may_take}
 use Rattle.sv_pool.specs.PoolLists.{Lists, holding, took}
 use Rattle.sv_pool.specs.declared.taken.Taken.{Taken}
-use Rattle.sv_pools.specs.EventPools.{EventPool}
-use Rattle.sv_pools.specs.Listeners.{front_written, hand_orders, handed, handed_by, is_handed, may_get, orders_to, written}
+use Rattle.sv_pool.specs.EventPools.{EventPool}
+use Rattle.sv_pool.specs.Listeners.{front_written, hand_orders, handed, handed_by, is_handed, may_get, orders_to, written}
 use Rattle.sv_runs.specs.RunBook.{sent}
 
 -- ---- one listener

@@ -1,8 +1,8 @@
 -- A turn keeps the runs of the children: each that is STARTING, RUNNING or STOPPING has one when the turn ends, whatever is answered.
 use Rattle.std.proofs.Common.{◌≡◌, ℕ, zero, suc, pos, ◌+◌, ◌||◌, List, [], ◌∷◌, Bool, true, false, Option, Some, None, if◌then◌else◌, ◌∙◌, refl, ap, sym, subst}
 use Rattle.std.specs.Prelude.{◌-◌, codes, is_some, length, nat_le, slice_get}
-use Rattle.sv_answers.specs.Served.{Request as Asked, Refuses as Refused_by, Calls as Asks, heard as ask_heard, is_several, no_parts, parts_in, reads_back, said, subject_of}
-use Rattle.sv_answers.specs.declared.read.LogRead.{LogRead}
+use Rattle.sv_calls.specs.Answers.Served.{Request as Asked, Refuses as Refused_by, Calls as Asks, heard as ask_heard, is_several, no_parts, parts_in, reads_back, said, subject_of}
+use Rattle.sv_calls.specs.declared.answers.read.LogRead.{LogRead}
 use Rattle.sv_base.specs.declared.ids.LinkId.{LinkId}
 use Rattle.sv_base.specs.declared.ids.Run.{Run}
 use Rattle.sv_base.specs.declared.kind.Kind.TheVariants as kind
@@ -50,8 +50,8 @@ use Rattle.sv_events.specs.declared.fact.Fact.TheVariants as fact
 use Rattle.sv_groups.specs.StartOrder.{span_of}
 use Rattle.sv_groups.specs.declared.order.Span.{Span}
 use Rattle.sv_http.specs.declared.ask.Ask.{Ask as Request}
-use Rattle.sv_lines.specs.EdgeLines.{how_of, killing_at}
-use Rattle.sv_lines.specs.declared.line.Line.{Line}
+use Rattle.sv_children.specs.Lines.EdgeLines.{how_of, killing_at}
+use Rattle.sv_children.specs.declared.lines.line.Line.{Line}
 use Rattle.sv_links.specs.LinkBook as link_book
 use Rattle.sv_links.specs.LinkBook.Ending.{Ended}
 use Rattle.sv_methods.specs.MethodTable.{planned}

@@ -36,13 +36,13 @@ use Rattle.sv_core.specs.declared.part.Reply.TheVariants.{Refused}
 use Rattle.sv_events.specs.TickSlice.{tick}
 use Rattle.sv_events.specs.declared.fact.Fact.{Fact}
 use Rattle.sv_events.specs.declared.fact.Fact.TheVariants as fact
-use Rattle.sv_facts.specs.EdgeFacts.{fact_at, kind_of, pid_at}
-use Rattle.sv_files.specs.Logging.{log_orders, logged}
+use Rattle.sv_children.specs.EdgeFacts.{fact_at, kind_of, pid_at}
+use Rattle.sv_logs.specs.Logging.{log_orders, logged}
 use Rattle.sv_groups.specs.StartOrder.{span_of}
 use Rattle.sv_groups.specs.declared.order.Span.{Span}
-use Rattle.sv_lines.specs.EdgeLines.{line_at, spawned_at}
-use Rattle.sv_lines.specs.Written.{written}
-use Rattle.sv_lines.specs.declared.line.Line.{Line}
+use Rattle.sv_children.specs.Lines.EdgeLines.{line_at, spawned_at}
+use Rattle.sv_children.specs.Lines.Written.{written}
+use Rattle.sv_children.specs.declared.lines.line.Line.{Line}
 use Rattle.sv_links.specs.LinkBook.{LinkRecord}
 use Rattle.sv_out.specs.declared.order.Order.{Order}
 use Rattle.sv_out.specs.declared.order.Order.TheVariants as order
@@ -51,11 +51,11 @@ use Rattle.sv_pipes.specs.declared.parts.Part.{Part as Heard}
 use Rattle.sv_pipes.specs.declared.parts.Part.TheVariants as part
 use Rattle.sv_pipes.specs.declared.tokens.Token.{Token}
 use Rattle.sv_pipes.specs.declared.tokens.Token.TheVariants as token
-use Rattle.sv_pools.specs.Listeners.{hand_orders, handed, holds, is_handed, rejection_reports, rejects}
-use Rattle.sv_pools.specs.Offers.{offer_reports, offered}
+use Rattle.sv_pool.specs.Listeners.{hand_orders, handed, holds, is_handed, rejection_reports, rejects}
+use Rattle.sv_pool.specs.Offers.{offer_reports, offered}
 use Rattle.sv_runs.specs.RunBook.{begun, heard, living, lost, new_tokens, pipe_ended, process_ended, sent, stdin_lost, teller}
-use Rattle.sv_streams.specs.StreamBook as output
-use Rattle.sv_streams.specs.declared.owner.Owner.{Owner}
+use Rattle.sv_runs.specs.Streams.StreamBook as output
+use Rattle.sv_runs.specs.declared.streams.owner.Owner.{Owner}
 
 -- the same world, where these orders were given before all others, and the links are others
 abbrev pub past : List Order → (List LinkRecord → List LinkRecord) → World → World

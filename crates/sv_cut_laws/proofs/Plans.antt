@@ -22,7 +22,7 @@ use Rattle.sv_methods.specs.Outcomes.{Outcome, Does, does, refuses}
 use Rattle.sv_methods.specs.Processes.{group_named, info_of, is_running_state, members_of_group, size_of}
 use Rattle.sv_methods.specs.Params.{log_in, numbers_in, text_and_wait_in, text_in, texts_in, wait_in}
 use Rattle.sv_methods.specs.Scenes.{Scene}
-use Rattle.sv_waits.specs.Waits.{is_due, is_due_of, is_waited_for, waits}
+use Rattle.sv_calls.specs.Waits.{is_due, is_due_of, is_waited_for, waits}
 use Rattle.sv_methods.specs.declared.act.Act.{Act}
 use Rattle.sv_methods.specs.declared.act.Act.TheVariants as act
 use Rattle.sv_info.specs.declared.fault.Fault.TheVariants.{NoFile, NotRunning, ShutdownState, UnknownMethod}

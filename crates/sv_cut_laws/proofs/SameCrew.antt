@@ -2,8 +2,8 @@
 use Rattle.std.proofs.Common.{◌≡◌, ℕ, zero, suc, ◌++◌, List, [], ◌∷◌, Bool, true, false, Option, Some, None, if◌then◌else◌, ◌∙◌, refl}
 use Rattle.std.specs.Prelude.{codes}
 use Rattle.std.specs.Str.{bytes_eq}
-use Rattle.sv_answers.specs.declared.sent.Sent.{Sent}
-use Rattle.sv_answers.specs.Served.{said}
+use Rattle.sv_calls.specs.declared.answers.sent.Sent.{Sent}
+use Rattle.sv_calls.specs.Answers.Served.{said}
 use Rattle.sv_base.specs.declared.ids.LinkId.{LinkId}
 use Rattle.sv_base.specs.declared.ids.Run.{Run}
 use Rattle.sv_base.specs.declared.kind.Kind.{Kind}
@@ -44,10 +44,10 @@ use Rattle.sv_cut_laws.proofs.Followed.{all_closed, lost_one, returned, told_cre
 use Rattle.sv_cut_laws.proofs.Tells.{tells_note, tells_offer, tells_offer_if}
 use Rattle.sv_events.specs.declared.fact.Fact.{Fact}
 use Rattle.sv_events.specs.declared.fact.Fact.TheVariants as fact
-use Rattle.sv_facts.specs.EdgeFacts.{fact_at, kind_of, pid_at}
+use Rattle.sv_children.specs.EdgeFacts.{fact_at, kind_of, pid_at}
 use Rattle.sv_http.specs.declared.guard.Guard.{Guard}
-use Rattle.sv_lines.specs.EdgeLines.{line_at, spawned_at}
-use Rattle.sv_lines.specs.declared.line.Line.{Line}
+use Rattle.sv_children.specs.Lines.EdgeLines.{line_at, spawned_at}
+use Rattle.sv_children.specs.declared.lines.line.Line.{Line}
 use Rattle.sv_links.specs.LinkBook as link_book
 use Rattle.sv_out.specs.declared.order.Order.TheVariants as order
 use Rattle.sv_pipes.specs.declared.parts.Part.{Part as Heard}
@@ -55,8 +55,8 @@ use Rattle.sv_pipes.specs.declared.parts.Part.TheVariants as part
 use Rattle.sv_pipes.specs.declared.tokens.Token.{Token}
 use Rattle.sv_pipes.specs.declared.tokens.Token.TheVariants as token
 use Rattle.sv_runs.specs.RunBook.{begun, heard, living, new_tokens, pipe_ended, stdin_lost, teller}
-use Rattle.sv_streams.specs.StreamBook as output
-use Rattle.sv_streams.specs.declared.owner.Owner.{Owner}
+use Rattle.sv_runs.specs.Streams.StreamBook as output
+use Rattle.sv_runs.specs.declared.streams.owner.Owner.{Owner}
 use Rattle.sv_xmlcall.specs.Trees.{Reply as CallReply}
 
 -- the children of the one world are those of the other

@@ -3,7 +3,7 @@ use Rattle.std.proofs.Common.{◌≡◌, ◌==◌, ◌⊎◌, inl, inr, ℕ, zer
 use Rattle.std.proofs.Math.Path.{fun_ext}
 use Rattle.std.specs.Prelude.{is_some, not, slice_get}
 use Rattle.std.proofs.lemmas.Bool.{eqb-true}
-use Rattle.sv_answers.specs.Served.{Request as Asked, Refuses as Refused_by, Calls as Asks, heard as ask_heard, is_several, parts_in, no_parts, said}
+use Rattle.sv_calls.specs.Answers.Served.{Request as Asked, Refuses as Refused_by, Calls as Asks, heard as ask_heard, is_several, parts_in, no_parts, said}
 use Rattle.sv_base.specs.declared.ids.LinkId.{LinkId}
 use Rattle.sv_calls.specs.CallBook as call_book
 use Rattle.sv_calls.specs.CallBook.{AnswerTree, CallBook, CallRecord, SeveralRecord, TaskRecord, are_answered, call_at, end_by, ended, ends, free_parts, is_over, new_call, new_several, parts_free, parts_left, parts_of, task_of, waiting_of}
@@ -21,7 +21,7 @@ use Rattle.sv_cut_laws.proofs.Turns.{IsLater, of_questions}
 use Rattle.sv_cut_laws.specs.IdleCut.{AreFit}
 use Rattle.sv_http.specs.declared.ask.Ask.{Ask as Request}
 use Rattle.sv_links.specs.LinkBook.{LinkRecord, ask_at, ask_of, asks, at_place, begins, changed_at, fed, gets_more, hears, holds_of, is_due, is_open, is_sent, left_at, left_of, link_at, longer, more_given, next_ask, sends, taken, takes, waiting}
-use Rattle.sv_waits.specs.Waits.{answer, waits}
+use Rattle.sv_calls.specs.Waits.{answer, waits}
 use Rattle.sv_multi.specs.Views.{PartTree}
 use Rattle.sv_out.specs.declared.order.Order.{Order}
 use Rattle.sv_xmlcall.specs.Trees.{Reply as Answer}

@@ -15,17 +15,17 @@ use Rattle.sv_events.specs.TickSlice.{slice_of, tick}
 use Rattle.sv_events.specs.declared.event.Event.{Event}
 use Rattle.sv_events.specs.declared.fact.Fact.{Fact}
 use Rattle.sv_events.specs.declared.fact.Fact.TheVariants as fact
-use Rattle.sv_files.specs.Logging.{log_orders, logged, order_of, orders_if, plan_as}
-use Rattle.sv_files.specs.Sizes.{Sizes, size_in}
-use Rattle.sv_lines.specs.Written.{written}
-use Rattle.sv_lines.specs.declared.line.Line.{Line}
+use Rattle.sv_logs.specs.Logging.{log_orders, logged, order_of, orders_if, plan_as}
+use Rattle.sv_logs.specs.Sizes.{Sizes, size_in}
+use Rattle.sv_children.specs.Lines.Written.{written}
+use Rattle.sv_children.specs.declared.lines.line.Line.{Line}
 use Rattle.sv_logs.specs.Rotation.{orders_of}
 use Rattle.sv_out.specs.declared.order.Order.{Order}
 use Rattle.sv_out.specs.declared.order.Order.TheVariants as order
 use Rattle.sv_pool.specs.PoolLists.{dropped_for_room}
 use Rattle.sv_pool.specs.declared.taken.Dropped.{Dropped}
-use Rattle.sv_pools.specs.EventPools.{EventPool, EventPools}
-use Rattle.sv_pools.specs.Offers.{drop_report, event_of, offer_reports, offered, reports_of_offer, room_reports, takes}
+use Rattle.sv_pool.specs.EventPools.{EventPool, EventPools}
+use Rattle.sv_pool.specs.Offers.{drop_report, event_of, offer_reports, offered, reports_of_offer, room_reports, takes}
 
 -- an order that isn't to a link, nor the halt
 abbrev pub is_plain : Order → Bool

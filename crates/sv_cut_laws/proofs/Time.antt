@@ -30,9 +30,9 @@ use Rattle.sv_cut_laws.proofs.HaveRuns.{HaveRuns, has_run}
 use Rattle.sv_cut_laws.proofs.Loud.{IsNatural, Loud, loud_at}
 use Rattle.sv_cut_laws.proofs.Tells.{plain_both, tells_note}
 use Rattle.sv_cut_laws.proofs.Turns.{IsLater, of_questions}
-use Rattle.sv_facts.specs.EdgeFacts.{pid_at}
+use Rattle.sv_children.specs.EdgeFacts.{pid_at}
 use Rattle.sv_groups.specs.StartOrder.{pairs_of}
-use Rattle.sv_lines.specs.EdgeLines.{how_of, killing_at}
+use Rattle.sv_children.specs.Lines.EdgeLines.{how_of, killing_at}
 use Rattle.sv_out.specs.declared.order.Order.{Order}
 use Rattle.sv_out.specs.declared.order.Order.TheVariants as order
 

@@ -34,7 +34,7 @@ use Rattle.sv_groups.specs.Lookup.{found}
 use Rattle.sv_groups.specs.StartOrder.{first_members, members_at, processes}
 use Rattle.sv_groups.specs.declared.lookup.Found.{Found}
 use Rattle.sv_groups.specs.declared.lookup.Found.TheVariants.{One, Group, Nothing}
-use Rattle.sv_lines.specs.EdgeLines.{how_of, killing_at}
+use Rattle.sv_children.specs.Lines.EdgeLines.{how_of, killing_at}
 use Rattle.sv_links.specs.LinkBook.{LinkRecord, busy_links}
 use Rattle.sv_out.specs.declared.order.SpawnOrder.{SpawnOrder}
 

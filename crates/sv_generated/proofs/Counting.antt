@@ -14,9 +14,9 @@ use Rattle.sv_core.specs.declared.machine.Machine.{Machine}
 use Rattle.sv_core.specs.declared.part.Followed.TheVariants as followed
 use Rattle.sv_core.specs.declared.part.Reply.TheVariants.{Started}
 use Rattle.sv_core_laws.proofs.Reported.{all_given}
-use Rattle.sv_generate.specs.Drawn.{HasDrawn, nth_draw}
-use Rattle.sv_generate.specs.declared.draw.Draw.{Draw}
-use Rattle.sv_generate.specs.declared.generated.Generated.{Generated}
+use Rattle.sv_generated.specs.Drawn.{HasDrawn, nth_draw}
+use Rattle.sv_generated.specs.declared.draw.Draw.{Draw}
+use Rattle.sv_generated.specs.declared.generated.Generated.{Generated}
 use Rattle.sv_generated.proofs.Resting.{after_one, answered_hand, deeds_one, draw_accepted, draw_asks_few, few_issued, pid_accepted}
 use Rattle.sv_generated.specs.Counted.{Counted, edges, is_edge, is_kill, is_spawn, kills, spawns}
 use Rattle.sv_generated.specs.Generated.{answered, answers, input_of, inputs_after, process_of, with_draw}

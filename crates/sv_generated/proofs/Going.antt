@@ -37,18 +37,18 @@ use Rattle.sv_core_laws.proofs.Silent.{Silent, added_log, is_apart, moved, no_ha
 use Rattle.sv_events.specs.TickSlice.{tick}
 use Rattle.sv_events.specs.declared.fact.Fact.{Fact}
 use Rattle.sv_events.specs.declared.fact.Fact.TheVariants as fact
-use Rattle.sv_facts.specs.EdgeFacts.{fact_at, kind_of, pid_at}
+use Rattle.sv_children.specs.EdgeFacts.{fact_at, kind_of, pid_at}
 use Rattle.sv_generated.specs.Counted.{is_spawn, spawns}
 use Rattle.sv_groups.specs.StartOrder.{processes}
 use Rattle.sv_groups.specs.declared.order.Span.{Span}
-use Rattle.sv_lines.specs.EdgeLines.{line_at}
-use Rattle.sv_lines.specs.Written.{written}
-use Rattle.sv_lines.specs.declared.line.Line.{Line}
+use Rattle.sv_children.specs.Lines.EdgeLines.{line_at}
+use Rattle.sv_children.specs.Lines.Written.{written}
+use Rattle.sv_children.specs.declared.lines.line.Line.{Line}
 use Rattle.sv_out.specs.declared.order.Order.{Order}
 use Rattle.sv_out.specs.declared.order.Order.TheVariants as order
 use Rattle.sv_out.specs.declared.order.SpawnOrder.{SpawnOrder}
-use Rattle.sv_pools.specs.Listeners.{hand_orders, rejection_reports, rejects}
-use Rattle.sv_pools.specs.Offers.{offer_reports, offered as pools_after}
+use Rattle.sv_pool.specs.Listeners.{hand_orders, rejection_reports, rejects}
+use Rattle.sv_pool.specs.Offers.{offer_reports, offered as pools_after}
 use Rattle.sv_runs.specs.RunBook.{RunBook, living, process_ended}
 
 -- from one world to a later one: so many runs were issued, each by a spawn; the links, what the daemon is about, the

@@ -21,10 +21,10 @@ use Rattle.sv_core.specs.declared.part.Question.TheVariants.{Spawn}
 use Rattle.sv_core.specs.declared.part.Reply.{Reply}
 use Rattle.sv_core.specs.declared.part.Reply.TheVariants.{Started}
 use Rattle.sv_core_laws.proofs.Reported.{all_given}
-use Rattle.sv_generate.specs.Drawn.{nth_draw}
-use Rattle.sv_generate.specs.Generator.{draw_of, program_of, state_after}
-use Rattle.sv_generate.specs.declared.draw.Draw.{Draw}
-use Rattle.sv_generate.specs.declared.draw.Draw.TheVariants as draw
+use Rattle.sv_generated.specs.Drawn.{nth_draw}
+use Rattle.sv_generated.specs.Generator.{draw_of, program_of, state_after}
+use Rattle.sv_generated.specs.declared.draw.Draw.{Draw}
+use Rattle.sv_generated.specs.declared.draw.Draw.TheVariants as draw
 use Rattle.sv_generated.proofs.Asking.{Leads, Plain, few_asked, plain_on}
 use Rattle.sv_generated.specs.Counted.{spawns}
 use Rattle.sv_generated.specs.Generated.{answers, input_of, inputs_after, process_of, program_name, with_draw}

@@ -8,9 +8,9 @@ use Rattle.sv_core.specs.MachineState.{Model, hand}
 use Rattle.sv_core.specs.Sweeps.{Turn}
 use Rattle.sv_core.specs.Sweeps.Turn.{Done, Ask}
 use Rattle.sv_core.specs.declared.part.Reply.TheVariants.{Started}
-use Rattle.sv_generate.specs.Drawn.{nth_draw}
-use Rattle.sv_generate.specs.declared.draw.Draw.{Draw}
-use Rattle.sv_generate.specs.declared.draw.Draw.TheVariants as draw
+use Rattle.sv_generated.specs.Drawn.{nth_draw}
+use Rattle.sv_generated.specs.declared.draw.Draw.{Draw}
+use Rattle.sv_generated.specs.declared.draw.Draw.TheVariants as draw
 use Rattle.sv_generated.specs.Counted.{spawns}
 use Rattle.sv_out.specs.declared.input.Input.{Input}
 use Rattle.sv_out.specs.declared.input.Input.TheVariants as input

@@ -1,3 +1,5 @@
+pub mod Drawn
+pub mod Generator
 pub mod Counted
 pub mod Generated
 pub mod Taken

@@ -2,11 +2,11 @@
 ghost use Rattle.std.specs.Prelude.{◌≡◌, ◌≤◌, ◌+◌, ◌%◌, IfOk};
 ghost use Rattle.sv_generated.specs.Generated.{input_of, process_of, program_name};
 
+use crate::Draw;
 use std::alloc::{AllocError, Global};
 use sv_base::number::Pid;
 use sv_base::state::How;
 use sv_base::text::Text;
-use sv_generate::Draw;
 use sv_out::input::Input;
 
 /// The name of a program: p and three digits.

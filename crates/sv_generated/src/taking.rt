@@ -10,10 +10,10 @@ ghost use Rattle.sv_core.specs.Deeds.{deeds};
 ghost use Rattle.sv_out.specs.declared.input.Input.{Input};
 
 use crate::counts::Counts;
+use crate::generate;
 use crate::inputs::{answer_to, input_of};
 use std::alloc::{AllocError, Global};
 use sv_core::machine::Machine;
-use sv_generate::generate;
 use sv_out::input::Input;
 
 /// At most so many spawns come in a turn: one of each process at a start, and one of each as time goes on.

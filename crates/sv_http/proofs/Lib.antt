@@ -16,3 +16,4 @@ pub mod Held
 pub mod HeadReading
 pub mod AskReading
 pub mod ReplyReading
+mod SendableLemmas

@@ -11,3 +11,4 @@ pub mod ReplyStream
 -- what the readers stand for
 pub mod ReaderPlaces
 pub mod ReplyPlaces
+pub mod Sendable

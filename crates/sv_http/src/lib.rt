@@ -14,6 +14,7 @@ mod line;
 pub mod reader;
 pub mod reply;
 pub mod reply_reader;
+pub mod sendable;
 pub mod sending;
 pub mod status;
 mod verdict;

@@ -3,8 +3,8 @@ use Rattle.std.specs.Prelude.{ℕ, ◌+◌, ◌-◌, ◌/◌, ◌%◌, List, [],
 use Rattle.std.specs.Prelude.{◌==◌, nat_lt, if◌then◌else◌}
 use Rattle.std.specs.Fmt.{decimal}
 use Rattle.sv_base.specs.Ascii.{colon, space}
-use Rattle.sv_dates.specs.Dates.{date_of, two_digits}
-use Rattle.sv_dates.specs.declared.dates.Day.{Day}
+use Rattle.sv_logs.specs.Dates.{date_of, two_digits}
+use Rattle.sv_logs.specs.declared.dates.Day.{Day}
 
 -- H:MM:SS of seconds
 abbrev pub hours_text : ℕ → List ℕ

@@ -3,13 +3,13 @@ ghost use Rattle.std.specs.Prelude.{◌≡◌, ◌+◌, ◌<◌, ◌≤◌, ◌+
 ghost use Rattle.std.specs.Fmt.{decimal};
 ghost use Rattle.sv_info.specs.Times.{clock_text, days_text, half_name, hour_of_twelve, hours_text};
 ghost use Rattle.sv_info.specs.Times.{moment_text, month_name, seconds_since};
-ghost use Rattle.sv_dates.specs.Dates.{two_digits};
+ghost use Rattle.sv_logs.specs.Dates.{two_digits};
 ghost use Rattle.sv_info.specs.Times.{uptime_text};
 
 use itoa::Buffer;
 use std::alloc::AllocError;
 use sv_base::moment::Moment;
-use sv_dates::date_of;
+use sv_logs::date_of;
 
 /// Milliseconds of a day.
 const DAY: u64 = 86_400_000;

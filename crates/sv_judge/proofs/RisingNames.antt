@@ -3,7 +3,7 @@ use Rattle.std.proofs.Common.{◌≡◌, ℕ, suc, ◌-◌, List, [], ◌∷◌,
 use Rattle.std.specs.Prelude.{slice_get}
 use Rattle.std.specs.Cmp.Lexicographic.{slice_cmp}
 use Rattle.std.specs.Ordering.{nat_cmp, is_lt}
-use Rattle.sv_files.specs.Sizes.{rise}
+use Rattle.sv_logs.specs.Sizes.{rise}
 use Rattle.sv_judge.specs.LongHeader.{is_behind}
 
 and_left : (one other : Bool) → (one && other) ≡ true → one ≡ true

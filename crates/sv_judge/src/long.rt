@@ -2,7 +2,7 @@
 ghost use Rattle.std.specs.Prelude.{◌≡◌, ◌↔◌, ◌++◌, ◌∷◌, [], IsTrue, IsSome, IfOk, IfSome, OnErr};
 ghost use Rattle.std.specs.Prelude.{◌≢◌, Err, length};
 ghost use Rattle.sv_conf.specs.Configuration.{configuration_of};
-ghost use Rattle.sv_files.specs.Sizes.{rise};
+ghost use Rattle.sv_logs.specs.Sizes.{rise};
 ghost use Rattle.sv_journal.specs.declared.header.Header.{Header};
 ghost use Rattle.sv_judge.specs.JournalPlaces.{begins, goes_on, long_heads, moved};
 ghost use Rattle.sv_judge.specs.Judging.{JudgedHead};

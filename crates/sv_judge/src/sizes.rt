@@ -1,6 +1,6 @@
 //! The known sizes of log files that a header names.
 ghost use Rattle.std.specs.Prelude.{◌≡◌, ◌++◌, ◌∷◌, [], IsTrue, IfOk};
-ghost use Rattle.sv_files.specs.Sizes.{rise};
+ghost use Rattle.sv_logs.specs.Sizes.{rise};
 ghost use Rattle.sv_judge.specs.LongHeader.{is_behind};
 
 use std::alloc::{AllocError, Global};
@@ -15,7 +15,7 @@ pub struct Sizes {
 
 impl Model for Sizes {
     ghost use Rattle.std.specs.Prelude.{List, ℕ, IsTrue};
-    ghost use Rattle.sv_files.specs.Sizes.{rise};
+    ghost use Rattle.sv_logs.specs.Sizes.{rise};
 
     ghost Value = { List (List ℕ × ℕ) };
 

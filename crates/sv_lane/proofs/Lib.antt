@@ -4,3 +4,4 @@ pub mod Passes
 pub mod Put
 pub mod RuleKept
 pub mod Seated
+pub mod Together

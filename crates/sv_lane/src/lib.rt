@@ -4,14 +4,17 @@
 
 mod finishing;
 mod making;
+mod parts;
 mod poster;
 mod role;
 mod rule;
 mod seats;
 mod steps;
 mod taker;
+mod two;
 
 pub use making::lane;
 pub use poster::Poster;
 pub use seats::Seats;
 pub use taker::Taker;
+pub use two::post_from_two;

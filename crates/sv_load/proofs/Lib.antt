@@ -1,2 +1,3 @@
+pub mod SizesLemmas
 mod Listings
 mod Loads

@@ -1,2 +1,3 @@
+pub mod Sizes
 pub mod Listing
 pub mod Loading

@@ -5,6 +5,7 @@
 mod fault;
 mod listing;
 mod loading;
+pub mod sizes;
 mod texts;
 
 pub use fault::LoadFault;

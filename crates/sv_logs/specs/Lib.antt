@@ -1,3 +1,10 @@
+pub mod Dates
 pub mod MainLine
 pub mod Rotation
 pub mod Spans
+pub mod Carrying
+pub mod LogDeeds
+pub mod Logging
+pub mod Opening
+pub mod Places
+pub mod Sizes

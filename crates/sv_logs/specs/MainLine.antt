@@ -4,8 +4,8 @@ use Rattle.sv_base.specs.Ascii.{colon, comma, hyphen, line_feed, space}
 use Rattle.sv_base.specs.declared.state.Level.{Level}
 use Rattle.sv_base.specs.declared.state.Level.TheVariants.{Blather, Trace, Debug, Info, Warn, Error}
 use Rattle.sv_base.specs.declared.state.Level.TheVariants.{Critical}
-use Rattle.sv_dates.specs.Dates.{date_of, two_digits}
-use Rattle.sv_dates.specs.declared.dates.Day.{Day}
+use Rattle.sv_logs.specs.Dates.{date_of, two_digits}
+use Rattle.sv_logs.specs.declared.dates.Day.{Day}
 
 -- the word for a level
 abbrev pub level_word : Level → List ℕ

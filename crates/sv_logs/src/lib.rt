@@ -6,10 +6,18 @@
 //! exact for every offset and length, and take no memory.
 #![tactic(auto)]
 
+mod carrying;
+pub mod dates;
+pub mod known;
+pub mod laws;
 pub mod line;
+mod opening;
 pub mod plan;
 pub mod spans;
 
+pub use crate::dates::{Day, date_of};
+pub use crate::known::KnownSizes;
+pub use crate::laws::each_file_has_what_was_logged;
 pub use crate::line::main_line;
 pub use crate::plan::LogPlan;
 pub use crate::spans::{BadArguments, SPAN_LIMIT, Span, read_span, tail_span};

@@ -1,15 +1,15 @@
 //! A line of the main log.
 ghost use Rattle.std.specs.Prelude.{◌≡◌, ◌<◌, ◌+◌, ◌++◌, ◌∷◌, [], IfOk, OnOk, length};
-ghost use Rattle.sv_dates.specs.Dates.{IsOfCalendar};
+ghost use Rattle.sv_logs.specs.Dates.{IsOfCalendar};
 ghost use Rattle.sv_logs.specs.MainLine.{level_word, three_digits, four_digits};
-ghost use Rattle.sv_dates.specs.Dates.{two_digits};
+ghost use Rattle.sv_logs.specs.Dates.{two_digits};
 ghost use Rattle.sv_logs.specs.MainLine.{date_text, time_text, main_text};
 
+use crate::{Day, date_of};
 use std::alloc::{AllocError, Global};
 use sv_base::bytes::Bytes;
 use sv_base::moment::Moment;
 use sv_base::state::Level;
-use sv_dates::{Day, date_of};
 
 /// Milliseconds of a day.
 const DAY: u64 = 86_400_000;

@@ -6,7 +6,7 @@ use crate::scenes::{Scene, running, stand};
 use crate::told::waiting;
 use std::alloc::Global;
 use std::process::Abort;
-use sv_waits::check;
+use sv_calls::check;
 use sv_xmlcall::call::Answered;
 
 // Each line is a wait, after `@` the children, and after `=>` the answer, or `waits` while there is none.

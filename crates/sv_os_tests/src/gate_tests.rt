@@ -10,8 +10,7 @@ use std::sync::Wait;
 use std::thread;
 use std::thread::Threads;
 use sv_base::LinkId;
-use sv_gate::{Ready, hand};
-use sv_outside::{Gate, Job, JobWord, PumpEnd};
+use sv_outside::{Gate, Job, JobWord, PumpEnd, Ready, hand};
 use sv_sockets::{
     Errand, LinksAtWork, OsGate, SpareThreads, receive_and_work, receive_and_work_all,
 };

@@ -13,10 +13,10 @@ use std::process::{Abort, ChildStdin};
 use std::sync::Wait;
 use std::{env, fs, io, process};
 use sv_base::{Bytes, How, Items, LinkId, Place, Run, Side, Stream, Text};
-use sv_job_types::{
-    AnyJob, ConsoleJob, ErrPump, LinkJob, LinksJob, NoBoard, OutPump, StdinJob, TickerJob, WatchJob,
+use sv_jobs::{
+    AnyJob, ConsoleJob, ErrPump, LinkJob, LinkWord, LinksJob, NoBoard, Note, OutPump, StdinJob,
+    StdinWord, TickerJob, WatchJob,
 };
-use sv_jobs::{LinkWord, Note, StdinWord};
 use sv_lane::{Poster, Seats, Taker, lane};
 use sv_os::{OsClock, ReadSource, WriteSink};
 use sv_out::order::SpawnOrder;

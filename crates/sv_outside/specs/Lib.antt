@@ -1,3 +1,5 @@
+pub mod Worlds
+pub mod Scripts
 pub mod Told
 pub mod Plans
 pub mod Clocks

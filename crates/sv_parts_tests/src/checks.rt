@@ -6,8 +6,3 @@ use std::process::Abort;
 pub(crate) fn check(rt: &impl Abort, is: bool) {
     assert!(rt; is);
 }
-
-/// Ends the test unless this is so of what it names.
-pub(crate) fn check_of(rt: &impl Abort, is: bool, what: &str) {
-    assert!(rt; is, "{what}");
-}

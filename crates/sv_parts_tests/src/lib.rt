@@ -1,41 +1,12 @@
-//! The tests of `sv_child`, `sv_groups`, `sv_children`, `sv_timers`, `sv_events`, `sv_pool`, `sv_pools`, `sv_dates`, `sv_logs`, `sv_files`,
-//! `sv_facts`, `sv_lines` and `sv_generate`, worked by hand: the parts of which the machine is made. A crate of their own, so that
-//! these are proved once.
+//! The tests of `sv_parts::runs` and `sv_parts::runs`, and of `sv_parts::links` and `sv_parts::links`: runs over a spawner and a gate in memory, and
+//! links over such a gate, worked by hand. A crate of their own, so that these are proved once.
 #![tactic(auto)]
 
 #[cfg(test)]
 mod checks;
 #[cfg(test)]
-mod child_tests;
+mod link_tests;
 #[cfg(test)]
-mod children_tests;
+mod quiet;
 #[cfg(test)]
-mod claims;
-#[cfg(test)]
-mod dates_tests;
-#[cfg(test)]
-mod events_tests;
-#[cfg(test)]
-mod facts_tests;
-#[cfg(test)]
-mod files_tests;
-#[cfg(test)]
-mod generate_tests;
-#[cfg(test)]
-mod groups_tests;
-#[cfg(test)]
-mod lines_tests;
-#[cfg(test)]
-mod logs_tests;
-#[cfg(test)]
-mod one_child;
-#[cfg(test)]
-mod orders;
-#[cfg(test)]
-mod pool_tests;
-#[cfg(test)]
-mod pools_tests;
-#[cfg(test)]
-mod sample;
-#[cfg(test)]
-mod timers_tests;
+mod run_tests;

@@ -1,2 +1,4 @@
 pub mod Held
 pub mod Places
+pub mod Covering
+pub mod Kept

@@ -3,9 +3,13 @@
 #![tactic(auto)]
 
 pub mod account;
+mod group_pool;
 pub mod pool;
+mod pools;
 pub mod taken;
 
 pub use crate::account::{a_rejected_event_is_the_front, each_event_is_in_one_place};
 pub use crate::pool::Pool;
 pub use crate::taken::{Dropped, Taken};
+pub use group_pool::GroupPool;
+pub use pools::Pools;

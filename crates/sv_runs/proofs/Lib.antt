@@ -1,3 +1,4 @@
+pub mod StreamsLemmas
 pub mod Begun
 pub mod Books
 pub mod Changes

@@ -4,5 +4,6 @@
 
 mod open_run;
 mod runs;
+pub mod streams;
 
 pub use runs::Runs;

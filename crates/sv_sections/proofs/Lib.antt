@@ -1,3 +1,4 @@
 pub mod Folds
 pub mod Lookups
 pub mod Places
+pub mod ProgramsLemmas

@@ -4,3 +4,4 @@ pub mod Includes
 pub mod Lookups
 pub mod SectionFaults
 pub mod ServerSections
+pub mod Programs

@@ -6,6 +6,7 @@ pub mod fault;
 pub mod includes;
 mod joined;
 mod keyed;
+pub mod programs;
 pub mod section_faults;
 pub mod sections;
 pub mod server;

@@ -1,12 +1,12 @@
 -- What is read is accepted.
 use Rattle.std.proofs.Common.{◌≡◌, ◌<◌, ◌^◌, ℕ, List, Option, None, Some, Ok, length, sym, ap, ◌∙◌, subst}
-use Rattle.sv_arguments.specs.Arguments.{arguments_of}
-use Rattle.sv_arguments.specs.declared.arguments.Arguments.{Arguments}
+use Rattle.sv_supervise.specs.Arguments.{arguments_of}
+use Rattle.sv_supervise.specs.declared.arguments.Arguments.{Arguments}
 use Rattle.sv_base.specs.declared.config.Host.{Host}
-use Rattle.sv_beginning.specs.Beginnings.{BeginsWith}
-use Rattle.sv_beginning.specs.OneReading.{AreTheSame, IsOnlyReading}
-use Rattle.sv_beginning.specs.declared.beginning.Beginning.{Beginning}
-use Rattle.sv_beginning.proofs.OneReading.{only_reading}
+use Rattle.sv_supervise.specs.Begin.Beginnings.{BeginsWith}
+use Rattle.sv_supervise.specs.Begin.OneReading.{AreTheSame, IsOnlyReading}
+use Rattle.sv_supervise.specs.declared.begin.beginning.Beginning.{Beginning}
+use Rattle.sv_supervise.proofs.BeginLemmas.OneReading.{only_reading}
 use Rattle.sv_core.specs.MachineState.{Model, opening}
 use Rattle.sv_load.specs.declared.loading.Loaded.{Loaded}
 use Rattle.sv_out.specs.Files.{Files}

@@ -2,7 +2,7 @@
 use Rattle.std.proofs.Common.{◌≡◌, Bool, cond, List, [], ◌∷◌, ◌++◌, refl, ap}
 use Rattle.sv_core.specs.Deeds as machine
 use Rattle.sv_core.specs.MachineState.{Model, accepts, next, orders}
-use Rattle.sv_daemon.specs.Rules as daemon
+use Rattle.sv_supervise.specs.MainLoop.Rules as daemon
 use Rattle.sv_out.specs.declared.input.Input.{Input}
 use Rattle.sv_supervise.specs.Machines.{core_rules}
 

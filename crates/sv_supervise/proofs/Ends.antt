@@ -1,20 +1,20 @@
 -- What an end of the loop means for the daemon, and what is known of an outcome.
 use Rattle.std.proofs.Common.{◌≡◌, ◌≤◌, ℕ, List, Some, Ok, Err, inl, inr, refl, sym, subst, arith}
-use Rattle.sv_arguments.specs.Arguments.{arguments_of}
-use Rattle.sv_arguments.specs.declared.arguments.Arguments.{Arguments}
+use Rattle.sv_supervise.specs.Arguments.{arguments_of}
+use Rattle.sv_supervise.specs.declared.arguments.Arguments.{Arguments}
 use Rattle.sv_base.specs.declared.config.Host.{Host}
-use Rattle.sv_beginning.specs.Beginnings.{BeginsWith, IsOfReading, IsUnread}
-use Rattle.sv_beginning.specs.declared.beginning.Beginning.{Beginning}
-use Rattle.sv_daemon.specs.Telling.{Told}
-use Rattle.sv_daemon.specs.declared.serving.End.{End}
-use Rattle.sv_daemon.specs.declared.serving.End.TheVariants as end_is
+use Rattle.sv_supervise.specs.Begin.Beginnings.{BeginsWith, IsOfReading, IsUnread}
+use Rattle.sv_supervise.specs.declared.begin.beginning.Beginning.{Beginning}
+use Rattle.sv_supervise.specs.MainLoop.Telling.{Told}
+use Rattle.sv_supervise.specs.declared.main_loop.serving.End.{End}
+use Rattle.sv_supervise.specs.declared.main_loop.serving.End.TheVariants as end_is
 use Rattle.sv_out.specs.Faults.{Rose}
 use Rattle.sv_out.specs.Files.{Files}
-use Rattle.sv_outcome.specs.declared.outcome.Outcome.{Outcome}
-use Rattle.sv_outcome.specs.declared.outcome.Outcome.TheVariants.{Usage, NoFile, Refused, Unreadable, NoMemory, Unwritten, Halted, WorldFailed, InputEnded, Full, Misplaced}
-use Rattle.sv_record.specs.Begun.{begun as begun_text}
-use Rattle.sv_record.specs.Header.{header_text}
-use Rattle.sv_record.specs.declared.lines.JournalLines.{JournalLines}
+use Rattle.sv_supervise.specs.declared.outcome.Outcome.{Outcome}
+use Rattle.sv_supervise.specs.declared.outcome.Outcome.TheVariants.{Usage, NoFile, Refused, Unreadable, NoMemory, Unwritten, Halted, WorldFailed, InputEnded, Full, Misplaced}
+use Rattle.sv_supervise.specs.Journal.Begun.{begun as begun_text}
+use Rattle.sv_supervise.specs.Journal.Header.{header_text}
+use Rattle.sv_supervise.specs.declared.journal.lines.JournalLines.{JournalLines}
 use Rattle.sv_supervise.specs.Supervising.{ComesTo, Runs, RunsTo, Serves, header_of, lines_of, outcome_of}
 
 -- the header of what was read

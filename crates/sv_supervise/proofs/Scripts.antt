@@ -1,9 +1,9 @@
 -- What is known of inputs that lead to the halt.
 use Rattle.std.proofs.Common.{◌≡◌, ◌<◌, ◌+◌, ◌-◌, ◌^◌, ℕ, Bool, true, false, cond, List, [], ◌∷◌, ◌++◌, length, Option, None, Some, refl, sym, ap, ◌∙◌, subst, arith, append-nil, append_assoc, length-append}
-use Rattle.sv_daemon.specs.Course.{AreTaken, GoesOn, IsRefused}
-use Rattle.sv_daemon.specs.Journal.{Texts}
-use Rattle.sv_daemon.specs.Rules.{Rules, after}
-use Rattle.sv_daemon.specs.Telling.{IsUsedUp, Told, led}
+use Rattle.sv_supervise.specs.MainLoop.Course.{AreTaken, GoesOn, IsRefused}
+use Rattle.sv_supervise.specs.MainLoop.Journal.{Texts}
+use Rattle.sv_supervise.specs.MainLoop.Rules.{Rules, after}
+use Rattle.sv_supervise.specs.MainLoop.Telling.{IsUsedUp, Told, led}
 use Rattle.sv_out.specs.declared.input.Input.{Input}
 
 -- the inputs taken so far, of those that a world had

@@ -1,16 +1,16 @@
 -- What a status tells of the outcome, and what a daemon comes to where nothing fails.
 use Rattle.std.proofs.Common.{◌≡◌, ◌⊎◌, ℕ, List, Option, None, Some, Err, inl, inr, refl, sym, ◌∙◌, subst, arith}
-use Rattle.sv_arguments.specs.Arguments.{arguments_of}
-use Rattle.sv_arguments.specs.declared.arguments.Arguments.{Arguments}
+use Rattle.sv_supervise.specs.Arguments.{arguments_of}
+use Rattle.sv_supervise.specs.declared.arguments.Arguments.{Arguments}
 use Rattle.sv_base.specs.declared.config.Host.{Host}
-use Rattle.sv_beginning.specs.Beginnings.{BeginsWith}
-use Rattle.sv_daemon.specs.Telling.{Told}
+use Rattle.sv_supervise.specs.Begin.Beginnings.{BeginsWith}
+use Rattle.sv_supervise.specs.MainLoop.Telling.{Told}
 use Rattle.sv_out.specs.Faults.{Rose}
 use Rattle.sv_out.specs.Files.{Files}
-use Rattle.sv_outcome.specs.Outcomes.{Tells, status_of}
-use Rattle.sv_outcome.specs.declared.outcome.Outcome.{Outcome}
-use Rattle.sv_outcome.specs.declared.outcome.Outcome.TheVariants.{Usage, NoFile, Refused, Unreadable, NoMemory, Unwritten, Halted, WorldFailed, InputEnded, Full, Misplaced}
-use Rattle.sv_record.specs.Lines.{texts_of}
+use Rattle.sv_supervise.specs.Outcomes.{Tells, status_of}
+use Rattle.sv_supervise.specs.declared.outcome.Outcome.{Outcome}
+use Rattle.sv_supervise.specs.declared.outcome.Outcome.TheVariants.{Usage, NoFile, Refused, Unreadable, NoMemory, Unwritten, Halted, WorldFailed, InputEnded, Full, Misplaced}
+use Rattle.sv_supervise.specs.Journal.Lines.{texts_of}
 use Rattle.sv_supervise.specs.Completeness.{IsAccepted, IsComplete, IsDone, IsDoneOrStopped, LeadsToHalt}
 use Rattle.sv_supervise.specs.Machines.{core_rules}
 use Rattle.sv_supervise.specs.Supervising.{CantBegin, ComesTo, IsMisused, lines_of, machine_of}

@@ -1,12 +1,12 @@
 -- What a daemon comes to where nothing fails.
 use Rattle.std.specs.Prelude.{◌≡◌, ◌⊎◌, ◌<◌, ◌^◌, ℕ, List, None, Some, Option, Err, true, length}
-use Rattle.sv_arguments.specs.Arguments.{arguments_of}
-use Rattle.sv_arguments.specs.declared.arguments.Arguments.{Arguments}
+use Rattle.sv_supervise.specs.Arguments.{arguments_of}
+use Rattle.sv_supervise.specs.declared.arguments.Arguments.{Arguments}
 use Rattle.sv_base.specs.declared.config.Host.{Host}
 use Rattle.sv_sections.specs.declared.fault.ConfFault.{ConfFault}
 use Rattle.sv_core.specs.MachineState.{Model}
-use Rattle.sv_daemon.specs.Course.{AreTaken}
-use Rattle.sv_daemon.specs.Rules.{after}
+use Rattle.sv_supervise.specs.MainLoop.Course.{AreTaken}
+use Rattle.sv_supervise.specs.MainLoop.Rules.{after}
 use Rattle.sv_load.specs.Loading.{Loads}
 use Rattle.sv_load.specs.declared.fault.LoadFault.TheVariants as fault_is
 use Rattle.sv_out.specs.Faults.{Rose}

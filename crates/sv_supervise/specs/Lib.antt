@@ -1,4 +1,9 @@
+pub mod MainLoop
+pub mod Journal
+pub mod Arguments
+pub mod Outcomes
 pub mod Machines
 pub mod Supervising
 pub mod Completeness
 pub mod SameDeeds
+pub mod Begin

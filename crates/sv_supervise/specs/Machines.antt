@@ -2,7 +2,7 @@
 use Rattle.std.specs.Prelude.{Bool}
 use Rattle.sv_core.specs.MachineState.{Model, accepts, next, now, orders}
 use Rattle.sv_core.specs.StandsFor.{StandsFor, is_fitting}
-use Rattle.sv_daemon.specs.Rules.{Rules}
+use Rattle.sv_supervise.specs.MainLoop.Rules.{Rules}
 use Rattle.sv_out.specs.declared.input.Input.{Input}
 use Rattle.sv_supervise.specs.declared.engine.Core.{Core}
 

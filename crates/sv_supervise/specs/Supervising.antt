@@ -1,30 +1,30 @@
 -- What became of a daemon, over a shelf, a world and a journal that tell.
 use Rattle.std.specs.Prelude.{◌≡◌, ◌⊎◌, ℕ, List, Bool, None, Some, Option, Ok, Err, if◌then◌else◌}
 use Rattle.std.specs.Io.KnownBytes.{Appends}
-use Rattle.sv_arguments.specs.Arguments.{arguments_of}
-use Rattle.sv_arguments.specs.declared.arguments.Arguments.{Arguments}
+use Rattle.sv_supervise.specs.Arguments.{arguments_of}
+use Rattle.sv_supervise.specs.declared.arguments.Arguments.{Arguments}
 use Rattle.sv_base.specs.declared.config.Host.{Host}
-use Rattle.sv_beginning.specs.Beginnings.{BeginsWith}
-use Rattle.sv_beginning.specs.declared.beginning.Beginning.{Beginning}
+use Rattle.sv_supervise.specs.Begin.Beginnings.{BeginsWith}
+use Rattle.sv_supervise.specs.declared.begin.beginning.Beginning.{Beginning}
 use Rattle.sv_core.specs.MachineState.{Model, opening}
-use Rattle.sv_daemon.specs.Course.{Stops}
-use Rattle.sv_daemon.specs.Telling.{Told}
-use Rattle.sv_daemon.specs.declared.serving.End.{End}
-use Rattle.sv_daemon.specs.declared.serving.End.TheVariants as end_is
+use Rattle.sv_supervise.specs.MainLoop.Course.{Stops}
+use Rattle.sv_supervise.specs.MainLoop.Telling.{Told}
+use Rattle.sv_supervise.specs.declared.main_loop.serving.End.{End}
+use Rattle.sv_supervise.specs.declared.main_loop.serving.End.TheVariants as end_is
 use Rattle.sv_out.specs.Faults.{Rose}
 use Rattle.sv_out.specs.Files.{Files}
 use Rattle.sv_out.specs.Written.{AppendsFront}
-use Rattle.sv_outcome.specs.Outcomes.{Tells}
-use Rattle.sv_outcome.specs.declared.outcome.Outcome.{Outcome}
-use Rattle.sv_outcome.specs.declared.outcome.Outcome.TheVariants.{Usage, NoFile, Refused}
-use Rattle.sv_outcome.specs.declared.outcome.Outcome.TheVariants.{Unreadable, NoMemory, Unwritten}
-use Rattle.sv_outcome.specs.declared.outcome.Outcome.TheVariants.{Halted, WorldFailed, InputEnded}
-use Rattle.sv_outcome.specs.declared.outcome.Outcome.TheVariants.{Full, Misplaced}
-use Rattle.sv_record.specs.Begun.{begun}
-use Rattle.sv_record.specs.Header.{header_text}
-use Rattle.sv_record.specs.Lines.{texts_of}
-use Rattle.sv_record.specs.declared.lines.JournalLines.{JournalLines}
-use Rattle.sv_record.specs.declared.lines.JournalLines.TheVariants.{Kept, Quiet}
+use Rattle.sv_supervise.specs.Outcomes.{Tells}
+use Rattle.sv_supervise.specs.declared.outcome.Outcome.{Outcome}
+use Rattle.sv_supervise.specs.declared.outcome.Outcome.TheVariants.{Usage, NoFile, Refused}
+use Rattle.sv_supervise.specs.declared.outcome.Outcome.TheVariants.{Unreadable, NoMemory, Unwritten}
+use Rattle.sv_supervise.specs.declared.outcome.Outcome.TheVariants.{Halted, WorldFailed, InputEnded}
+use Rattle.sv_supervise.specs.declared.outcome.Outcome.TheVariants.{Full, Misplaced}
+use Rattle.sv_supervise.specs.Journal.Begun.{begun}
+use Rattle.sv_supervise.specs.Journal.Header.{header_text}
+use Rattle.sv_supervise.specs.Journal.Lines.{texts_of}
+use Rattle.sv_supervise.specs.declared.journal.lines.JournalLines.{JournalLines}
+use Rattle.sv_supervise.specs.declared.journal.lines.JournalLines.TheVariants.{Kept, Quiet}
 use Rattle.sv_supervise.specs.Machines.{core_rules}
 
 -- whether a journal is kept

@@ -1,7 +1,7 @@
 //! The machine, for the loop.
+use crate::main_loop::Engine;
 use std::alloc::{AllocError, Global};
 use sv_core::Machine;
-use sv_daemon::Engine;
 use sv_out::input::Input;
 use sv_out::order::Order;
 

@@ -1,25 +1,24 @@
 //! The daemon's call.
 ghost use Rattle.std.specs.Prelude.{◌≡◌, List, ℕ, IsTrue};
 ghost use Rattle.std.specs.Option.{ForSome};
-ghost use Rattle.sv_files.specs.Sizes.{rise};
+ghost use Rattle.sv_logs.specs.Sizes.{rise};
 ghost use Rattle.sv_out.specs.Faults.{Rose};
-ghost use Rattle.sv_daemon.specs.Telling.{told};
+ghost use Rattle.sv_supervise.specs.MainLoop.Telling.{told};
 ghost use Rattle.sv_supervise.specs.Completeness.{IsAccepted, IsComplete, NoneRose};
 ghost use Rattle.sv_supervise.specs.Supervising.{ComesTo, FailsFor, RunsTo, Supervises, lines_of};
 ghost use Rattle.sv_supervise.specs.Supervising.{outcome_of};
 
+use crate::begin::{Beginning, beginning_of};
 use crate::engine::Core;
+use crate::journal::{HeaderFault, JournalLines};
+use crate::main_loop::{End, serve};
+use crate::{Outcome, arguments_of};
 use std::alloc::Global;
-use sv_arguments::arguments_of;
 use sv_base::{Host, Text};
-use sv_beginning::{Beginning, beginning_of};
 use sv_core::Machine;
-use sv_daemon::{End, serve};
 use sv_out::Shelf;
 use sv_out::sink::Sink;
-use sv_outcome::Outcome;
-use sv_record::{HeaderFault, JournalLines};
-use sv_world::World;
+use sv_outside::World;
 
 /// Runs the daemon: reads the words, the configuration with its includes, and the sizes of all log files that it names;
 /// makes the machine; then takes the next input, steps, and hands each order to the world in order, until it ends. With

@@ -5,8 +5,8 @@ use Rattle.std.specs.List.{flat_map}
 use Rattle.std.specs.Prelude.{if◌then◌else◌, nat_lt, codes}
 use Rattle.sv_base.specs.declared.config.Host.{Host}
 use Rattle.sv_core.specs.MachineState.{Model, accepts, next, orders}
-use Rattle.sv_daemon.specs.Journal.{entry, history, orders_text}
-use Rattle.sv_files.specs.Sizes.{Sizes}
+use Rattle.sv_supervise.specs.MainLoop.Journal.{entry, history, orders_text}
+use Rattle.sv_logs.specs.Sizes.{Sizes}
 use Rattle.sv_journal.specs.JournalLine.{input_line, order_line}
 use Rattle.sv_journal.specs.declared.header.Header.{Header}
 use Rattle.sv_journal.specs.declared.header.Header.TheVariants as header_is
@@ -17,8 +17,8 @@ use Rattle.sv_loop.specs.WholeJournal.Beginning.{Long}
 use Rattle.sv_loop.specs.WholeJournal.Entry.{Told, Given}
 use Rattle.sv_out.specs.declared.input.Input.{Input}
 use Rattle.sv_out.specs.declared.order.Order.{Order}
-use Rattle.sv_record.specs.Header.{env_text, header_text, include_text, size_text, line_text as header_text_line}
-use Rattle.sv_record.specs.Lines.{journal_texts}
+use Rattle.sv_supervise.specs.Journal.Header.{env_text, header_text, include_text, size_text, line_text as header_text_line}
+use Rattle.sv_supervise.specs.Journal.Lines.{journal_texts}
 use Rattle.sv_supervise.specs.Machines.{core_rules}
 use Rattle.sv_supervise_laws.specs.Rerun.{entries_of, told_sizes}
 

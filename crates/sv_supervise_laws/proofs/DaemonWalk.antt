@@ -6,8 +6,8 @@ use Rattle.sv_base.specs.declared.config.Host.{Host}
 use Rattle.sv_conf.specs.Configuration.{configuration_of}
 use Rattle.sv_core.specs.Deeds.{after, deeds}
 use Rattle.sv_core.specs.MachineState.{Model, accepts, next, opening, orders}
-use Rattle.sv_daemon.specs.Course.{AreTaken}
-use Rattle.sv_files.specs.Sizes.{Sizes, rise}
+use Rattle.sv_supervise.specs.MainLoop.Course.{AreTaken}
+use Rattle.sv_logs.specs.Sizes.{Sizes, rise}
 use Rattle.sv_journal.specs.declared.header.Header.TheVariants as header_is
 use Rattle.sv_judge.specs.JournalPlaces.{Line, Stage, Walked, behind, judged, walked, walks_on}
 use Rattle.sv_judge.specs.JournalPlaces.Line.{Head, Said}

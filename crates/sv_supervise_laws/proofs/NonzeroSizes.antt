@@ -12,10 +12,10 @@ use Rattle.std.proofs.lemmas.Slice.Eq.{bytes_eq-Decides}
 use Rattle.sv_base.specs.declared.config.Config.{Config}
 use Rattle.sv_base.specs.declared.spec.GroupSpec.{GroupSpec}
 use Rattle.sv_base.specs.declared.spec.Spec.{Spec}
-use Rattle.sv_files.proofs.Places.{and_left, and_right, both, sized_rises}
-use Rattle.sv_files.specs.Opening.{begins, begins_as, groups_begin, opening_sizes, processes_begin}
-use Rattle.sv_files.specs.Sizes.{Sizes, is_before, is_before_first, rise, size_in, sized, without_first}
-use Rattle.sv_sizes.specs.LogSizes.{group_logs_to, is_log_file, is_name_of, is_one_of, logs_to, name_of}
+use Rattle.sv_logs.proofs.Places.{and_left, and_right, both, sized_rises}
+use Rattle.sv_logs.specs.Opening.{begins, begins_as, groups_begin, opening_sizes, processes_begin}
+use Rattle.sv_logs.specs.Sizes.{Sizes, is_before, is_before_first, rise, size_in, sized, without_first}
+use Rattle.sv_load.specs.Sizes.LogSizes.{group_logs_to, is_log_file, is_name_of, is_one_of, logs_to, name_of}
 use Rattle.sv_supervise_laws.specs.Rerun.{told_sizes}
 
 -- ---- names

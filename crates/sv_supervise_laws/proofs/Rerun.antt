@@ -2,15 +2,15 @@
 use Rattle.std.proofs.Common.{◌≡◌, ℕ, List, [], ◌∷◌, ◌++◌, true, Option, Some, None, Result, Ok, map, refl, sym, ap, subst, ◌∙◌, append_assoc, append-nil}
 use Rattle.std.specs.Io.KnownBytes.{Appends, Consumes, IsAtEnd}
 use Rattle.sv_base.specs.declared.config.Host.{Host}
-use Rattle.sv_beginning.specs.declared.beginning.Beginning.{Beginning}
+use Rattle.sv_supervise.specs.declared.begin.beginning.Beginning.{Beginning}
 use Rattle.sv_conf.specs.Configuration.{configuration_of}
 use Rattle.sv_core.specs.Deeds.{after, deeds}
 use Rattle.sv_core.specs.MachineState.{Model, opening}
-use Rattle.sv_daemon.specs.Course.{AreTaken, Whole}
-use Rattle.sv_daemon.specs.Journal.{history}
-use Rattle.sv_daemon.specs.Telling.{Told}
-use Rattle.sv_files.specs.Opening.{opening_sizes}
-use Rattle.sv_files.specs.Sizes.{Sizes, rise}
+use Rattle.sv_supervise.specs.MainLoop.Course.{AreTaken, Whole}
+use Rattle.sv_supervise.specs.MainLoop.Journal.{history}
+use Rattle.sv_supervise.specs.MainLoop.Telling.{Told}
+use Rattle.sv_logs.specs.Opening.{opening_sizes}
+use Rattle.sv_logs.specs.Sizes.{Sizes, rise}
 use Rattle.sv_loop.proofs.OneReading.{not_empty, plain_line, same_front, same_line}
 use Rattle.sv_judge.specs.JournalPlaces.{Line, AllFit, Stage, Verdict, Walked, behind, judged, journal_text, line_text, order_text, walked, walks_on}
 use Rattle.sv_judge.specs.JournalPlaces.Stage.{Fresh, Running}
@@ -21,12 +21,12 @@ use Rattle.sv_loop.specs.WholeJournal.{entry_lines}
 use Rattle.sv_out.specs.Files.{Files}
 use Rattle.sv_out.specs.declared.input.Input.{Input}
 use Rattle.sv_out.specs.declared.order.Order.{Order}
-use Rattle.sv_record.specs.Header.{header_text}
-use Rattle.sv_record.specs.Lines.{journal_texts, texts_of}
-use Rattle.sv_record.specs.declared.lines.JournalLines.TheVariants.{Kept}
-use Rattle.sv_sizes.proofs.Logs.{names_are, names_rising}
-use Rattle.sv_sizes.specs.LogSizes.{is_log_file, is_one_of, log_files, name_of, sizes_on}
-use Rattle.sv_sizes.specs.declared.fault.SizesFault.{SizesFault}
+use Rattle.sv_supervise.specs.Journal.Header.{header_text}
+use Rattle.sv_supervise.specs.Journal.Lines.{journal_texts, texts_of}
+use Rattle.sv_supervise.specs.declared.journal.lines.JournalLines.TheVariants.{Kept}
+use Rattle.sv_load.proofs.SizesLemmas.Logs.{names_are, names_rising}
+use Rattle.sv_load.specs.Sizes.LogSizes.{is_log_file, is_one_of, log_files, name_of, sizes_on}
+use Rattle.sv_load.specs.declared.sizes.fault.SizesFault.{SizesFault}
 use Rattle.sv_supervise.specs.Machines.{core_rules}
 use Rattle.sv_supervise.specs.Supervising.{Reads, header_of, machine_of}
 use Rattle.sv_supervise_laws.proofs.DaemonText.{daemon_text, history_text}

@@ -3,10 +3,10 @@ use Rattle.std.specs.Prelude.{◌≡◌, ◌≤◌, ℕ, List, [], ◌∷◌, �
 use Rattle.std.specs.Prelude.{length, nat_lt, if◌then◌else◌}
 use Rattle.std.specs.Io.KnownBytes.{Appends}
 use Rattle.sv_base.specs.declared.config.Host.{Host}
-use Rattle.sv_beginning.specs.declared.beginning.Beginning.{Beginning}
+use Rattle.sv_supervise.specs.declared.begin.beginning.Beginning.{Beginning}
 use Rattle.sv_core.specs.Deeds.{deeds}
 use Rattle.sv_core.specs.MachineState.{Model, accepts, next, orders}
-use Rattle.sv_files.specs.Sizes.{Sizes, is_before}
+use Rattle.sv_logs.specs.Sizes.{Sizes, is_before}
 use Rattle.sv_judge.specs.JournalPlaces.{Line, AllFit, journal_text, order_text}
 use Rattle.sv_loop.specs.Replaying.{Done, journal_limit}
 use Rattle.sv_loop.specs.WholeJournal.{Entry, HoldsGoodJournal, inputs_in, journal_lines}

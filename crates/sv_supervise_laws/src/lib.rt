@@ -4,12 +4,12 @@
 ghost use Rattle.std.specs.Prelude.{◌≡◌, ℕ, List, [], Some, true};
 ghost use Rattle.std.specs.Io.KnownBytes.{Appends};
 ghost use Rattle.sv_base.specs.declared.config.Host.{Host};
-ghost use Rattle.sv_daemon.specs.Course.{Whole};
-ghost use Rattle.sv_daemon.specs.Telling.{Told};
+ghost use Rattle.sv_supervise.specs.MainLoop.Course.{Whole};
+ghost use Rattle.sv_supervise.specs.MainLoop.Telling.{Told};
 ghost use Rattle.sv_out.specs.Files.{Files};
 ghost use Rattle.sv_out.specs.declared.input.Input.{Input};
-ghost use Rattle.sv_record.specs.Lines.{texts_of};
-ghost use Rattle.sv_record.specs.declared.lines.JournalLines.TheVariants.{Kept};
+ghost use Rattle.sv_supervise.specs.Journal.Lines.{texts_of};
+ghost use Rattle.sv_supervise.specs.declared.journal.lines.JournalLines.TheVariants.{Kept};
 ghost use Rattle.sv_supervise.specs.Machines.{core_rules};
 ghost use Rattle.sv_supervise.specs.Supervising.{Reads, header_of, machine_of};
 ghost use Rattle.sv_supervise_laws.specs.Rerun.{IsRerun, IsWithinLimits, daemon_lines, names_rise};

@@ -12,8 +12,8 @@ use sv_out::input::Input;
 use sv_out::order::Order;
 use sv_out::sink::ListSink;
 use sv_out::source::ListSource;
+use sv_outside::ScriptWorld;
 use sv_supervise::supervise;
-use sv_world::ScriptWorld;
 
 /// What a sink takes at most, in bytes.
 const ROOM: usize = 100_000;

@@ -8,8 +8,8 @@ use sv_base::{Bytes, DaemonSignal, Host, Items, Moment, Signal, Text};
 use sv_out::MapShelf;
 use sv_out::input::Input;
 use sv_out::sink::ListSink;
+use sv_outside::ScriptWorld;
 use sv_supervise::supervise;
-use sv_world::ScriptWorld;
 
 /// The header of the journal over `/s.conf`.
 const HEADER: &str = "supervisor-journal 1\nhost h\nhere /\npid 1\n\

@@ -1,7 +1,7 @@
 -- How a world begins.
 use Rattle.std.proofs.Common.{◌≡◌, ℕ, Bool, List, Option, subst}
 use Rattle.sv_base.specs.declared.state.Side.TheVariants.{Inet, Unix}
-use Rattle.sv_first_jobs.specs.Handing.{Hands, HandsLinks}
+use Rattle.sv_threads.specs.FirstJobs.Handing.{Hands, HandsLinks}
 use Rattle.sv_outside.specs.declared.jobs.JobWord.{JobWord}
 use Rattle.sv_outside.specs.declared.jobs.JobWord.TheVariants.{Console, Ticker}
 use Rattle.sv_threads.specs.Starting.{Starts}

@@ -2,13 +2,13 @@
 use Rattle.std.proofs.Common.{arith, ◌≡◌, ◌⊎◌, ◌||◌, ◌==◌, ◌+◌, ◌%◌, ◌^◌, ◌≤◌, ℕ, Bool, true, false, List, [], ◌∷◌, ◌++◌, OnOk, Result, Ok, Err, ap, inl, inr, refl, sym, ◌∙◌}
 use Rattle.std.proofs.lemmas.Bool.{eqb-true}
 use Rattle.std.proofs.lemmas.List.Folds.{list_any-append}
-use Rattle.sv_gate.specs.declared.handing.Handed.{Handed}
-use Rattle.sv_gate.specs.declared.handing.Handed.TheVariants.{Done, Failed}
+use Rattle.sv_outside.specs.declared.handing.Handed.{Handed}
+use Rattle.sv_outside.specs.declared.handing.Handed.TheVariants.{Done, Failed}
 use Rattle.sv_out.specs.Faults.{Rose, counted}
 use Rattle.sv_out.specs.declared.order.Order.{Order}
 use Rattle.sv_threads.specs.Giving.{failures_left, tells}
 use Rattle.sv_threads.specs.Performing.{Count, Counts, HandsOn, HandsOver, Parts}
-use Rattle.sv_world.specs.Worlds.{MayFail}
+use Rattle.sv_outside.specs.Worlds.{MayFail}
 
 or_right : (a b : Bool) → b ≡ true → (a || b) ≡ true
 or_right true b is = refl

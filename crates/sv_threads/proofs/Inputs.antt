@@ -3,10 +3,10 @@ use Rattle.std.proofs.Common.{Err, ◌≡◌, ◌||◌, ℕ, Bool, true, List, [
 use Rattle.std.proofs.lemmas.Bool.{eq-eqb}
 use Rattle.sv_jobs.specs.declared.notes.Note.{Note}
 use Rattle.sv_jobs.specs.declared.notes.Note.TheVariants as notes
-use Rattle.sv_link_orders.specs.declared.live_links.LiveLinks.{LiveLinks}
+use Rattle.sv_parts.specs.declared.links.live_links.LiveLinks.{LiveLinks}
 use Rattle.sv_out.specs.declared.input.Input.{Input}
 use Rattle.sv_out.specs.declared.input.Input.TheVariants.{Failed}
-use Rattle.sv_run_orders.specs.declared.live_runs.LiveRuns.{LiveRuns}
+use Rattle.sv_parts.specs.declared.runs.live_runs.LiveRuns.{LiveRuns}
 use Rattle.sv_threads.specs.Answers.{input_of_answer}
 use Rattle.sv_threads.specs.Giving.{Gives, answer_left, failures_left, tells}
 use Rattle.sv_threads.specs.Hearing.{Hears, Refuses, SettlesTaken, count_after, count_after_call, stamped}

@@ -5,7 +5,7 @@ use Rattle.std.specs.Option.{ForSome}
 use Rattle.sv_base.specs.declared.state.Side.{Side}
 use Rattle.sv_jobs.specs.declared.notes.Note.{Note}
 use Rattle.sv_jobs.specs.declared.notes.Note.TheVariants as notes
-use Rattle.sv_link_orders.specs.declared.live_links.LiveLinks.{LiveLinks}
+use Rattle.sv_parts.specs.declared.links.live_links.LiveLinks.{LiveLinks}
 use Rattle.sv_out.specs.declared.input.Input.{Input}
 use Rattle.sv_out.specs.declared.input.Input.TheVariants as inputs
 use Rattle.sv_threads.specs.Hearing.{CountsLink, HearsNote, IsTold, KeepsLinks, count_after, stamped}

@@ -1,8 +1,8 @@
 -- Links that are taken in, and those that are let go.
 use Rattle.sv_base.specs.declared.ids.LinkId.{LinkId}
 use Rattle.sv_base.specs.declared.state.Side.{Side}
-use Rattle.sv_link_orders.specs.Opening.{Numbered}
-use Rattle.sv_link_orders.specs.declared.live_links.LiveLinks.{LiveLinks}
+use Rattle.sv_parts.specs.Links.Opening.{Numbered}
+use Rattle.sv_parts.specs.declared.links.live_links.LiveLinks.{LiveLinks}
 use Rattle.sv_threads.specs.Opening.{AcceptsLink, LetsLinkGo, TakesLink}
 use Rattle.sv_threads.specs.declared.world.Accepted.{Accepted}
 

@@ -3,9 +3,9 @@ use Rattle.std.proofs.Common.{◌≡◌, ℕ, true, List, [], ◌∷◌, ◌++�
 use Rattle.std.proofs.lemmas.Bool.{and_from}
 use Rattle.std.proofs.lemmas.List.Folds.{list_all-append}
 use Rattle.sv_jobs.specs.declared.notes.Note.{Note}
-use Rattle.sv_link_orders.specs.declared.live_links.LiveLinks.{LiveLinks}
+use Rattle.sv_parts.specs.declared.links.live_links.LiveLinks.{LiveLinks}
 use Rattle.sv_out.specs.declared.input.Input.{Input}
-use Rattle.sv_run_orders.specs.declared.live_runs.LiveRuns.{LiveRuns}
+use Rattle.sv_parts.specs.declared.runs.live_runs.LiveRuns.{LiveRuns}
 use Rattle.sv_threads.specs.Hearing.{Hears, IsTold, Refuses, SettleAll, Settles, SettlesTaken, are_quiet, is_quiet, may_refuse}
 
 -- all that was taken so far was passed over

@@ -1,14 +1,14 @@
 -- What questions come to, put together.
 use Rattle.std.proofs.Common.{◌≡◌, Result, subst, sym}
-use Rattle.sv_file_orders.specs.Asking.{IsUnanswered}
-use Rattle.sv_file_orders.specs.declared.asking.FileAnswer.{FileAnswer}
-use Rattle.sv_gate.specs.declared.handing.Handed.{Handed}
+use Rattle.sv_parts.specs.Files.Asking.{IsUnanswered}
+use Rattle.sv_parts.specs.declared.files.asking.FileAnswer.{FileAnswer}
+use Rattle.sv_outside.specs.declared.handing.Handed.{Handed}
 use Rattle.sv_out.specs.Faults.{RisesWhere}
 use Rattle.sv_out.specs.declared.order.Order.{Order}
 use Rattle.sv_out.specs.declared.order.Order.TheVariants as orders
 use Rattle.sv_out.specs.declared.order.SpawnOrder.{SpawnOrder}
-use Rattle.sv_run_starts.specs.Spawned.{IsNoThread, IsRefused, Spawns}
-use Rattle.sv_run_starts.specs.declared.spawning.SpawnAnswer.{SpawnAnswer}
+use Rattle.sv_parts.specs.Runs.Spawned.{IsNoThread, IsRefused, Spawns}
+use Rattle.sv_parts.specs.declared.runs.spawning.SpawnAnswer.{SpawnAnswer}
 use Rattle.sv_threads.specs.Answers.{AnswersFile, AnswersSpawn}
 use Rattle.sv_threads.specs.Performing.{AsksAndAnswers, HandsOn, Parts, SpawnsAndAnswers}
 

@@ -1,15 +1,15 @@
 -- The answers to questions.
 use Rattle.std.specs.Prelude.{◌≡◌, IsErr, Option, Some, Result, Ok, Err, codes}
-use Rattle.sv_file_orders.specs.declared.asking.FileAnswer.{FileAnswer}
-use Rattle.sv_file_orders.specs.declared.asking.FileAnswer.TheVariants as files
-use Rattle.sv_gate.specs.declared.handing.Handed.{Handed}
-use Rattle.sv_gate.specs.declared.handing.Handed.TheVariants as handed
+use Rattle.sv_parts.specs.declared.files.asking.FileAnswer.{FileAnswer}
+use Rattle.sv_parts.specs.declared.files.asking.FileAnswer.TheVariants as files
+use Rattle.sv_outside.specs.declared.handing.Handed.{Handed}
+use Rattle.sv_outside.specs.declared.handing.Handed.TheVariants as handed
 use Rattle.sv_out.specs.declared.input.Input.{Input}
 use Rattle.sv_out.specs.declared.input.Input.TheVariants as inputs
 use Rattle.sv_outside.specs.declared.spawner.Refusal.{Refusal}
 use Rattle.sv_outside.specs.declared.spawner.Refusal.TheVariants as refusals
-use Rattle.sv_run_starts.specs.declared.spawning.SpawnAnswer.{SpawnAnswer}
-use Rattle.sv_run_starts.specs.declared.spawning.SpawnAnswer.TheVariants as spawns
+use Rattle.sv_parts.specs.declared.runs.spawning.SpawnAnswer.{SpawnAnswer}
+use Rattle.sv_parts.specs.declared.runs.spawning.SpawnAnswer.TheVariants as spawns
 use Rattle.sv_threads.specs.declared.answers.Answer.{Answer}
 use Rattle.sv_threads.specs.declared.answers.Answer.TheVariants as answers
 

@@ -5,14 +5,14 @@ use Rattle.std.specs.List.{list_all}
 use Rattle.std.specs.Option.{ForSome}
 use Rattle.sv_jobs.specs.declared.notes.Note.{Note}
 use Rattle.sv_jobs.specs.declared.notes.Note.TheVariants as notes
-use Rattle.sv_link_orders.specs.Links as links
-use Rattle.sv_link_orders.specs.Noting as links_noting
-use Rattle.sv_link_orders.specs.declared.live_links.LiveLinks.{LiveLinks}
+use Rattle.sv_parts.specs.Links.Links as links
+use Rattle.sv_parts.specs.Links.Noting as links_noting
+use Rattle.sv_parts.specs.declared.links.live_links.LiveLinks.{LiveLinks}
 use Rattle.sv_out.specs.declared.input.Input.{Input}
 use Rattle.sv_out.specs.declared.input.Input.TheVariants as inputs
-use Rattle.sv_run_orders.specs.Lives as runs
-use Rattle.sv_run_orders.specs.Noting as runs_noting
-use Rattle.sv_run_orders.specs.declared.live_runs.LiveRuns.{LiveRuns}
+use Rattle.sv_parts.specs.Runs.Lives as runs
+use Rattle.sv_parts.specs.Runs.Noting as runs_noting
+use Rattle.sv_parts.specs.declared.runs.live_runs.LiveRuns.{LiveRuns}
 
 -- a note as an input at a moment, after so many links; what was written, and out of memory, are
 -- none

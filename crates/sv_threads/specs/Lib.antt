@@ -1,3 +1,4 @@
+pub mod FirstJobs
 pub mod Answers
 pub mod Opening
 pub mod Hearing

@@ -1,10 +1,10 @@
 -- What orders to send over a link and to read on come to, of which the first starts the link's job.
 use Rattle.std.specs.Prelude.{◌≡◌, ℕ, Bool, false, List, IsErr, Option, Result, Ok, Err}
 use Rattle.sv_base.specs.declared.ids.LinkId.{LinkId}
-use Rattle.sv_gate.specs.declared.handing.Handed.{Handed}
-use Rattle.sv_link_orders.specs.Sending.{Asks, Sends}
-use Rattle.sv_link_orders.specs.declared.live_links.LiveLinks.{LiveLinks}
-use Rattle.sv_link_starts.specs.Starting.{Starts}
+use Rattle.sv_outside.specs.declared.handing.Handed.{Handed}
+use Rattle.sv_parts.specs.Links.Sending.{Asks, Sends}
+use Rattle.sv_parts.specs.declared.links.live_links.LiveLinks.{LiveLinks}
+use Rattle.sv_parts.specs.Links.Starting.{Starts}
 use Rattle.sv_out.specs.Faults.{RisesWhere}
 use Rattle.sv_outside.specs.declared.jobs.JobWord.{JobWord}
 

@@ -5,8 +5,8 @@ use Rattle.sv_base.specs.declared.ids.LinkId.{LinkId}
 use Rattle.sv_base.specs.declared.state.Side.{Side}
 use Rattle.sv_base.specs.declared.state.Side.TheVariants.{Inet, Unix}
 use Rattle.sv_lane.specs.Ends.{taken}
-use Rattle.sv_link_orders.specs.Opening.{Numbered}
-use Rattle.sv_link_orders.specs.declared.live_links.LiveLinks.{LiveLinks}
+use Rattle.sv_parts.specs.Links.Opening.{Numbered}
+use Rattle.sv_parts.specs.declared.links.live_links.LiveLinks.{LiveLinks}
 use Rattle.sv_out.specs.declared.input.Input.{Input}
 use Rattle.sv_out.specs.declared.input.Input.TheVariants as inputs
 use Rattle.sv_threads.specs.declared.world.Accepted.{Accepted}

@@ -1,13 +1,13 @@
 -- What an order comes to.
 use Rattle.std.specs.Prelude.{◌≡◌, ◌+◌, ◌%◌, ◌^◌, ◌++◌, ◌∷◌, ℕ, List, [], Option, Result, Ok, Err}
 use Rattle.sv_base.specs.declared.ids.LinkId.{LinkId}
-use Rattle.sv_file_orders.specs.Asking.{Clears, IsUnanswered, Lists, Parts as PartsOfFile, Sizes}
-use Rattle.sv_file_orders.specs.Writing.{IsUnwritten, Writes as WritesFile}
-use Rattle.sv_file_orders.specs.declared.asking.FileAnswer.{FileAnswer}
-use Rattle.sv_gate.specs.declared.handing.Handed.{Handed}
-use Rattle.sv_gate.specs.declared.handing.Handed.TheVariants.{Done, Failed}
-use Rattle.sv_link_orders.specs.Closing.{Closes}
-use Rattle.sv_link_orders.specs.declared.live_links.LiveLinks.{LiveLinks}
+use Rattle.sv_parts.specs.Files.Asking.{Clears, IsUnanswered, Lists, Parts as PartsOfFile, Sizes}
+use Rattle.sv_parts.specs.Files.Writing.{IsUnwritten, Writes as WritesFile}
+use Rattle.sv_parts.specs.declared.files.asking.FileAnswer.{FileAnswer}
+use Rattle.sv_outside.specs.declared.handing.Handed.{Handed}
+use Rattle.sv_outside.specs.declared.handing.Handed.TheVariants.{Done, Failed}
+use Rattle.sv_parts.specs.Links.Closing.{Closes}
+use Rattle.sv_parts.specs.declared.links.live_links.LiveLinks.{LiveLinks}
 use Rattle.sv_out.specs.Faults.{RisesWhere, counted}
 use Rattle.sv_out.specs.Files.{Files, appended, emptied, shifted}
 use Rattle.sv_out.specs.declared.order.Order.{Order}
@@ -15,11 +15,11 @@ use Rattle.sv_out.specs.declared.order.Order.TheVariants as orders
 use Rattle.sv_out.specs.declared.order.SpawnOrder.{SpawnOrder}
 use Rattle.sv_outside.specs.declared.jobs.JobWord.{JobWord}
 use Rattle.sv_outside.specs.declared.spawner.Asked.{Asked}
-use Rattle.sv_run_orders.specs.Killing.{IsUnsent, Kills}
-use Rattle.sv_run_orders.specs.Writing.{Writes}
-use Rattle.sv_run_orders.specs.declared.life.Life.{Life}
-use Rattle.sv_run_starts.specs.Spawned.{IsNoThread, IsRefused, Spawns}
-use Rattle.sv_run_starts.specs.declared.spawning.SpawnAnswer.{SpawnAnswer}
+use Rattle.sv_parts.specs.Runs.Killing.{IsUnsent, Kills}
+use Rattle.sv_parts.specs.Runs.Writing.{Writes}
+use Rattle.sv_parts.specs.declared.runs.life.Life.{Life}
+use Rattle.sv_parts.specs.Runs.Spawned.{IsNoThread, IsRefused, Spawns}
+use Rattle.sv_parts.specs.declared.runs.spawning.SpawnAnswer.{SpawnAnswer}
 use Rattle.sv_threads.specs.Answers.{AnswersFile, AnswersSpawn}
 use Rattle.sv_threads.specs.LinkWords.{StartsAndAsks, StartsAndSends}
 use Rattle.sv_threads.specs.declared.answers.Answer.{Answer}

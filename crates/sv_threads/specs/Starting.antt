@@ -1,8 +1,8 @@
 -- The jobs that a world of threads begins with.
 use Rattle.std.specs.Prelude.{◌≡◌, ℕ, Bool, List, [], Option}
 use Rattle.sv_base.specs.declared.state.Side.TheVariants.{Inet, Unix}
-use Rattle.sv_first_jobs.specs.Handing.{Hands, HandsLinks}
-use Rattle.sv_link_orders.specs.declared.live_links.LiveLinks.{LiveLinks}
+use Rattle.sv_threads.specs.FirstJobs.Handing.{Hands, HandsLinks}
+use Rattle.sv_parts.specs.declared.links.live_links.LiveLinks.{LiveLinks}
 use Rattle.sv_outside.specs.declared.jobs.JobWord.{JobWord}
 use Rattle.sv_outside.specs.declared.jobs.JobWord.TheVariants.{Console, Ticker}
 

@@ -6,14 +6,12 @@ use crate::hearing::hear;
 use crate::world::ThreadWorld;
 use std::alloc::{AllocError, Global};
 use std::sync::Wait;
-use sv_gate::Handed;
-use sv_job_types::AnyJob;
+use sv_jobs::AnyJob;
 use sv_out::files::Shelf;
 use sv_out::input::Input;
 use sv_out::order::Order;
 use sv_out::source::Source;
-use sv_outside::{Clock, Gate, Job, Listen, Spawner};
-use sv_world::{NextFault, World};
+use sv_outside::{Clock, Gate, Handed, Job, Listen, NextFault, Spawner, World};
 
 impl<
     P: Spawner + Drop,
@@ -121,12 +119,12 @@ impl<
     R: Wait + Copy,
 > World for ThreadWorld<P, L, Q, C, B, S, G, R> {
     ghost use Rattle.std.specs.Prelude.{◌≡◌, ◌≤◌, ◌+◌, ◌%◌, ◌^◌, ℕ, true, IfErr, IfOk, OnErr, OnOk};
-    ghost use Rattle.sv_world.specs.declared.world.NextFault.TheVariants.{OutOfMemory};
+    ghost use Rattle.sv_outside.specs.declared.world.NextFault.TheVariants.{OutOfMemory};
     ghost use Rattle.sv_lane.specs.Ends.{taken};
     ghost use Rattle.sv_out.specs.Faults.{RisesWhere};
     ghost use Rattle.sv_threads.specs.Giving.{Gives};
     ghost use Rattle.sv_threads.specs.Performing.{HandsOver};
-    ghost use Rattle.sv_world.specs.Worlds.{IsBroken, MayFail, Takes, WasToFail};
+    ghost use Rattle.sv_outside.specs.Worlds.{IsBroken, MayFail, Takes, WasToFail};
 
     ghost given = { λ w. None };
 

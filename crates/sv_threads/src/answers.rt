@@ -5,12 +5,11 @@ ghost use Rattle.sv_threads.specs.Answers.{answer_of_spawn, input_of_answer};
 
 use std::alloc::AllocError;
 use sv_base::{Bytes, Pid, Text};
-use sv_file_orders::FileAnswer;
-use sv_gate::Handed;
 use sv_out::input::Input;
 use sv_out::rising::RisingNames;
-use sv_outside::Refusal;
-use sv_run_starts::SpawnAnswer;
+use sv_outside::{Handed, Refusal};
+use sv_parts::files::FileAnswer;
+use sv_parts::runs::SpawnAnswer;
 
 /// The answer to a question.
 #[derive(Drop)]

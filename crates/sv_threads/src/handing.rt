@@ -6,14 +6,13 @@ use crate::link_words::{more, send};
 use crate::world::ThreadWorld;
 use std::alloc::{AllocError, Global};
 use std::sync::Wait;
-use sv_file_orders::{append, clear_file, file_names, file_size, fresh, read_file, shift};
-use sv_gate::Handed;
-use sv_job_types::AnyJob;
+use sv_jobs::AnyJob;
 use sv_out::files::Shelf;
 use sv_out::order::Order;
 use sv_out::source::Source;
-use sv_outside::{Clock, Gate, Job, Listen, Spawner};
-use sv_run_starts::spawn;
+use sv_outside::{Clock, Gate, Handed, Job, Listen, Spawner};
+use sv_parts::files::{append, clear_file, file_names, file_size, fresh, read_file, shift};
+use sv_parts::runs::spawn;
 
 impl<
     P: Spawner + Drop,

@@ -11,10 +11,10 @@ use std::alloc::AllocError;
 use std::sync::Wait;
 use sv_jobs::Note;
 use sv_lane::Taker;
-use sv_link_orders::LiveLinks;
 use sv_out::input::Input;
 use sv_outside::Clock;
-use sv_run_orders::LiveRuns;
+use sv_parts::links::LiveLinks;
+use sv_parts::runs::LiveRuns;
 
 /// Waits for the next note that is an input, and stamps it with the clock's moment. The notes before it change only what
 /// is known of runs and links. At a note that memory was refused to a job, memory is refused here.

@@ -6,6 +6,7 @@ pub use world::ThreadWorld;
 
 mod acting;
 mod answers;
+pub mod first_jobs;
 mod handing;
 mod hearing;
 mod link_words;

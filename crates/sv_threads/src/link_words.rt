@@ -4,15 +4,12 @@ ghost use Rattle.sv_threads.specs.LinkWords.{StartsAndAsks, StartsAndSends};
 use std::alloc::{AllocError, Global};
 use std::sync::Wait;
 use sv_base::{Bytes, LinkId};
-use sv_gate::{Handed, Ready};
-use sv_job_types::AnyJob;
-use sv_jobs::Note;
+use sv_jobs::{AnyJob, Note};
 use sv_lane::Seats;
-use sv_link_orders::LiveLinks;
-use sv_link_starts::start_link;
 use sv_out::sink::Sink;
 use sv_out::source::Source;
-use sv_outside::{Clock, Gate, Job, Listen, Waiter};
+use sv_outside::{Clock, Gate, Handed, Job, Listen, Ready, Waiter};
+use sv_parts::links::{LiveLinks, start_link};
 
 /// Sends bytes over a link, whose job is started where this is its first order.
 #[tactic(auto, using(crate::proofs::FirstOrders::sends_on, crate::proofs::FirstOrders::sends_none))]

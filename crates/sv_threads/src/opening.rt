@@ -6,9 +6,9 @@ use crate::world::Accepted;
 use std::alloc::AllocError;
 use std::sync::Wait;
 use sv_base::Side;
-use sv_link_orders::LiveLinks;
 use sv_out::input::Input;
 use sv_outside::Clock;
+use sv_parts::links::LiveLinks;
 
 impl<K: Drop> Accepted<K> {
     /// Takes the next link of a side. It was posted before the note that tells of it.

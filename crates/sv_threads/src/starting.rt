@@ -2,21 +2,19 @@
 ghost use Rattle.std.specs.Prelude.{IfOk, is_some};
 ghost use Rattle.sv_threads.specs.Starting.{HasNoLink, Starts};
 
+use crate::first_jobs::{hand_console, hand_links, hand_ticker};
 use crate::world::{Accepted, ThreadWorld};
 use std::alloc::{AllocError, Global};
 use std::collections::VecDeque;
 use std::sync::Wait;
 use sv_base::Side;
-use sv_first_jobs::{hand_console, hand_links, hand_ticker};
-use sv_gate::Ready;
-use sv_job_types::{AnyJob, ConsoleJob, TickerJob};
-use sv_jobs::Note;
+use sv_jobs::{AnyJob, ConsoleJob, Note, TickerJob};
 use sv_lane::{Poster, Seats, Taker, lane};
-use sv_link_orders::LiveLinks;
 use sv_out::files::Shelf;
 use sv_out::source::Source;
-use sv_outside::{Clock, Gate, Job, Listen, Spawner};
-use sv_run_orders::LiveRuns;
+use sv_outside::{Clock, Gate, Job, Listen, Ready, Spawner};
+use sv_parts::links::LiveLinks;
+use sv_parts::runs::LiveRuns;
 
 /// The most items in the lane of the notes.
 const NOTES: u32 = 256;

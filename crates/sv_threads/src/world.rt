@@ -3,15 +3,13 @@
 use crate::answers::Answer;
 use std::collections::VecDeque;
 use std::sync::Wait;
-use sv_gate::Ready;
-use sv_job_types::AnyJob;
-use sv_jobs::Note;
+use sv_jobs::{AnyJob, Note};
 use sv_lane::{Seats, Taker};
-use sv_link_orders::LiveLinks;
 use sv_out::files::Shelf;
 use sv_out::source::Source;
-use sv_outside::{Clock, Gate, Job, Listen, Spawner};
-use sv_run_orders::LiveRuns;
+use sv_outside::{Clock, Gate, Job, Listen, Ready, Spawner};
+use sv_parts::links::LiveLinks;
+use sv_parts::runs::LiveRuns;
 
 /// The world made of threads. Its parts are the runs with the spawner, the links, and the files with the shelf; they
 /// share the gate and the lane of the notes. It never waits on a child or a link; it waits for the next note.

@@ -11,11 +11,11 @@ use std::collections::VecDeque;
 use std::process::Abort;
 use std::sync::Wait;
 use std::thread;
-use sv_job_types::{AnyJob, NoBoard};
+use sv_jobs::{AnyJob, NoBoard};
 use sv_out::MapShelf;
 use sv_out::sink::ListSink;
 use sv_out::source::ListSource;
-use sv_world::World;
+use sv_outside::World;
 
 const CONF: &str = "[supervisord]\nlogfile=NONE\n[inet_http_server]\nport=9001\n\
 [rpcinterface:supervisor]\n[program:x]\ncommand=x\nautostart=false\nstartsecs=1\n\

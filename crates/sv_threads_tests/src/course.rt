@@ -3,12 +3,11 @@
 use std::alloc::Global;
 use std::process::Abort;
 use std::sync::Wait;
-use sv_job_types::{AnyJob, NoBoard};
+use sv_jobs::{AnyJob, NoBoard};
 use sv_out::Shelf;
 use sv_out::source::Source;
-use sv_outside::{Clock, Gate, Listen, Spawner};
+use sv_outside::{Clock, Gate, Listen, Spawner, World};
 use sv_threads::ThreadWorld;
-use sv_world::World;
 
 /// What is done over a world, once it is made.
 pub(crate) trait Course {

@@ -6,8 +6,8 @@ use std::process::Abort;
 use sv_base::{Bytes, Host, Items, Moment, Text};
 use sv_out::MapShelf;
 use sv_out::sink::ListSink;
+use sv_outside::World;
 use sv_supervise::supervise;
-use sv_world::World;
 
 /// What a sink takes at most, in bytes.
 pub(crate) const ROOM: usize = 10_000_000;

@@ -12,13 +12,12 @@ use std::process::Abort;
 use std::sync::Wait;
 use std::thread;
 use sv_base::Bytes;
-use sv_job_types::{AnyJob, NoBoard};
+use sv_jobs::{AnyJob, NoBoard};
 use sv_loop::replay;
 use sv_out::MapShelf;
 use sv_out::sink::ListSink;
 use sv_out::source::ListSource;
-use sv_outside::ScriptListen;
-use sv_world::World;
+use sv_outside::{ScriptListen, World};
 
 /// The programs.
 static NAMES: [&str; 20] = [

@@ -8,8 +8,7 @@ use std::process::Abort;
 use std::sync::Wait;
 use sv_base::{Run, Signal, Text};
 use sv_out::order::Order;
-use sv_outside::HoldGate;
-use sv_world::World;
+use sv_outside::{HoldGate, World};
 
 /// What is done over a gate that holds its jobs.
 #[derive(Drop)]

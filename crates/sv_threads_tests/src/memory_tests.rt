@@ -8,11 +8,9 @@ use std::alloc::Global;
 use std::process::Abort;
 use std::sync::Wait;
 use sv_base::{DaemonSignal, How, LinkId, Piece, Run, Signal, Stream, Text};
-use sv_job_types::AnyJob;
-use sv_jobs::Note;
+use sv_jobs::{AnyJob, Note};
 use sv_lane::Poster;
-use sv_outside::Gate;
-use sv_world::{NextFault, World};
+use sv_outside::{Gate, NextFault, World};
 
 /// A gate that runs no job. At the seat of the console it posts each kind of note but that of a link that was opened,
 /// each after one that memory was refused.

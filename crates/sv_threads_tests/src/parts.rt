@@ -10,14 +10,13 @@ use std::process::Abort;
 use std::thread;
 use std::time::Duration;
 use sv_base::{Bytes, Items, LinkId, Moment, Run, Text};
-use sv_job_types::{AnyJob, NoBoard};
+use sv_jobs::{AnyJob, NoBoard};
 use sv_out::MapShelf;
 use sv_out::input::Input;
 use sv_out::order::{Order, SpawnOrder};
 use sv_out::sink::ListSink;
 use sv_out::source::ListSource;
-use sv_outside::{Clock, Program, ScriptListen, ScriptSpawner, ScriptWaiter};
-use sv_world::World;
+use sv_outside::{Clock, Program, ScriptListen, ScriptSpawner, ScriptWaiter, World};
 
 /// A clock that stands at 7, and lets a hundredth of the time pass in a pause.
 #[derive(Drop)]

@@ -13,15 +13,14 @@ use std::rt::{Env, Files};
 use std::sync::Wait;
 use std::thread;
 use std::time::Duration;
-use sv_job_types::{AnyJob, NoBoard};
+use sv_jobs::{AnyJob, NoBoard};
 use sv_os::OsClock;
 use sv_out::MapShelf;
 use sv_out::failed::Failed;
 use sv_out::sink::ListSink;
 use sv_out::source::{ListSource, Source};
-use sv_outside::{ScriptListen, Spawner};
+use sv_outside::{ScriptListen, Spawner, World};
 use sv_processes::OsSpawner;
-use sv_world::World;
 
 /// The configuration: one program, which copies its standard input to its output until it gets a signal.
 const CAT: &str = "[supervisord]\nlogfile=NONE\n[program:cat]\ncommand=/bin/cat\nstartsecs=0\n\

@@ -13,8 +13,7 @@ use std::thread;
 use sv_base::{LinkId, Place, Text};
 use sv_out::order::Order;
 use sv_out::{Script, ScriptLink};
-use sv_outside::{Gate, ScriptListen};
-use sv_world::World;
+use sv_outside::{Gate, ScriptListen, World};
 
 /// What is done over a gate that starts threads.
 #[derive(Drop)]

@@ -4,9 +4,9 @@ use Rattle.std.specs.Str.{bytes_eq}
 use Rattle.sv_base.specs.declared.spec.GroupSpec.{GroupSpec}
 use Rattle.sv_base.specs.declared.spec.Spec.{Spec}
 use Rattle.sv_conf.proofs.EachOnce.{named_twice, process_twice, goes_on}
-use Rattle.sv_crowd.proofs.Repeats.{seen_more}
+use Rattle.sv_conf.proofs.Repeats.{seen_more}
 use Rattle.sv_sections.proofs.Folds.{count_more, dropped_more, parted}
-use Rattle.sv_crowd.specs.Duplicates.{first_twice}
+use Rattle.sv_conf.specs.Duplicates.{first_twice}
 use Rattle.sv_sections.specs.declared.fault.ConfFault.TheVariants.{TwiceNamed}
 use Rattle.sv_conf.proofs.groups.each_once.Goals as goal
 

@@ -1,6 +1,6 @@
 use Rattle.std.proofs.Common.{◌∙◌, ap}
 use Rattle.sv_ctl.proofs.Answering.{refuses_by}
-use Rattle.sv_talk.specs.declared.told.Told.{Told}
+use Rattle.sv_ctl.specs.declared.talk.told.Told.{Told}
 use Rattle.sv_ctl.proofs.controlling.refuse.Goals as goal
 
 pub returns-in-Ok-clause-refuses : goal.returns-in-Ok-clause-refuses

@@ -1,6 +1,6 @@
 use Rattle.std.proofs.Common.{arith, ◌≡◌, ◌≤◌, ℕ, subst, sym}
 use Rattle.sv_core.specs.Deeds.{deeds}
-use Rattle.sv_generate.specs.Drawn.{HasDrawn}
+use Rattle.sv_generated.specs.Drawn.{HasDrawn}
 use Rattle.sv_generated.proofs.Counting.{draw_answered, draw_asking, draw_fits, few_spawned, is_next, none_next}
 use Rattle.sv_generated.specs.Counted.{Counted}
 use Rattle.sv_generated.specs.Generated.{inputs_after}

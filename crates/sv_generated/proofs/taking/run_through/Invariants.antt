@@ -1,5 +1,5 @@
 use Rattle.std.proofs.Common.{◌≤◌, ◌*◌, ◌-◌, ◌^◌}
-use Rattle.sv_generate.specs.Drawn.{HasDrawn}
+use Rattle.sv_generated.specs.Drawn.{HasDrawn}
 use Rattle.sv_generated.specs.Generated.{inputs_after}
 use Rattle.sv_generated.specs.Taken.{Beginning, Begins, IsAfter, first_of}
 use Rattle.sv_generated.proofs.taking.run_through.Given as goal

@@ -1,5 +1,5 @@
 use Rattle.std.proofs.Common.{◌∙◌, sym}
-use Rattle.sv_daemon.specs.Telling.{told}
+use Rattle.sv_supervise.specs.MainLoop.Telling.{told}
 use Rattle.sv_supervise.proofs.Ends.{begun, not_begun, reading_unbroken, reading_unread, reading_written, run_read}
 use Rattle.sv_supervise.proofs.supervising.course.Goals as goal
 

@@ -1,6 +1,6 @@
 use Rattle.std.proofs.Common.{◌∙◌, List, ℕ, ap, inl, inr, refl, subst, sym}
 use Rattle.std.specs.Io.KnownBytes.{Appends}
-use Rattle.sv_daemon.specs.Telling.{told}
+use Rattle.sv_supervise.specs.MainLoop.Telling.{told}
 use Rattle.sv_out.specs.Written.{AppendsFront}
 use Rattle.sv_supervise.specs.Supervising.{RunsTo, machine_of}
 use Rattle.sv_supervise.proofs.Ends.{broken_end, header_is, rose_later, served, unwritten_end}

@@ -1,5 +1,5 @@
 use Rattle.std.proofs.Common.{inl, inr}
-use Rattle.sv_daemon.specs.Telling.{told}
+use Rattle.sv_supervise.specs.MainLoop.Telling.{told}
 use Rattle.sv_supervise.proofs.Statuses.{completes, tells_failed, tells_unread, tells_unwritten}
 use Rattle.sv_supervise.proofs.supervising.supervise.Goals as goal
 

@@ -1,5 +1,5 @@
 use Rattle.std.proofs.Common.{rules, ◌≡◌, ◌∙◌, ℕ, true, ap}
-use Rattle.sv_link_orders.specs.declared.live_links.LiveLinks.{LiveLinks}
+use Rattle.sv_parts.specs.declared.links.live_links.LiveLinks.{LiveLinks}
 use Rattle.sv_threads.proofs.Notes.{kept_none, kept_some, silent}
 use Rattle.sv_threads.proofs.Passing.{passed_more, taken_last}
 use Rattle.sv_threads.proofs.hearing.hear.Goals as goal

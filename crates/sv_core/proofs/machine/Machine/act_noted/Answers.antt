@@ -3,8 +3,8 @@ use Rattle.sv_children.specs.Crew.{Crew}
 use Rattle.sv_core.specs.Logging.{notes_if}
 use Rattle.sv_core.specs.StandsFor.{Shows}
 use Rattle.sv_core.specs.World.{World}
-use Rattle.sv_lines.specs.EdgeLines.{killing_at}
-use Rattle.sv_lines.specs.declared.line.Line.{Line}
+use Rattle.sv_children.specs.Lines.EdgeLines.{killing_at}
+use Rattle.sv_children.specs.declared.lines.line.Line.{Line}
 use Rattle.sv_core.proofs.machine.Machine.act_noted.Goals as goal
 
 pub returns-clause-does : goal.returns-clause-does

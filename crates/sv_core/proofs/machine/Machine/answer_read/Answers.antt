@@ -1,5 +1,5 @@
 use Rattle.std.proofs.Common.{ap, subst, ◌∙◌}
-use Rattle.sv_answers.specs.Served.{reads_back}
+use Rattle.sv_calls.specs.Answers.Served.{reads_back}
 use Rattle.sv_core.specs.Calling.{answers_call}
 use Rattle.sv_core.specs.StandsFor.{Shows}
 use Rattle.sv_xmlcall.specs.Trees.{Reply}

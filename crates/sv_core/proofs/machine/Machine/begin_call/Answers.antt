@@ -1,5 +1,5 @@
 use Rattle.std.proofs.Common.{◌≡◌, List, Option, true, false, ap, sym, ◌∙◌}
-use Rattle.sv_answers.specs.Served.{is_several}
+use Rattle.sv_calls.specs.Answers.Served.{is_several}
 use Rattle.sv_core.proofs.Shown.{at_same}
 use Rattle.sv_core.specs.Calling.{begins_several}
 use Rattle.sv_multi.specs.Views.{PartTree}

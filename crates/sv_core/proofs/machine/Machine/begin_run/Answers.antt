@@ -5,8 +5,8 @@ use Rattle.sv_core.specs.Logging.{notes_if}
 use Rattle.sv_core.specs.Moves.{begins_as, begins_output, is_listener_of}
 use Rattle.sv_core.specs.StandsFor.{Shows}
 use Rattle.sv_core.specs.World.{World}
-use Rattle.sv_lines.specs.EdgeLines.{spawned_at}
-use Rattle.sv_lines.specs.declared.line.Line.{Line}
+use Rattle.sv_children.specs.Lines.EdgeLines.{spawned_at}
+use Rattle.sv_children.specs.declared.lines.line.Line.{Line}
 use Rattle.sv_runs.specs.RunBook.{begun}
 use Rattle.sv_core.proofs.machine.Machine.begin_run.Goals as goal
 

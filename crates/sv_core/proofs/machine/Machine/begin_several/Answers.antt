@@ -1,8 +1,8 @@
 use Rattle.std.proofs.Common.{Option, None, ap, subst, ◌∙◌}
 use Rattle.std.specs.Global.{Vec}
-use Rattle.sv_answers.specs.Heard.{found_parts}
-use Rattle.sv_answers.specs.Served.{no_parts, said}
-use Rattle.sv_answers.specs.declared.sent.Sent.{Sent}
+use Rattle.sv_calls.specs.Answers.Heard.{found_parts}
+use Rattle.sv_calls.specs.Answers.Served.{no_parts, said}
+use Rattle.sv_calls.specs.declared.answers.sent.Sent.{Sent}
 use Rattle.sv_calls.specs.CallBook.{begun, new_several}
 use Rattle.sv_core.proofs.Left.{going_of_none, made_at}
 use Rattle.sv_core.proofs.Shown.{at_same, calls_there}

@@ -5,7 +5,7 @@ use Rattle.sv_core.proofs.Shown.{came_there, children_there, made}
 use Rattle.sv_core.specs.Moves.{changed, comes, reported, says}
 use Rattle.sv_core.specs.StandsFor.{Shows, shown}
 use Rattle.sv_core.specs.World.{World}
-use Rattle.sv_lines.specs.EdgeLines.{how_of}
+use Rattle.sv_children.specs.Lines.EdgeLines.{how_of}
 use Rattle.sv_core.proofs.machine.Machine.bring.Goals as goal
 
 pub returns-clause-moves : goal.returns-clause-moves

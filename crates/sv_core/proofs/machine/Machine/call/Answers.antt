@@ -1,5 +1,5 @@
 use Rattle.std.proofs.Common.{List, ℕ, Option, ap, sym, ◌∙◌}
-use Rattle.sv_answers.specs.Served.{subject_of}
+use Rattle.sv_calls.specs.Answers.Served.{subject_of}
 use Rattle.sv_core.proofs.Shown.{at_same}
 use Rattle.sv_core.specs.Calling.{comes_of}
 use Rattle.sv_methods.specs.Outcomes.{Outcome, outcome}

@@ -1,6 +1,6 @@
 use Rattle.std.proofs.Common.{ap, ◌∙◌}
 use Rattle.sv_methods.specs.Scenes.{Scene}
-use Rattle.sv_waits.specs.Waits.{checked}
+use Rattle.sv_calls.specs.Waits.{checked}
 use Rattle.sv_core.proofs.machine.Machine.check.Goals as goal
 
 pub returns : goal.returns

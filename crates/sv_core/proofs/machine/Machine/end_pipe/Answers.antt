@@ -2,7 +2,7 @@ use Rattle.std.proofs.Common.{◌≡◌, ap, sym, ◌∙◌}
 use Rattle.sv_core.proofs.Shown.{all_taken, runs_there, streams_there}
 use Rattle.sv_core.specs.World.{World}
 use Rattle.sv_runs.specs.RunBook as runs_of
-use Rattle.sv_streams.specs.StreamBook.{channel_in, last_parts, owner_in, pipe_ended}
+use Rattle.sv_runs.specs.Streams.StreamBook.{channel_in, last_parts, owner_in, pipe_ended}
 use Rattle.sv_core.proofs.machine.Machine.end_pipe.Goals as goal
 
 pub returns-clause-ends : goal.returns-clause-ends

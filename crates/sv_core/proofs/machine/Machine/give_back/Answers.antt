@@ -5,8 +5,8 @@ use Rattle.sv_core.specs.Logging.{tells_drops}
 use Rattle.sv_core.specs.StandsFor.{Shows, shown}
 use Rattle.sv_core.specs.World.{World}
 use Rattle.sv_out.specs.declared.order.Order.{Order}
-use Rattle.sv_pools.specs.Listeners.{rejection_reports, rejects}
-use Rattle.sv_pools.specs.StandsFor as kept_pools
+use Rattle.sv_pool.specs.Listeners.{rejection_reports, rejects}
+use Rattle.sv_pool.specs.StandsFor as kept_pools
 use Rattle.sv_core.proofs.machine.Machine.give_back.Goals as goal
 
 pub returns-clause-gives : goal.returns-clause-gives

@@ -3,7 +3,7 @@ use Rattle.sv_core.proofs.Shown.{all_taken, streams_there}
 use Rattle.sv_core.specs.Output.{says_on, takes_all}
 use Rattle.sv_core.specs.StandsFor.{Shows}
 use Rattle.sv_core.specs.World.{World}
-use Rattle.sv_streams.specs.StreamBook.{channel_in, fed, new_parts, owner_in}
+use Rattle.sv_runs.specs.Streams.StreamBook.{channel_in, fed, new_parts, owner_in}
 use Rattle.sv_core.proofs.machine.Machine.hear_on.Goals as goal
 
 pub returns-clause-hears : goal.returns-clause-hears

@@ -2,7 +2,7 @@ use Rattle.std.proofs.Common.{ℕ, ap, sym, ◌∙◌}
 use Rattle.sv_core.proofs.Shown.{lost_there, runs_there}
 use Rattle.sv_core.specs.Listening.{id_of}
 use Rattle.sv_core.specs.World.{World}
-use Rattle.sv_pools.specs.Listeners.{holds}
+use Rattle.sv_pool.specs.Listeners.{holds}
 use Rattle.sv_runs.specs.RunBook.{lost}
 use Rattle.sv_core.proofs.machine.Machine.lose_of.Goals as goal
 

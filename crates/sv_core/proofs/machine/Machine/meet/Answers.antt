@@ -4,7 +4,7 @@ use Rattle.sv_children.specs.News.{stimulus_of}
 use Rattle.sv_core.proofs.Shown.{at_same}
 use Rattle.sv_core.specs.Moves.{comes}
 use Rattle.sv_core.specs.Sweeps.{does_noted, meets}
-use Rattle.sv_lines.specs.EdgeLines.{how_of}
+use Rattle.sv_children.specs.Lines.EdgeLines.{how_of}
 use Rattle.sv_core.proofs.machine.Machine.meet.Goals as goal
 
 pub returns-clause-meets : goal.returns-clause-meets

@@ -7,8 +7,8 @@ use Rattle.sv_children.specs.Crew.{Crew}
 use Rattle.sv_core.specs.MachineState.{opening}
 use Rattle.sv_core.specs.StandsFor.{rest}
 use Rattle.sv_groups.specs.StartOrder.{processes}
-use Rattle.sv_pools.specs.EventPools as all_pools
-use Rattle.sv_pools.specs.StandsFor as kept_pools
+use Rattle.sv_pool.specs.EventPools as all_pools
+use Rattle.sv_pool.specs.StandsFor as kept_pools
 use Rattle.sv_runs.specs.RunBook as all_runs
 use Rattle.sv_runs.specs.StandsFor as kept_runs
 use Rattle.sv_core.proofs.machine.Machine.new.Goals as goal

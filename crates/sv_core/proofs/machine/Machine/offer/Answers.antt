@@ -5,7 +5,7 @@ use Rattle.sv_core.specs.Logging.{tells_drops}
 use Rattle.sv_core.specs.StandsFor.{Shows, shown}
 use Rattle.sv_core.specs.World.{World}
 use Rattle.sv_out.specs.declared.order.Order.{Order}
-use Rattle.sv_pools.specs.Offers.{offer_reports, offered}
+use Rattle.sv_pool.specs.Offers.{offer_reports, offered}
 use Rattle.sv_core.proofs.machine.Machine.offer.Goals as goal
 
 pub returns-clause-offers : goal.returns-clause-offers

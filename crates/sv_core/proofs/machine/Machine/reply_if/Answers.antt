@@ -1,6 +1,6 @@
 use Rattle.std.proofs.Common.{Option, subst, sym}
 use Rattle.std.specs.Option.{option_map}
-use Rattle.sv_answers.specs.declared.sent.Sent.{Sent}
+use Rattle.sv_calls.specs.declared.answers.sent.Sent.{Sent}
 use Rattle.sv_calls.specs.StandsFor.{answer_view}
 use Rattle.sv_calls.specs.declared.answer.Answer.{Answer}
 use Rattle.sv_core.specs.Calling.{replies, replies_if}

@@ -3,8 +3,8 @@ use Rattle.sv_core.proofs.Shown.{made, sends_there, sent_there}
 use Rattle.sv_core.specs.HandingOut.{sends_to}
 use Rattle.sv_core.specs.Listening.{id_of}
 use Rattle.sv_core.specs.StandsFor.{shown}
-use Rattle.sv_pools.specs.Listeners.{hand_orders, handed, is_handed}
-use Rattle.sv_pools.specs.StandsFor as kept_pools
+use Rattle.sv_pool.specs.Listeners.{hand_orders, handed, is_handed}
+use Rattle.sv_pool.specs.StandsFor as kept_pools
 use Rattle.sv_runs.specs.RunBook.{sent}
 use Rattle.sv_core.proofs.machine.Machine.send_to.Goals as goal
 

@@ -1,5 +1,5 @@
 use Rattle.std.proofs.Common.{◌≡◌, Option, Some, None, ap, sym, ◌∙◌}
-use Rattle.sv_answers.specs.Served.{Request}
+use Rattle.sv_calls.specs.Answers.Served.{Request}
 use Rattle.sv_core.proofs.Left.{going_of_none, made_at}
 use Rattle.sv_core.proofs.Shown.{at_same, links_there}
 use Rattle.sv_core.specs.Calling.{takes_up}

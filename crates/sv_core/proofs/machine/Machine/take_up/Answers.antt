@@ -1,6 +1,6 @@
 use Rattle.std.proofs.Common.{None, ap}
-use Rattle.sv_answers.specs.Heard.{request_view}
-use Rattle.sv_answers.specs.declared.request.Heard.{Heard}
+use Rattle.sv_calls.specs.Answers.Heard.{request_view}
+use Rattle.sv_calls.specs.declared.answers.request.Heard.{Heard}
 use Rattle.sv_core.proofs.Left.{going_of_none, made_at}
 use Rattle.sv_core.proofs.Shown.{at_same}
 use Rattle.sv_core.specs.Calling.{replies, takes_up}

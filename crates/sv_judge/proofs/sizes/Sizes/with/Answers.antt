@@ -1,5 +1,5 @@
 use Rattle.std.proofs.Common.{List, ℕ, IsTrue, sym, subst}
-use Rattle.sv_files.specs.Sizes.{rise}
+use Rattle.sv_logs.specs.Sizes.{rise}
 use Rattle.sv_judge.proofs.RisingNames.{rise_more}
 use Rattle.sv_judge.proofs.sizes.Sizes.with.Goals as goal
 

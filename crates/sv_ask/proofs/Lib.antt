@@ -1,4 +1,0 @@
-mod Fronts
-mod Replies
-mod Servers
-mod Told

@@ -1,5 +1,0 @@
-use Rattle.sv_ask.proofs.Fronts.{stripped}
-use Rattle.sv_ask.proofs.url.behind.Goals as goal
-
-pub returns : goal.returns
-returns c = stripped c.args.front.now c.args.text.now c.strip_prefix.result c.strip_prefix.ensures.cases

@@ -1,5 +1,0 @@
-use Rattle.std.proofs.Common.{refl}
-use Rattle.sv_crowd.proofs.once.section_pairs.Goals as goal
-
-pub returns : goal.returns
-returns c = rw (c.in_ok-add_pair.ensures, c.in_ok-pairs.ensures, c.in_ok-from_str.ensures) refl

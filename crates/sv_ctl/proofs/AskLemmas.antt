@@ -1,0 +1,4 @@
+pub mod Fronts
+pub mod Replies
+pub mod Servers
+pub mod Told

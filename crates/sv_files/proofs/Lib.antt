@@ -1,3 +1,0 @@
-pub mod LoggedFiles
-pub mod Opens
-pub mod Places

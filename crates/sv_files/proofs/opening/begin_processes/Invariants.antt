@@ -1,8 +1,0 @@
-use Rattle.std.proofs.Common.{◌≡◌, drop}
-use Rattle.sv_files.specs.Opening.{processes_begin}
-use Rattle.sv_files.proofs.opening.begin_processes.Given as goal
-
-abbrev pub invariant-loop-spec : goal.invariant-loop-spec
-invariant-loop-spec l = record {
-  begun : processes_begin (drop l.spec-index l.specs) l.sizes ≡ processes_begin l.specs l.initial.sizes;
-}

@@ -1,0 +1,4 @@
+pub mod Visible
+pub mod Lines
+pub mod Fields
+pub mod Requests

@@ -1,4 +1,0 @@
-mod Visible
-mod Lines
-mod Fields
-mod Requests

@@ -1,5 +1,0 @@
-pub mod Links
-pub mod Opening
-pub mod Sending
-pub mod Closing
-pub mod Noting

@@ -1,0 +1,2 @@
+mod LinksLemmas
+mod RunsLemmas

@@ -1,0 +1,14 @@
+use Rattle.std.proofs.Common.{◌≡◌, ◌++◌, List, drop}
+use Rattle.std.specs.List.{flat_map}
+use Rattle.sv_pool.specs.EventPools.{EventPool}
+use Rattle.sv_pool.specs.Listeners.{rejected_by, reports_of_rejection}
+use Rattle.sv_pool.specs.StandsFor.{AreKept}
+use Rattle.sv_pool.proofs.Kept.{partly}
+use Rattle.sv_pool.proofs.pools.reject_all.Given as goal
+
+abbrev pub invariant-loop-place : goal.invariant-loop-place
+invariant-loop-place l = record {
+  kept : (ps : List EventPool) → AreKept l.initial.pools ps → AreKept l.pools (partly (rejected_by l.listener.0) l.place ps);
+  gives : (ps : List EventPool) → AreKept l.initial.pools ps
+      → l.given.items ++ flat_map (reports_of_rejection l.listener.0) (drop l.place ps) ≡ l.initial.given.items ++ flat_map (reports_of_rejection l.listener.0) ps;
+}

@@ -1,5 +1,0 @@
-use Rattle.sv_pools.proofs.Covering.{covers_is}
-use Rattle.sv_pools.proofs.group_pool.is_covering.Goals as goal
-
-pub returns : goal.returns
-returns c = covers_is c.args.upper c.args.lower c.covers.result c.covers.ensures

@@ -1,5 +1,0 @@
-pub mod Covering
-pub mod EventPools
-pub mod Offers
-pub mod Listeners
-pub mod StandsFor

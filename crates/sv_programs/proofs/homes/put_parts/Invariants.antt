@@ -1,6 +1,0 @@
-use Rattle.std.proofs.Common.{◌≡◌}
-use Rattle.sv_programs.specs.Homes.{with_parts}
-use Rattle.sv_programs.proofs.homes.put_parts.Given as goal
-
-abbrev pub invariant-loop-part : goal.invariant-loop-part
-invariant-loop-part l = l.parts.items ≡ with_parts l.initial.parts.items l.yielded

@@ -1,4 +1,0 @@
-pub mod Lives
-pub mod Writing
-pub mod Killing
-pub mod Noting

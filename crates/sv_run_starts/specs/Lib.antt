@@ -1,3 +1,0 @@
-pub mod JobWords
-pub mod RunWords
-pub mod Spawned

@@ -1,8 +1,0 @@
-//! The sizes that the log files of a configuration have on a shelf: each file once, by rising names.
-#![tactic(auto)]
-
-mod fault;
-mod sizes;
-
-pub use fault::SizesFault;
-pub use sizes::sizes_of;

@@ -1,5 +1,0 @@
-use Rattle.sv_streams.proofs.Captured.{new_captured}
-use Rattle.sv_streams.proofs.channel.Channel.new.Goals as goal
-
-pub returns-in_ok-capture : goal.returns-in_ok-capture
-returns-in_ok-capture c = new_captured c.in_ok-capture.capture c.args.limit c.if-limit-eq0.false c.in_ok-capture.ensures

@@ -1,5 +1,0 @@
-use Rattle.sv_streams.proofs.Wholes.{whole_is_decided}
-use Rattle.sv_streams.proofs.laws.pieces_decide_the_whole.Goals as goal
-
-pub returns : goal.returns
-returns c = whole_is_decided

@@ -1,6 +1,0 @@
-//! What ends the wait of a call, and what is answered then (`specs/Waits.antt`).
-#![tactic(auto)]
-
-mod waits;
-
-pub use crate::waits::check;

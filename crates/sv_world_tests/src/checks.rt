@@ -1,0 +1,13 @@
+//! What the tests demand. A test that holds values compares by a call, which is proved once, in place of a branch of its own.
+
+use std::process::Abort;
+
+/// Ends the test unless this is so.
+pub(crate) fn check(rt: &impl Abort, is: bool) {
+    assert!(rt; is);
+}
+
+/// Ends the test unless this is so of what it names.
+pub(crate) fn check_of(rt: &impl Abort, is: bool, what: &str) {
+    assert!(rt; is, "{what}");
+}
