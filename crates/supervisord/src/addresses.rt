@@ -13,15 +13,31 @@ use sv_sockets::{
 use sv_standard::Teller;
 
 /// What accepts the links of each side, and the socket's file.
-#[derive(Drop)]
 pub struct Addresses<R: Net + Files + Wait + Copy + Drop> {
     pub inet: Option<OsListen<R>>,
     pub unix: Option<OsListen<R>>,
     pub socket: Option<OwnSocket>,
 }
 
+impl<R: Net + Files + Wait + Copy + Drop> Drop for Addresses<R> {
+    fn drop(self) {
+        let Self {
+            inet: _,
+            unix: _,
+            socket: _,
+        } = self;
+    }
+}
+
+impl<R: Net + Files + Wait + Copy + Drop> Addresses<R> {
+    /// What accepts the links of the sides inet and unix, and the socket's file.
+    pub fn into_parts(self) -> (Option<OsListen<R>>, Option<OsListen<R>>, Option<OwnSocket>) {
+        let Self { inet, unix, socket } = self;
+        (inet, unix, socket)
+    }
+}
+
 /// What an address is opened with.
-#[derive(Drop)]
 pub struct Opening<R> {
     pub rt: R,
     pub alloc: Global,
@@ -30,6 +46,19 @@ pub struct Opening<R> {
     pub rules: SocketRules,
     pub links: LinkTable,
     pub teller: Teller<R>,
+}
+
+impl<R: Drop> Drop for Opening<R> {
+    fn drop(self) {
+        let Self {
+            rt: _,
+            alloc: _,
+            pid: _,
+            rules: _,
+            links: _,
+            teller: _,
+        } = self;
+    }
 }
 
 /// Opens the addresses of these servers, at most one of each side. Where one can't be opened none is, and no socket's file is

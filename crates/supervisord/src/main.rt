@@ -4,6 +4,7 @@
 mod addresses;
 mod ending;
 mod greeting;
+mod parts;
 mod preparing;
 mod rules;
 mod serving;
@@ -15,21 +16,20 @@ mod users;
 
 use crossbeam_channel::Receiver;
 use ending::NO_MEMORY;
-use preparing::{GateParts, Numbers, prepare};
+use preparing::{Given, Numbers, given_by, prepare};
 use serving::{DaemonJob, run};
 use std::alloc::AllocError;
 use std::io::{Eprint, Print, Stdin, Write};
 use std::os::unix::process::parent_id;
 use std::process::ExitCode;
-use std::rt::Env;
+use std::rt::{Env, Runtime};
 use std::sync::Wait;
 use std::thread::Threads;
 use std::{env, process, thread};
 use streams::{StreamEnds, loss_line};
-use sv_base::Text;
 use sv_os::{WriteSink, words_of, words_untold};
 use sv_sockets::{Errand, OsGate, receive_and_work, receive_and_work_all};
-use sv_standard::{Teller, pour};
+use sv_standard::pour;
 use unbegun::Unbegun;
 
 /// The status where an address can't be opened, or a setting can't be read.
@@ -39,31 +39,20 @@ const REFUSED: u8 = 2;
 const SPARE_THREADS: u32 = 2;
 
 fn main(rt: HostRuntime) -> ExitCode {
-    let Ok(words) = given_words(&rt) else {
-        return ExitCode::from(NO_MEMORY);
-    };
     let numbers = Numbers {
         own: process::id(rt.process()),
         parent: parent_id(rt.process()),
     };
-    let mut errors = WriteSink::new(rt.stderr());
-    let (prepared, ends) = match prepare(rt, words, numbers, &mut errors) {
-        Ok(parts) => parts,
-        Err(unbegun) => return ExitCode::from(said(rt, unbegun)),
-    };
-    let (Ok(parts), Ok(teller)) = (
-        prepared.for_gate(rt.alloc()),
-        prepared.streams.teller.another(),
-    ) else {
+    let Ok(given) = given_words(&rt, numbers) else {
         return ExitCode::from(NO_MEMORY);
     };
-    start_writers(rt, ends, rt.stdout(), rt.stderr(), teller, prepared.journal);
-    let GateParts {
-        work,
-        links,
-        teller,
-        spare,
-    } = parts;
+    let mut errors = WriteSink::new(rt.stderr());
+    let (prepared, ends, gate) = match prepare(rt, &given, numbers.parent, &mut errors) {
+        Ok(beginning) => beginning,
+        Err(unbegun) => return ExitCode::from(said(rt, unbegun)),
+    };
+    start_writers(rt, ends, rt.stdout(), rt.stderr());
+    let (work, links, teller, spare) = gate.into_parts();
     for _ in 0..SPARE_THREADS {
         if let Ok(from) = spare.receiver() {
             let _ = thread::spawn(&rt, move || receive_and_work_all(&rt, &from));
@@ -73,30 +62,28 @@ fn main(rt: HostRuntime) -> ExitCode {
         thread::spawn(&rt, move || receive_and_work(&rt, &from)).is_ok()
     };
     let gate = OsGate::new(rt, rt.alloc(), work, links, teller, spare, starts);
-    match run(rt, rt.stdin(), errors, prepared, gate) {
-        Ok(status) => ExitCode::from(status),
-        Err(AllocError) => ExitCode::from(NO_MEMORY),
-    }
+    ExitCode::from(run(rt, rt.stdin(), &mut errors, &given, prepared, gate))
 }
 
-/// The words after the program's name.
-fn given_words<R: Env + AllocGlobal>(rt: &R) -> Result<Vec<Text>, AllocError> {
-    match env::args(rt) {
-        Ok(arguments) => words_of(rt.alloc(), arguments),
-        Err(fault) => words_untold(rt.alloc(), fault.kind()),
-    }
+/// What the process of these numbers is given by the words after the program's name.
+fn given_words<R: Runtime + Env + AllocGlobal>(
+    rt: &R,
+    numbers: Numbers,
+) -> Result<Given, AllocError> {
+    let words = match env::args(rt) {
+        Ok(arguments) => words_of(rt.alloc(), arguments)?,
+        Err(fault) => words_untold(rt.alloc(), fault.kind())?,
+    };
+    given_by(rt, words, numbers)
 }
 
 /// Starts the threads that write standard output and standard error. What one that can't be made would have written is lost.
 fn start_writers<
-    R: Threads + Wait + AllocGlobal + Copy + Send + 'static,
+    R: Threads + Wait + AllocGlobal + Copy + Send + Drop + 'static,
     O: Write + Send + Drop + 'static,
     E: Write + Send + Drop + 'static,
->(rt: R, ends: StreamEnds, out: O, err: E, teller: Teller<R>, journal: bool) {
-    let StreamEnds {
-        out: out_end,
-        err: err_end,
-    } = ends;
+>(rt: R, ends: StreamEnds<R>, out: O, err: E) {
+    let (out_end, err_end, teller, journal) = ends.into_parts();
     let _ = thread::spawn(&rt, move || pour(&rt, &err_end, err, |_| {}));
     let _ = thread::spawn(&rt, move || {
         pour(&rt, &out_end, out, |error| {

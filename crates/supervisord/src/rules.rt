@@ -46,7 +46,7 @@ fn joined_programs(alloc: Global, told: &Told) -> Result<Vec<(Text, Text)>, Allo
 }
 
 /// The rules of the logs, over these streams.
-pub fn log_rules<R: Wait + Copy>(
+pub fn log_rules<R: Wait + Copy + Drop>(
     alloc: Global,
     told: &Told,
     pid: u32,

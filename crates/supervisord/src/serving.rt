@@ -1,8 +1,8 @@
 //! The daemon over the machine that it runs on.
 
-use crate::addresses::{Addresses, remove};
+use crate::addresses::remove;
 use crate::ending::end_programs;
-use crate::preparing::Prepared;
+use crate::preparing::{Given, Prepared};
 use crate::streams::Streams;
 use std::alloc::{AllocError, Global};
 use std::io::Read;
@@ -10,7 +10,6 @@ use std::net::Net;
 use std::process::Processes;
 use std::rt::{Clock as Time, Files, Runtime};
 use std::sync::Wait;
-use sv_base::{Host, Text};
 use sv_disk::OsShelf;
 use sv_jobs::{AnyJob, NoBoard};
 use sv_os::OsClock;
@@ -20,7 +19,7 @@ use sv_out::source::Source;
 use sv_outside::{Clock, Gate, Listen, Spawner, World};
 use sv_processes::OsSpawner;
 use sv_sockets::{LinksAtWork, OsListen, OwnSocket};
-use sv_standard::{Console, JournalSink};
+use sv_standard::Console;
 use sv_supervise::supervise;
 use sv_threads::ThreadWorld;
 
@@ -50,24 +49,24 @@ pub trait Course {
 
 /// The daemon's own call, with all that it is given but the world.
 #[derive(Drop)]
-struct Daemon<R, O> {
+struct Daemon<'a, R, J, O> {
     rt: R,
-    words: Vec<Text>,
-    host: Host,
-    journal: JournalSink<R>,
-    out: O,
+    given: &'a Given,
+    journal: &'a mut J,
+    out: &'a mut O,
 }
 
-impl<R: Runtime + AllocGlobal + Wait + Copy + Drop, O: Sink> Course for Daemon<R, O> {
+impl<R: Runtime + AllocGlobal + Wait + Copy + Drop, J: Sink, O: Sink> Course
+    for Daemon<'_, R, J, O> {
     fn over<W: World>(&mut self, world: &mut W) -> u8 {
         supervise(
             self.rt.alloc(),
-            self.words.as_slice(),
-            &self.host,
+            self.given.words.as_slice(),
+            &self.given.host,
             &mut OsShelf::new(self.rt),
             world,
-            &mut self.journal,
-            &mut self.out,
+            self.journal,
+            self.out,
         )
     }
 }
@@ -77,29 +76,21 @@ impl<R: Runtime + AllocGlobal + Wait + Copy + Drop, O: Sink> Course for Daemon<R
 pub fn run<
     R: Runtime + Net + Processes + AllocGlobal + Wait + Copy + Drop,
     I: Read + Drop,
-    O: Sink + Drop,
+    O: Sink,
     G: Gate<DaemonJob<R, I>> + Drop,
->(rt: R, console: I, out: O, prepared: Prepared<R>, gate: G) -> Result<u8, AllocError>
+>(rt: R, console: I, out: &mut O, given: &Given, prepared: Prepared<R>, gate: G) -> u8
     requires { G.ready gate }
 {
     let alloc = rt.alloc();
-    let Prepared {
-        words,
-        host,
-        streams,
-        addresses,
-        work,
-        spawner,
-        living,
-        shelf,
-        ..
-    } = prepared;
-    let Addresses { inet, unix, socket } = addresses;
+    let (streams, parts) = prepared.into_parts();
+    let (clients, programs, shelf, mut journal) = parts.into_parts();
+    let (addresses, work) = clients.into_parts();
+    let (inet, unix, socket) = addresses.into_parts();
+    let (spawner, living) = programs.into_parts();
     let mut daemon = Daemon {
         rt,
-        words,
-        host,
-        journal: JournalSink::new(alloc, streams.out.another()?, streams.teller.another()?),
+        given,
+        journal: &mut journal,
         out,
     };
     let console = Console::new(rt, console, STANDARD_INPUT);
@@ -119,11 +110,11 @@ pub fn run<
     );
     let status = end_programs(rt, alloc, status, &living, &streams.teller);
     close(rt, &work, socket, &streams);
-    Ok(status)
+    status
 }
 
 /// Waits for the last replies, removes the socket's file, and waits for the last bytes of the streams.
-fn close<R: Files + Time + Wait + Copy>(
+fn close<R: Files + Time + Wait + Copy + Drop>(
     rt: R,
     work: &LinksAtWork,
     socket: Option<OwnSocket>,

@@ -4,7 +4,7 @@ use std::alloc::{AllocError, Global};
 use std::io;
 use std::rt::Clock;
 use std::sync::Wait;
-use sv_standard::{AfterFailure, Outlet, OutletEnd, Teller};
+use sv_standard::{AfterFailure, JournalSink, Outlet, OutletEnd, Teller};
 
 /// How much of the journal is held, in bytes.
 const MOST_OF_JOURNAL: u64 = 16_777_216;
@@ -16,27 +16,63 @@ const MOST_OF_LOGS: u64 = 1_048_576;
 const LAST_BYTES: u32 = 2_000;
 
 /// The giving sides of standard output and standard error, and what tells by standard error.
-#[derive(Drop)]
 pub struct Streams<R> {
     pub out: Outlet<R>,
     pub err: Outlet<R>,
     pub teller: Teller<R>,
 }
 
-/// The writing sides of standard output and of standard error.
-#[derive(Drop)]
-pub struct StreamEnds {
-    pub out: OutletEnd,
-    pub err: OutletEnd,
+impl<R: Drop> Drop for Streams<R> {
+    fn drop(self) {
+        let Self {
+            out: _,
+            err: _,
+            teller: _,
+        } = self;
+    }
 }
 
-impl<R: Wait + Copy> Streams<R> {
+/// The writing sides of standard output and of standard error.
+pub struct StreamEnds<R> {
+    pub out: OutletEnd,
+    pub err: OutletEnd,
+    /// Tells of what standard output lost.
+    pub teller: Teller<R>,
+    /// Whether standard output holds the journal.
+    pub journal: bool,
+}
+
+impl<R: Drop> Drop for StreamEnds<R> {
+    fn drop(self) {
+        let Self {
+            out: _,
+            err: _,
+            teller: _,
+            journal: _,
+        } = self;
+    }
+}
+
+impl<R: Drop> StreamEnds<R> {
+    /// Each of its parts.
+    pub fn into_parts(self) -> (OutletEnd, OutletEnd, Teller<R>, bool) {
+        let Self {
+            out,
+            err,
+            teller,
+            journal,
+        } = self;
+        (out, err, teller, journal)
+    }
+}
+
+impl<R: Wait + Copy + Drop> Streams<R> {
     /// Both streams; standard output ends at its first gap where it holds the journal.
     pub fn new(
         rt: R,
         alloc: Global,
         journal: bool,
-    ) -> Result<(Streams<R>, StreamEnds), AllocError> {
+    ) -> Result<(Streams<R>, StreamEnds<R>), AllocError> {
         let (most, after) = if journal {
             (MOST_OF_JOURNAL, AfterFailure::Ends)
         } else {
@@ -48,8 +84,15 @@ impl<R: Wait + Copy> Streams<R> {
         let ends = StreamEnds {
             out: out_end,
             err: err_end,
+            teller: teller.another()?,
+            journal,
         };
         Ok((Streams { out, err, teller }, ends))
+    }
+
+    /// The journal, over standard output.
+    pub fn journal(&self, alloc: Global) -> Result<JournalSink<R>, AllocError> {
+        Ok(JournalSink::new(alloc, self.out.another()?, self.teller.another()?))
     }
 
     /// Waits a limited time until all that was given is written.

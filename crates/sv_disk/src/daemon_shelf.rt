@@ -19,11 +19,20 @@ use sv_standard::Teller;
 ///
 /// Only plain files are renamed and emptied. A log of the name of one of the daemon's own streams goes there. What isn't
 /// written is told once a log on standard error. Nothing that is opened or written to can wait but a device.
-#[derive(Drop)]
 pub struct DaemonShelf<R: Files + Wait> {
     rt: R,
     faults: Faults,
     logs: Logs<R>,
+}
+
+impl<R: Files + Wait + Drop> Drop for DaemonShelf<R> {
+    fn drop(self) {
+        let Self {
+            rt: _,
+            faults: _,
+            logs: _,
+        } = self;
+    }
 }
 
 impl<R: Files + AllocGlobal + Clock + Wait + Copy> DaemonShelf<R> {

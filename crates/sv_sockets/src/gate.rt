@@ -103,10 +103,15 @@ pub struct Errand<J: Drop> {
 
 /// Both ends of the way to the threads that are made at the start, for the links that come when no further thread can be
 /// made.
-#[derive(Drop)]
 pub struct SpareThreads<J: Drop> {
     to: Sender<Errand<J>>,
     from: Receiver<Errand<J>>,
+}
+
+impl<J: Drop> Drop for SpareThreads<J> {
+    fn drop(self) {
+        let Self { to: _, from: _ } = self;
+    }
 }
 
 impl<J: Drop> SpareThreads<J> {

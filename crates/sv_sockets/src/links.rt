@@ -157,13 +157,23 @@ impl Places {
 
 /// The links of a daemon that are open, at most 64 of them, and 60 of one side. Who accepts them takes a place for each; a
 /// link gives its place back when it is dropped.
-#[derive(Drop)]
 pub struct LinkTable {
     alloc: Global,
     begun: Instant,
     places: Arc<Mutex<Places>>,
     /// How many links wait for a thread that was made at the start, or have one.
     short: Arc<AtomicU64>,
+}
+
+impl Drop for LinkTable {
+    fn drop(self) {
+        let Self {
+            alloc: _,
+            begun: _,
+            places: _,
+            short: _,
+        } = self;
+    }
 }
 
 impl LinkTable {
@@ -289,11 +299,20 @@ impl LinkTable {
 }
 
 /// The place of one link.
-#[derive(Drop)]
 pub(crate) struct Seat {
     number: u64,
     mark: Arc<Mark>,
     table: LinkTable,
+}
+
+impl Drop for Seat {
+    fn drop(self) {
+        let Self {
+            number: _,
+            mark: _,
+            table: _,
+        } = self;
+    }
 }
 
 impl Seat {

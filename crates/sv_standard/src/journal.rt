@@ -13,12 +13,22 @@ const NO_ROOM: &str = "journal: its reader takes too little; it ends here, and t
 
 /// A sink that never fails and never waits, over the buffered side of a stream. Where a piece isn't taken the journal is
 /// over: that is told once, and what comes later is passed over. It tells nothing of what was written.
-#[derive(Drop)]
 pub struct JournalSink<R> {
     alloc: Global,
     outlet: Option<Outlet<R>>,
     teller: Teller<R>,
     faults: u64,
+}
+
+impl<R: Drop> Drop for JournalSink<R> {
+    fn drop(self) {
+        let Self {
+            alloc: _,
+            outlet: _,
+            teller: _,
+            faults: _,
+        } = self;
+    }
 }
 
 impl<R: Wait + Copy> JournalSink<R> {

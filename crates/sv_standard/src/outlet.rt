@@ -29,7 +29,6 @@ struct Shared {
 
 /// The giving side of a stream. Giving never waits: the pieces are held until the thread of the other side has written
 /// them, so many bytes at most.
-#[derive(Drop)]
 pub struct Outlet<R> {
     rt: R,
     to: Sender<Vec<u8>>,
@@ -37,12 +36,32 @@ pub struct Outlet<R> {
     most: u64,
 }
 
+impl<R: Drop> Drop for Outlet<R> {
+    fn drop(self) {
+        let Self {
+            rt: _,
+            to: _,
+            shared: _,
+            most: _,
+        } = self;
+    }
+}
+
 /// The writing side of a stream, for a thread that calls `pour`.
-#[derive(Drop)]
 pub struct OutletEnd {
     from: Receiver<Vec<u8>>,
     shared: Arc<Shared>,
     after: AfterFailure,
+}
+
+impl Drop for OutletEnd {
+    fn drop(self) {
+        let Self {
+            from: _,
+            shared: _,
+            after: _,
+        } = self;
+    }
 }
 
 impl<R: Wait + Copy> Outlet<R> {

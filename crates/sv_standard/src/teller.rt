@@ -5,9 +5,14 @@ use std::alloc::{AllocError, Global};
 use std::sync::Wait;
 
 /// Tells on standard error, a line each. It never waits; a line that standard error has no room for is lost.
-#[derive(Drop)]
 pub struct Teller<R> {
     outlet: Outlet<R>,
+}
+
+impl<R: Drop> Drop for Teller<R> {
+    fn drop(self) {
+        let Self { outlet: _ } = self;
+    }
 }
 
 impl<R: Wait + Copy> Teller<R> {
