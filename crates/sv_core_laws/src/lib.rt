@@ -1,5 +1,5 @@
-//! Laws of the machine over all lists of inputs, and journals that were worked out by hand. They speak of the definitions of
-//! `sv_core`, which its machine keeps.
+//! Laws of the machine over all lists of inputs, and of the bodies of its events. They speak of the definitions of `sv_core`, which its
+//! machine keeps.
 #![tactic(auto)]
 
 pub mod bodies;
@@ -56,7 +56,7 @@ pub fn each_event_is_accounted_for(config: &Config)
 
 /// Whatever the machine is told, its orders about files are those of pieces that were logged, each to its log, and of files that
 /// were cleared for a client or weren't there, one after the other, where the first known sizes are those that were told, and 0
-/// for each further log file of the configuration. `sv_logs::files` says what these make of the files.
+/// for each further log file of the configuration. `sv_logs::known` says what these make of the files.
 pub fn each_log_has_a_history()
     ensures { (config : Config) (sizes : List (List ℕ × ℕ)) (host : Host) (inputs : List Input) →
         LogsHaveAHistory config sizes (after (opening config sizes host) inputs)

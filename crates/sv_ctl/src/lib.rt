@@ -1,5 +1,5 @@
 //! The client (the manual's chapter on supervisorctl): what its words ask of the daemon's server, over a dial, and what it
-//! prints of the answers.
+//! prints of the answers; its options, one question over a link, and the conversation line by line.
 #![tactic(auto)]
 
 pub mod ask;

@@ -1,5 +1,5 @@
 //! A generated run of the machine: its inputs are drawn one after the other, each spawn is answered, and the orders are
-//! counted.
+//! counted; and the numbers that it draws.
 #![tactic(auto)]
 
 mod begin;

@@ -1,4 +1,4 @@
-//! The tests of `sv_child`, `sv_groups`, `sv_children`, `sv_timers`, `sv_events`, `sv_pool`, `sv_pool::pools`, `sv_logs::dates`, `sv_logs`, `sv_logs::files`,
+//! The tests of `sv_child`, `sv_groups`, `sv_children`, `sv_timers`, `sv_events`, `sv_pool`, `sv_pool::pools`, `sv_logs::dates`, `sv_logs`, `sv_logs::known`,
 //! `sv_children::edge_facts`, `sv_children::lines` and `sv_generated::draw`, worked by hand: the parts of which the machine is made. A crate of their own, so that
 //! these are proved once.
 #![tactic(auto)]

@@ -1,5 +1,5 @@
-//! The tests of `sv_parts::runs` and `sv_parts::runs`, and of `sv_parts::links` and `sv_parts::links`: runs over a spawner and a gate in memory, and
-//! links over such a gate, worked by hand. A crate of their own, so that these are proved once.
+//! The tests of `sv_parts::runs` and of `sv_parts::links`: runs over a spawner and a gate in memory, and links over such a gate, worked by
+//! hand, from their start to their end. A crate of their own, so that these are proved once.
 #![tactic(auto)]
 
 #[cfg(test)]
