@@ -2,7 +2,7 @@
 
 use crate::addresses::{Addresses, Opening, addresses_of};
 use crate::greeting::greet;
-use crate::rules::{log_rules, program_rules, rules_of_socket};
+use crate::rules::{log_rules, program_rules, rules_of_socket, times_of};
 use crate::streams::Streams;
 use crate::told::Told;
 use crate::unbegun::Unbegun;
@@ -13,6 +13,7 @@ use std::net::Net;
 use std::process::Processes;
 use std::rt::{Clock, Files, Runtime};
 use std::sync::Wait;
+use sv_alarms::{AlarmedSpawner, Alarms};
 use sv_disk::DaemonShelf;
 use sv_processes::{Living, OsSpawner};
 use sv_sockets::{LinkTable, LinksAtWork, SpareThreads};
@@ -41,10 +42,14 @@ impl<R: Net + Files + Wait + Copy + Drop> Clients<R> {
     }
 }
 
-/// What starts programs, and those that it started.
+/// What starts the daemon's programs.
+pub type DaemonSpawner<R> = AlarmedSpawner<R, OsSpawner<R>>;
+
+/// What starts programs, those that it started, and when there is a reason to look at them.
 pub struct Programs<R: Processes + Wait + Drop> {
-    pub spawner: OsSpawner<R>,
+    pub spawner: DaemonSpawner<R>,
     pub living: Living,
+    pub alarms: Alarms<R>,
 }
 
 impl<R: Processes + Wait + Drop> Drop for Programs<R> {
@@ -52,15 +57,20 @@ impl<R: Processes + Wait + Drop> Drop for Programs<R> {
         let Self {
             spawner: _,
             living: _,
+            alarms: _,
         } = self;
     }
 }
 
 impl<R: Processes + Wait + Drop> Programs<R> {
     /// Each of its parts.
-    pub fn into_parts(self) -> (OsSpawner<R>, Living) {
-        let Self { spawner, living } = self;
-        (spawner, living)
+    pub fn into_parts(self) -> (DaemonSpawner<R>, Living, Alarms<R>) {
+        let Self {
+            spawner,
+            living,
+            alarms,
+        } = self;
+        (spawner, living, alarms)
     }
 }
 
@@ -211,7 +221,14 @@ fn programs_of<R: Runtime + Files + Net + Processes + Wait + Copy + Drop>(
         living.another()?,
         Some(streams.teller.another()?),
     )?;
-    Ok(Programs { spawner, living })
+    let Ok((bell, alarms)) = Alarms::new(rt, alloc, times_of(alloc, told)?) else {
+        return Err(AllocError);
+    };
+    Ok(Programs {
+        spawner: AlarmedSpawner::new(spawner, bell),
+        living,
+        alarms,
+    })
 }
 
 /// The shelf of the logs that the configuration names.

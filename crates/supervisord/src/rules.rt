@@ -7,6 +7,7 @@ use std::alloc::{AllocError, Global};
 use std::collections::BTreeSet;
 use std::rt::Files;
 use std::sync::Wait;
+use sv_alarms::Times;
 use sv_base::{LogSpec, Spec, Text};
 use sv_disk::LogRules;
 use sv_processes::ProgramRules;
@@ -43,6 +44,23 @@ fn joined_programs(alloc: Global, told: &Told) -> Result<Vec<(Text, Text)>, Allo
         }
     }
     Ok(joined)
+}
+
+/// The times of the programs.
+pub fn times_of(alloc: Global, told: &Told) -> Result<Vec<Times>, AllocError> {
+    let mut times = Vec::new(alloc);
+    for group in told.config.groups.as_slice() {
+        for spec in group.members.as_slice() {
+            times.push(Times {
+                group: spec.group.clone()?,
+                name: spec.name.clone()?,
+                start: u64::from(spec.startsecs.get()) * 1_000,
+                stop: u64::from(spec.stopwaitsecs.get()) * 1_000,
+                pid: None,
+            })?;
+        }
+    }
+    Ok(times)
 }
 
 /// The rules of the logs, over these streams.

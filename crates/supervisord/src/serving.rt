@@ -2,6 +2,7 @@
 
 use crate::addresses::remove;
 use crate::ending::end_programs;
+use crate::parts::DaemonSpawner;
 use crate::preparing::{Given, Prepared};
 use crate::streams::Streams;
 use std::alloc::{AllocError, Global};
@@ -10,6 +11,7 @@ use std::net::Net;
 use std::process::Processes;
 use std::rt::{Clock as Time, Files, Runtime};
 use std::sync::Wait;
+use sv_alarms::AlarmClock;
 use sv_disk::OsShelf;
 use sv_jobs::{AnyJob, NoBoard};
 use sv_os::OsClock;
@@ -17,7 +19,6 @@ use sv_out::Shelf;
 use sv_out::sink::Sink;
 use sv_out::source::Source;
 use sv_outside::{Clock, Gate, Listen, Spawner, World};
-use sv_processes::OsSpawner;
 use sv_sockets::{LinksAtWork, OsListen, OwnSocket};
 use sv_standard::Console;
 use sv_supervise::supervise;
@@ -29,15 +30,18 @@ const LAST_REPLIES: u32 = 500;
 /// The descriptor of standard input.
 const STANDARD_INPUT: i32 = 0;
 
+/// The clock of the daemon, and of its ticker.
+pub type DaemonClock<R> = AlarmClock<R, OsClock<R>>;
+
 /// Any job of the daemon, whose console is such a reader. A job is moved to its thread by value, so the reader has no buffer in itself.
 pub type DaemonJob<R, I> = AnyJob<
-    <OsSpawner<R> as Spawner>::Stdin,
-    <OsSpawner<R> as Spawner>::Stdout,
-    <OsSpawner<R> as Spawner>::Stderr,
-    <OsSpawner<R> as Spawner>::Waiter,
+    <DaemonSpawner<R> as Spawner>::Stdin,
+    <DaemonSpawner<R> as Spawner>::Stdout,
+    <DaemonSpawner<R> as Spawner>::Stderr,
+    <DaemonSpawner<R> as Spawner>::Waiter,
     OsListen<R>,
     Console<R, I>,
-    OsClock<R>,
+    DaemonClock<R>,
     NoBoard,
 >;
 
@@ -86,7 +90,7 @@ pub fn run<
     let (clients, programs, shelf, mut journal) = parts.into_parts();
     let (addresses, work) = clients.into_parts();
     let (inet, unix, socket) = addresses.into_parts();
-    let (spawner, living) = programs.into_parts();
+    let (spawner, living, alarms) = programs.into_parts();
     let mut daemon = Daemon {
         rt,
         given,
@@ -94,7 +98,8 @@ pub fn run<
         out,
     };
     let console = Console::new(rt, console, STANDARD_INPUT);
-    let (ticker, clock) = (OsClock::new(rt), OsClock::new(rt));
+    let ticker = AlarmClock::new(OsClock::new(rt), Some(alarms));
+    let clock = AlarmClock::new(OsClock::new(rt), None);
     let status = over_threads(
         rt,
         alloc,
