@@ -62,7 +62,7 @@ fn main(rt: HostRuntime) -> ExitCode {
         thread::spawn(&rt, move || receive_and_work(&rt, &from)).is_ok()
     };
     let gate = OsGate::new(rt, rt.alloc(), work, links, teller, spare, starts);
-    ExitCode::from(run(rt, rt.stdin(), &mut errors, &given, prepared, gate))
+    ExitCode::from(run(rt, rt.stdin(), errors, given, prepared, gate))
 }
 
 /// What the process of these numbers is given by the words after the program's name.

@@ -42,12 +42,9 @@ impl<R: Net + Files + Wait + Copy + Drop> Clients<R> {
     }
 }
 
-/// What starts the daemon's programs.
-pub type DaemonSpawner<R> = AlarmedSpawner<R, OsSpawner<R>>;
-
 /// What starts programs, those that it started, and when there is a reason to look at them.
 pub struct Programs<R: Processes + Wait + Drop> {
-    pub spawner: DaemonSpawner<R>,
+    pub spawner: AlarmedSpawner<R>,
     pub living: Living,
     pub alarms: Alarms<R>,
 }
@@ -64,7 +61,7 @@ impl<R: Processes + Wait + Drop> Drop for Programs<R> {
 
 impl<R: Processes + Wait + Drop> Programs<R> {
     /// Each of its parts.
-    pub fn into_parts(self) -> (DaemonSpawner<R>, Living, Alarms<R>) {
+    pub fn into_parts(self) -> (AlarmedSpawner<R>, Living, Alarms<R>) {
         let Self {
             spawner,
             living,

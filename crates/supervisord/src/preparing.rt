@@ -40,6 +40,14 @@ impl Drop for Given {
     }
 }
 
+impl Given {
+    /// Its words, and the machine.
+    pub fn into_parts(self) -> (Vec<Text>, Host) {
+        let Self { words, host } = self;
+        (words, host)
+    }
+}
+
 /// A daemon that can be begun, but for its gate.
 pub struct Prepared<R: Net + Files + Processes + Wait + Copy + Drop> {
     pub streams: Streams<R>,

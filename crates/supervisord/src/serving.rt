@@ -2,7 +2,6 @@
 
 use crate::addresses::remove;
 use crate::ending::end_programs;
-use crate::parts::DaemonSpawner;
 use crate::preparing::{Given, Prepared};
 use crate::streams::Streams;
 use std::alloc::{AllocError, Global};
@@ -11,7 +10,8 @@ use std::net::Net;
 use std::process::Processes;
 use std::rt::{Clock as Time, Files, Runtime};
 use std::sync::Wait;
-use sv_alarms::AlarmClock;
+use sv_alarms::{AlarmClock, AlarmedSpawner};
+use sv_base::{Host, Text};
 use sv_disk::OsShelf;
 use sv_jobs::{AnyJob, NoBoard};
 use sv_os::OsClock;
@@ -20,7 +20,7 @@ use sv_out::sink::Sink;
 use sv_out::source::Source;
 use sv_outside::{Clock, Gate, Listen, Spawner, World};
 use sv_sockets::{LinksAtWork, OsListen, OwnSocket};
-use sv_standard::Console;
+use sv_standard::{Console, JournalSink};
 use sv_supervise::supervise;
 use sv_threads::ThreadWorld;
 
@@ -30,18 +30,15 @@ const LAST_REPLIES: u32 = 500;
 /// The descriptor of standard input.
 const STANDARD_INPUT: i32 = 0;
 
-/// The clock of the daemon, and of its ticker.
-pub type DaemonClock<R> = AlarmClock<R, OsClock<R>>;
-
 /// Any job of the daemon, whose console is such a reader. A job is moved to its thread by value, so the reader has no buffer in itself.
 pub type DaemonJob<R, I> = AnyJob<
-    <DaemonSpawner<R> as Spawner>::Stdin,
-    <DaemonSpawner<R> as Spawner>::Stdout,
-    <DaemonSpawner<R> as Spawner>::Stderr,
-    <DaemonSpawner<R> as Spawner>::Waiter,
+    <AlarmedSpawner<R> as Spawner>::Stdin,
+    <AlarmedSpawner<R> as Spawner>::Stdout,
+    <AlarmedSpawner<R> as Spawner>::Stderr,
+    <AlarmedSpawner<R> as Spawner>::Waiter,
     OsListen<R>,
     Console<R, I>,
-    DaemonClock<R>,
+    AlarmClock<R>,
     NoBoard,
 >;
 
@@ -52,25 +49,36 @@ pub trait Course {
 }
 
 /// The daemon's own call, with all that it is given but the world.
-#[derive(Drop)]
-struct Daemon<'a, R, J, O> {
+struct Daemon<R, O> {
     rt: R,
-    given: &'a Given,
-    journal: &'a mut J,
-    out: &'a mut O,
+    words: Vec<Text>,
+    host: Host,
+    journal: JournalSink<R>,
+    out: O,
 }
 
-impl<R: Runtime + AllocGlobal + Wait + Copy + Drop, J: Sink, O: Sink> Course
-    for Daemon<'_, R, J, O> {
+impl<R: Drop, O: Drop> Drop for Daemon<R, O> {
+    fn drop(self) {
+        let Self {
+            rt: _,
+            words: _,
+            host: _,
+            journal: _,
+            out: _,
+        } = self;
+    }
+}
+
+impl<R: Runtime + AllocGlobal + Wait + Copy + Drop, O: Sink> Course for Daemon<R, O> {
     fn over<W: World>(&mut self, world: &mut W) -> u8 {
         supervise(
             self.rt.alloc(),
-            self.given.words.as_slice(),
-            &self.given.host,
+            self.words.as_slice(),
+            &self.host,
             &mut OsShelf::new(self.rt),
             world,
-            self.journal,
-            self.out,
+            &mut self.journal,
+            &mut self.out,
         )
     }
 }
@@ -80,21 +88,23 @@ impl<R: Runtime + AllocGlobal + Wait + Copy + Drop, J: Sink, O: Sink> Course
 pub fn run<
     R: Runtime + Net + Processes + AllocGlobal + Wait + Copy + Drop,
     I: Read + Drop,
-    O: Sink,
+    O: Sink + Drop,
     G: Gate<DaemonJob<R, I>> + Drop,
->(rt: R, console: I, out: &mut O, given: &Given, prepared: Prepared<R>, gate: G) -> u8
+>(rt: R, console: I, out: O, given: Given, prepared: Prepared<R>, gate: G) -> u8
     requires { G.ready gate }
 {
     let alloc = rt.alloc();
     let (streams, parts) = prepared.into_parts();
-    let (clients, programs, shelf, mut journal) = parts.into_parts();
+    let (clients, programs, shelf, journal) = parts.into_parts();
     let (addresses, work) = clients.into_parts();
     let (inet, unix, socket) = addresses.into_parts();
     let (spawner, living, alarms) = programs.into_parts();
+    let (words, host) = given.into_parts();
     let mut daemon = Daemon {
         rt,
-        given,
-        journal: &mut journal,
+        words,
+        host,
+        journal,
         out,
     };
     let console = Console::new(rt, console, STANDARD_INPUT);

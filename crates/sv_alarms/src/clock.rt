@@ -5,15 +5,16 @@ use crate::alarms::Alarms;
 use std::rt;
 use std::sync::Wait;
 use sv_base::Moment;
+use sv_os::OsClock;
 use sv_outside::Clock;
 
-/// Another clock, whose pauses end early where there is a reason to look, if it has alarms. It tells nothing of its pauses.
-pub struct AlarmClock<R, C> {
-    clock: C,
+/// The machine's clock, whose pauses end early where there is a reason to look, if it has alarms. It tells nothing.
+pub struct AlarmClock<R> {
+    clock: OsClock<R>,
     alarms: Option<Alarms<R>>,
 }
 
-impl<R: Drop, C: Drop> Drop for AlarmClock<R, C> {
+impl<R: Drop> Drop for AlarmClock<R> {
     fn drop(self) {
         let Self {
             clock: _,
@@ -22,17 +23,17 @@ impl<R: Drop, C: Drop> Drop for AlarmClock<R, C> {
     }
 }
 
-impl<R, C: Clock> AlarmClock<R, C> {
+impl<R> AlarmClock<R> {
     /// The moments of this clock, with pauses that end by these alarms, where there are any.
-    pub fn new(clock: C, alarms: Option<Alarms<R>>) -> AlarmClock<R, C>
-        ensures { C.next result.clock ≡ C.next clock }
+    pub fn new(clock: OsClock<R>, alarms: Option<Alarms<R>>) -> AlarmClock<R>
+        ensures { result.clock ≡ clock }
     {
         AlarmClock { clock, alarms }
     }
 }
 
-impl<R: Wait + rt::Clock + Copy, C: Clock> Clock for AlarmClock<R, C> {
-    ghost next = { λ c. C.next c.clock };
+impl<R: Wait + rt::Clock + Copy> Clock for AlarmClock<R> {
+    ghost next = { λ _. None };
 
     ghost paused = { λ _. None };
 

@@ -1,20 +1,25 @@
 //! A spawner that rings.
-ghost use Rattle.std.specs.Prelude.{◌≡◌};
+ghost use Rattle.std.specs.Prelude.{◌≡◌, None};
 
 use crate::alarms::Bell;
 use std::alloc::Global;
+use std::net::Net;
+use std::process::{ChildStdin, Processes};
+use std::rt::Files;
 use std::sync::Wait;
 use sv_base::{Pid, Signal};
+use sv_os::WriteSink;
 use sv_out::order::SpawnOrder;
 use sv_outside::{KillFault, SpawnFault, Spawner, Started};
+use sv_processes::{OsSpawner, OsWaiter, PipeSource};
 
-/// Another spawner, each of whose starts and signals rings. What it was asked for and its faults are those of the other.
-pub struct AlarmedSpawner<R, P> {
-    spawner: P,
+/// The machine's spawner, each of whose starts and signals rings. It tells nothing, and its faults are those of that spawner.
+pub struct AlarmedSpawner<R: Processes + Wait + Drop> {
+    spawner: OsSpawner<R>,
     bell: Bell<R>,
 }
 
-impl<R: Drop, P: Drop> Drop for AlarmedSpawner<R, P> {
+impl<R: Processes + Wait + Drop> Drop for AlarmedSpawner<R> {
     fn drop(self) {
         let Self {
             spawner: _,
@@ -23,28 +28,27 @@ impl<R: Drop, P: Drop> Drop for AlarmedSpawner<R, P> {
     }
 }
 
-impl<R, P: Spawner> AlarmedSpawner<R, P> {
+impl<R: Processes + Wait + Drop> AlarmedSpawner<R> {
     /// This spawner, which rings by this bell.
-    pub fn new(spawner: P, bell: Bell<R>) -> AlarmedSpawner<R, P>
-        ensures asked { P.asked result.spawner ≡ P.asked spawner }
-        ensures faults { P.faults result.spawner ≡ P.faults spawner }
+    pub fn new(spawner: OsSpawner<R>, bell: Bell<R>) -> AlarmedSpawner<R>
+        ensures { result.spawner ≡ spawner }
     {
         AlarmedSpawner { spawner, bell }
     }
 }
 
-impl<R: Wait, P: Spawner> Spawner for AlarmedSpawner<R, P> {
-    type Stdin = P::Stdin;
+impl<R: Processes + Files + Net + Wait + Copy + Drop> Spawner for AlarmedSpawner<R> {
+    type Stdin = WriteSink<ChildStdin>;
 
-    type Stdout = P::Stdout;
+    type Stdout = PipeSource;
 
-    type Stderr = P::Stderr;
+    type Stderr = PipeSource;
 
-    type Waiter = P::Waiter;
+    type Waiter = OsWaiter<R>;
 
-    ghost asked = { λ s. P.asked s.spawner };
+    ghost asked = { λ _. None };
 
-    ghost faults = { λ s. P.faults s.spawner };
+    ghost faults = { λ s. ⟦<OsSpawner<R> as Spawner>⟧.faults s.spawner };
 
     fn spawn(
         &mut self,
