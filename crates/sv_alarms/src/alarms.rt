@@ -130,15 +130,18 @@ impl<R: Wait + Clock + Copy> Alarms<R> {
                 Some(&due) => due.min(end),
                 None => end,
             };
-            self.listen(now, until.saturating_sub(now));
+            self.listen(until.saturating_sub(now));
         }
     }
 
-    /// Waits so many milliseconds at most for what is rung.
-    fn listen(&mut self, now: u64, milliseconds: u64) {
+    /// Waits so many milliseconds at most for what is rung, which counts from the moment at which it comes.
+    fn listen(&mut self, milliseconds: u64) {
         let time = Duration::from_millis(milliseconds);
         match self.from.recv_timeout(&self.rt, time) {
             Ok(after) => {
+                let Ok(now) = self.now() else {
+                    return;
+                };
                 self.add(now.saturating_add(STEP));
                 self.add(now.saturating_add(after).saturating_add(STEP));
             }
