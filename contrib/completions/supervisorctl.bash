@@ -65,7 +65,10 @@ _supervisorctl_offer_arguments() {
         clear:*)
             _supervisorctl_offer all
             _supervisorctl_offer_names ;;
-        pid:1 | tail:1) _supervisorctl_offer_names ;;
+        pid:1) _supervisorctl_offer_names ;;
+        tail:1)
+            _supervisorctl_offer -f
+            _supervisorctl_offer_names ;;
         tail:*)
             if [[ $2 == -* && $# == 2 ]]; then
                 _supervisorctl_offer_names

@@ -5,9 +5,10 @@ use std::alloc::AllocError;
 use std::process::ExitCode;
 use std::{env, io, process};
 use sv_base::{Host, Text};
-use sv_ctl::{Options, control, options_of, parted};
+use sv_ctl::{Options, options_of, parted};
 use sv_disk::OsShelf;
-use sv_os::{ReadSource, WriteSink, host_of, words_of, words_untold};
+use sv_follow::command;
+use sv_os::{OsClock, ReadSource, WriteSink, host_of, words_of, words_untold};
 use sv_sockets::OsDial;
 
 /// The status where memory was refused.
@@ -27,14 +28,16 @@ fn main(rt: HostRuntime) -> ExitCode {
     let mut shelf = OsShelf::new(rt);
     let mut dial = OsDial::new(&rt);
     let mut input = ReadSource::new(rt.reader());
+    let mut clock = OsClock::new(rt);
     let mut out = WriteSink::new(io::writer(&rt));
-    ExitCode::from(control(
+    ExitCode::from(command(
         rt.alloc(),
         words.as_slice(),
         &host,
         &mut shelf,
         &mut dial,
         &mut input,
+        &mut clock,
         &mut out,
     ))
 }

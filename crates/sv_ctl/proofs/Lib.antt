@@ -1,5 +1,5 @@
 mod AskLemmas
 mod Values
-mod Answering
+pub mod Answering
 mod Free
-mod TalkLemmas
+pub mod TalkLemmas

@@ -96,8 +96,9 @@ fn converse<D: Dial, R: Source, K: Sink>(
     run_command(alloc, server, command, dial, out)
 }
 
-/// Says why there is no server to ask.
-fn refuse<K: Sink>(alloc: Global, refusal: &Refusal, out: &mut K) -> Course
+/// Says why there is no server to ask, in one line; the status is 2, or 5 where the shelf failed. `NoMemory` where memory was
+/// refused, `Unprinted` where the output failed.
+pub fn refuse<K: Sink>(alloc: Global, refusal: &Refusal, out: &mut K) -> Course
     ensures refuses { Refuses refusal.now (K.written out.old) (K.written out.new) result }
     ensures lost { IsLost result → IsUnreadable refusal.now }
     ensures unprinted { IsUnprinted result → Rose (K.faults out.old) (K.faults out.new) }

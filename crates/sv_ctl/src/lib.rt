@@ -10,7 +10,8 @@ mod serving;
 mod span;
 pub mod talk;
 
-pub use controlling::control;
+pub use controlling::{control, refuse};
 pub use options::{Options, options_of};
 pub use refusal::Refusal;
+pub use serving::server_of;
 pub use span::parted;

@@ -16,9 +16,10 @@ use sv_base::{ClientSpec, Host, Text};
 use sv_load::{LoadFault, Loaded, load};
 use sv_out::Shelf;
 
-/// The server that the words of the options name, with the configuration that they name.
+/// The server that the words of the options name, with the configuration that they name. The refusals are tried in this
+/// order: the words, the file of `-c`, the URL. `Unreadable` comes only where the shelf's count of faults rose.
 #[tactic(auto, using(crate::proofs::Free::freely_from, crate::proofs::Free::freely))]
-pub(crate) fn server_of<S: Shelf>(
+pub fn server_of<S: Shelf>(
     alloc: Global,
     words: &[Text],
     host: &Host,

@@ -13,4 +13,4 @@ pub use course::Course;
 pub use printing::say;
 pub use server::Server;
 pub use talking::talk;
-pub use told::Told;
+pub use told::{Told, bad_reply, told_of};

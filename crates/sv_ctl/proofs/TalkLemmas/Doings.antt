@@ -86,7 +86,7 @@ one_made : (server : Server) (call : CallTree) (answer : Answer) (exchanges : Li
     → IsMade server call answer exchanges → AreMade server (call ∷ []) (answer ∷ []) exchanges
 one_made server call answer exchanges made = (exchanges, [], made, refl, sym (append-nil exchanges))
 
-adds_one : (server : Server) (before : List Exchange) (after : Option (List Exchange)) (call : CallTree) (answer : Answer)
+pub adds_one : (server : Server) (before : List Exchange) (after : Option (List Exchange)) (call : CallTree) (answer : Answer)
     (exchanges : List Exchange) → after ≡ Some (before ++ exchanges) → IsMade server call answer exchanges
     → Adds server before after (call ∷ []) (answer ∷ [])
 adds_one server before after call answer exchanges told made =
@@ -204,7 +204,7 @@ breaks_at server before after old new talk left goes = record {
   same = goes.same;
 }
 
-fails_at : (server : Server) (before after : Option (List Exchange)) (old new : Option (List ℕ)) (talk left : Talk)
+pub fails_at : (server : Server) (before after : Option (List Exchange)) (old new : Option (List ℕ)) (talk left : Talk)
     → Goes server before after old new talk left → Fails server before after old new talk
 unfolding breaks_at
 fails_at server before after old new talk left goes = record {
@@ -278,7 +278,7 @@ call_told server before after written call answer told next exchanges kept made 
     (asked server (Some before) after written call answer told next
     (λ some is. adds_one server some after call answer exchanges (kept ∙ ap (λ l. option_map (λ b. b ++ exchanges) l) is) made))
 
-call_untold : (server : Server) (before : List Exchange) (after : Option (List Exchange)) (written : Option (List ℕ))
+pub call_untold : (server : Server) (before : List Exchange) (after : Option (List Exchange)) (written : Option (List ℕ))
     (talk : Talk) → after ≡ Some before → Fails server (Some before) after written written talk
 call_untold server before after written talk same =
     subst (λ (a : Option (List Exchange)). Fails server (Some before) a written written talk) (sym same)
@@ -306,7 +306,7 @@ call_failed server before after written call (Err OutOfMemory) told next (inl sa
 call_failed server before after written call (Err OutOfMemory) told next (inr kept) =
     call_told server before after written call (Err OutOfMemory) told next (kept.0 ∷ []) kept.1 (kept.0, refl, kept.2)
 
-untold_failed : (server : Server) (after : Option (List Exchange)) (written : Option (List ℕ)) (talk : Talk)
+pub untold_failed : (server : Server) (after : Option (List Exchange)) (written : Option (List ℕ)) (talk : Talk)
     → Fails server None after written written talk
 untold_failed server after written talk = record {
   breaks = breaks_at server None None written written talk talk (nothing_done server None written talk);

@@ -11,7 +11,7 @@ pub enum Course {
     On(Status),
     /// A reply ended its command.
     Broken,
-    /// A line ended it; the status so far.
+    /// It is over, by a line of the input or by a fault of a log that is followed; the status so far.
     Quit(Status),
     /// There is no connection, or a link, the input or the shelf failed.
     Lost,

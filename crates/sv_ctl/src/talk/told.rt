@@ -23,8 +23,9 @@ pub struct Told {
     pub course: Course,
 }
 
-/// What is said of the answer to a call of the server with this URL, where the command has this status so far.
-pub(crate) fn told_of(
+/// What is said of the answer to a call of the server with this URL, where the command has this status so far. Fails where
+/// memory is refused, or was in the call.
+pub fn told_of(
     alloc: Global,
     url: &str,
     line: &Line,
@@ -73,8 +74,8 @@ fn with_url(alloc: Global, url: &str, words: &[u8]) -> Result<Told, AllocError>
     })
 }
 
-/// The line of a reply that can't be read.
-fn bad_reply(alloc: Global) -> Result<Told, AllocError>
+/// The line of a reply that can't be read, which ends its command.
+pub fn bad_reply(alloc: Global) -> Result<Told, AllocError>
     ensures { IfOk result (λ told. told ≡ bad_reply) }
 {
     Ok(Told {

@@ -1,0 +1,5 @@
+mod CommandLemmas
+mod LawLemmas
+mod Resting
+mod TailLemmas
+mod Watching

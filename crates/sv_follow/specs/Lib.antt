@@ -1,0 +1,12 @@
+pub mod Follower
+pub mod Printed
+pub mod Tails
+pub mod Polls
+pub mod Following
+pub mod Rests
+pub mod Shows
+pub mod LogWords
+pub mod Commands
+pub mod Seen
+pub mod Whole
+pub mod Replies
