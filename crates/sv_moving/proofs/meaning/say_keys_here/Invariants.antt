@@ -1,0 +1,10 @@
+use Rattle.std.proofs.Common.{◌≡◌, ◌++◌, length}
+use Rattle.std.specs.Prelude.{map}
+use Rattle.sv_moving.specs.Differences.{key_here}
+use Rattle.sv_moving.proofs.meaning.say_keys_here.Given as goal
+
+abbrev pub invariant-loop-left : goal.invariant-loop-left
+invariant-loop-left l = l.meanings ++ map (key_here l.section) l.left ≡ l.initial.meanings ++ map (key_here l.section) l.keys
+
+abbrev pub decreases-loop-left : goal.decreases-loop-left
+decreases-loop-left l = length l.left

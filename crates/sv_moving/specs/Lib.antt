@@ -1,0 +1,10 @@
+pub mod Comments
+pub mod Differences
+pub mod Keys
+pub mod Kinds
+pub mod Lines
+pub mod Reading
+pub mod Rows
+pub mod Sections
+pub mod Spaces
+pub mod There
